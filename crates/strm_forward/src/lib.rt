@@ -7,6 +7,3 @@ mod service;
 
 pub use header::{HeaderFault, Outcome, age_header, hop};
 pub use service::{forward, may_go};
-
-#[cfg(test)]
-mod tests;

@@ -14,6 +14,3 @@ pub use module::Module;
 pub use passing::Passing;
 pub use sides::Sides;
 pub use sides_fault::SidesFault;
-
-#[cfg(test)]
-mod tests;

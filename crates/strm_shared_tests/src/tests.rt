@@ -1,6 +1,7 @@
 ghost use Rattle.strm_pool.specs.Registers.{CarryId};
 ghost use Rattle.strm_shared.specs.Starts.{IsNameOf};
 
+mod batches;
 mod calls;
 mod crews;
 mod gates;
@@ -136,7 +137,7 @@ fn take_last<N: Name>(rt: &impl Abort, desks: &mut Desks<N>) -> Desk<N> {
 // Takes the last desk, which must have this number.
 fn last<N: Name>(rt: &impl Abort, desks: &mut Desks<N>, number: u8) -> Desk<N> {
     let desk = take_last(rt, desks);
-    assert_eq!(rt; desk.number(), number);
+    assert!(rt; desk.number() == number);
     desk
 }
 
@@ -174,10 +175,15 @@ fn gathered<N: Name>(rt: &impl Abort, gathering: Gathering<N>) -> Gathered<N> {
     }
 }
 
+// Ends the sharing of a pool; no desk may be missing.
+fn end<N: Name>(rt: &impl Abort, shared: Shared<N>, desks: Desks<N>) -> Gathered<N> {
+    gathered(rt, shared.gather(desks))
+}
+
 // Pool and trace after this number of desks came back, in order, each having seen this stamp; frees what the desks hold.
 fn drained<N: Name>(
     rt: &impl Abort,
-    gathering: Gathering<N>,
+    gathered: Gathered<N>,
     count: usize,
     stamp: u64,
 ) -> (Pool, TraceEntries) {
@@ -185,7 +191,7 @@ fn drained<N: Name>(
         mut pool,
         trace,
         mut desks,
-    } = gathered(rt, gathering);
+    } = gathered;
     assert!(rt; desks.len() == count);
     for place in 0..count {
         let number = count - 1 - place;
@@ -198,12 +204,13 @@ fn drained<N: Name>(
 }
 
 // The same pool, without a trace.
-fn emptied<N: Name>(rt: &impl Abort, gathering: Gathering<N>, count: usize, stamp: u64) -> Pool {
-    let (pool, trace) = drained(rt, gathering, count, stamp);
+fn emptied<N: Name>(rt: &impl Abort, gathered: Gathered<N>, count: usize, stamp: u64) -> Pool {
+    let (pool, trace) = drained(rt, gathered, count, stamp);
     assert!(rt; trace.items().is_empty());
     pool
 }
 
+// A message goes from one desk to the other over the queue, into each desk's own registers.
 #[test]
 fn two_desks_by_turns(rt: HostRuntime) {
     let (a, b) = (reg(&rt, b'a'), reg(&rt, b'b'));
@@ -217,22 +224,7 @@ fn two_desks_by_turns(rt: HostRuntime) {
         (0, Step::Serve(Call::Freemsg(a), Reply::Empty)),
         (1, Step::Serve(Call::Linkb(a, b), Reply::Done)),
     ];
-    turned::<Brand, _>(&rt, start(&rt, rt.alloc(), 7, 2, 0), &rows);
-}
-
-// A message goes from one desk to the other over the queue, into each desk's own registers. Gathered from last to first, the
-// desks come back in order.
-fn turned<N: Name, R: Wait + Abort>(rt: &R, start: Start, rows: &[(u8, Step)])
-    requires { IsNameOf N.Name start }
-{
-    let (shared, mut desks) = start.open::<N>();
-    take_steps(rt, &shared, &mut desks, rows);
-    let one = last(rt, &mut desks, 1);
-    let zero = last(rt, &mut desks, 0);
-    push(rt, &mut desks, one);
-    push(rt, &mut desks, zero);
-    let pool = emptied(rt, shared.gather(desks), 2, 8);
-    assert_census(rt, &pool, (8, 0, 0));
+    assert_ended(&rt, start(&rt, rt.alloc(), 7, 2, 0), &rows, 2, 8, (8, 0, 0));
 }
 
 // A desk sees by a look what the other was served, and not before. A desk that was served has seen it at once.
@@ -270,12 +262,23 @@ fn the_largest_pool(rt: HostRuntime) {
     assert_ended(&rt, start, &rows, 1, 1, (16_383, 0, 0));
 }
 
+// Loses a start.
+fn lose(_start: Start) {}
+
+// The pool came back as it was, and is lost.
+fn assert_unchanged(rt: &impl Abort, pool: Pool) {
+    assert_census(rt, &pool, (8, 0, 0));
+}
+
 // The fault of this setup, if any; the pool comes back unchanged then.
 fn fault_of(rt: &impl Abort, alloc: Global, setup: Setup) -> Option<NewFault> {
     match started(rt, alloc, eight(rt, alloc, 7), setup) {
-        Ok(_) => None,
+        Ok(start) => {
+            lose(start);
+            None
+        }
         Err((fault, pool)) => {
-            assert_census(rt, &pool, (8, 0, 0));
+            assert_unchanged(rt, pool);
             Some(fault)
         }
     }
@@ -283,24 +286,24 @@ fn fault_of(rt: &impl Abort, alloc: Global, setup: Setup) -> Option<NewFault> {
 
 #[test]
 fn setups_out_of_bounds(rt: HostRuntime) {
-    assert_eq!(rt; (MOST_STAMP, MOST_TRACE), (68_719_476_735, 1_048_576));
+    assert!(rt; MOST_STAMP == 68_719_476_735 && MOST_TRACE == 1_048_576);
     let rows = [
-        (setup(0, Trace::Off, 0), true),
-        (setup(1, Trace::Off, 0), false),
-        (setup(16, Trace::Off, MOST_STAMP), false),
-        (setup(17, Trace::Off, 0), true),
-        (setup(255, Trace::Off, MOST_STAMP), true),
-        (setup(1, Trace::Off, MOST_STAMP + 1), true),
-        (setup(1, Trace::Off, 1_099_511_627_774), true),
-        (setup(1, Trace::Keep(0), 0), true),
-        (setup(1, Trace::Keep(1), 0), false),
-        (setup(16, Trace::Keep(MOST_TRACE), MOST_STAMP), false),
-        (setup(1, Trace::Keep(MOST_TRACE + 1), 0), true),
-        (setup(1, Trace::Keep(u32::MAX), 0), true),
+        (0, Trace::Off, 0, true),
+        (1, Trace::Off, 0, false),
+        (16, Trace::Off, MOST_STAMP, false),
+        (17, Trace::Off, 0, true),
+        (255, Trace::Off, MOST_STAMP, true),
+        (1, Trace::Off, MOST_STAMP + 1, true),
+        (1, Trace::Off, 1_099_511_627_774, true),
+        (1, Trace::Keep(0), 0, true),
+        (1, Trace::Keep(1), 0, false),
+        (16, Trace::Keep(MOST_TRACE), MOST_STAMP, false),
+        (1, Trace::Keep(MOST_TRACE + 1), 0, true),
+        (1, Trace::Keep(u32::MAX), 0, true),
     ];
-    for (setup, bad) in rows {
-        let fault = bad.then_some(NewFault::BadShared);
-        assert_eq!(rt; fault_of(&rt, rt.alloc(), setup), fault);
+    for (desks, trace, first_stamp, bad) in rows {
+        let fault = fault_of(&rt, rt.alloc(), setup(desks, trace, first_stamp));
+        assert!(rt; fault == bad.then_some(NewFault::BadShared));
     }
 }
 
@@ -376,10 +379,27 @@ fn a_desk_is_missing(rt: HostRuntime) {
         (0, Step::Refuse(Call::Getq(0, a), Refusal::Worn)),
         (1, Step::Stand(MOST_STAMP - 4, 1)),
     ];
-    let pool = missing::<Brand, _>(&rt, loaded(&rt, rt.alloc()), &early, &late);
+    let pool = without_one(&rt, loaded(&rt, rt.alloc()), &early, &late);
     assert_census(&rt, &pool, (7, 1, 0));
-    let told = pool.queue_info(0);
-    assert!(rt; told.is_ok_and(|queue| queue.bytes == 3 && queue.enabled && !queue.noenable));
+    assert_put_back(&rt, &pool);
+}
+
+// Queue 0 has three bytes, and is enabled.
+fn assert_put_back(rt: &impl Abort, pool: &Pool) {
+    match pool.queue_info(0) {
+        Ok(queue) => assert!(rt; queue.bytes == 3 && queue.enabled && !queue.noenable),
+        Err(_) => panic!(rt; "no such queue"),
+    }
+}
+
+// The pool after these steps, of which the late ones are taken when the desk that was missing is back.
+fn without_one(
+    rt: &(impl Wait + Abort),
+    start: Start,
+    early: &[(u8, Step)],
+    late: &[(u8, Step)],
+) -> Pool {
+    missing::<Brand, _>(rt, start, early, late)
 }
 
 // Desk 1 is missing after the first steps. Each `gather` returns the other desks unchanged, and the pool stays shared.
@@ -398,19 +418,24 @@ fn missing<N: Name, R: Wait + Abort>(
     let (shared, mut desks) = ungathered(rt, shared, desks, 1);
     push(rt, &mut desks, one);
     take_steps(rt, &shared, &mut desks, late);
-    emptied(rt, shared.gather(desks), 2, MOST_STAMP)
+    emptied(rt, end(rt, shared, desks), 2, MOST_STAMP)
 }
 
 #[test]
 fn a_spent_desk(rt: HostRuntime) {
     let a = reg(&rt, b'a');
-    let early = [(0, Step::Serve(Call::Allocb(a, 1), Reply::Done))];
-    let late = [
+    let steps = [
+        (0, Step::Serve(Call::Allocb(a, 1), Reply::Done)),
         (0, Step::Serve(Call::Freemsg(a), Reply::Done)),
         (0, Step::Stand(2, 2)),
     ];
     let other = eight(&rt, rt.alloc(), 8);
-    spent::<Brand, _>(&rt, start(&rt, rt.alloc(), 7, 2, 0), other, &early, &late);
+    after_one_is_spent(&rt, start(&rt, rt.alloc(), 7, 2, 0), other, &steps);
+}
+
+// Takes these steps after desk 1 is spent.
+fn after_one_is_spent(rt: &(impl Wait + Abort), start: Start, other: Pool, steps: &[(u8, Step)]) {
+    spent::<Brand, _>(rt, start, other, steps);
 }
 
 // Spends desk 1, whose empty registers another pool drains.
@@ -420,21 +445,13 @@ fn spend<N: Name>(rt: &impl Abort, desks: &mut Desks<N>, other: Pool) {
 }
 
 // After desk 1 is spent, the pool can never be gathered, but desk 0 is still served.
-fn spent<N: Name, R: Wait + Abort>(
-    rt: &R,
-    start: Start,
-    other: Pool,
-    early: &[(u8, Step)],
-    late: &[(u8, Step)],
-)
+fn spent<N: Name, R: Wait + Abort>(rt: &R, start: Start, other: Pool, steps: &[(u8, Step)])
     requires { IsNameOf N.Name start }
 {
     let (shared, mut desks) = start.open::<N>();
     spend(rt, &mut desks, other);
     let (shared, mut desks) = ungathered(rt, shared, desks, 1);
-    take_steps(rt, &shared, &mut desks, early);
-    let (shared, mut desks) = ungathered(rt, shared, desks, 1);
-    take_steps(rt, &shared, &mut desks, late);
+    take_steps(rt, &shared, &mut desks, steps);
     desks.forget();
 }
 
@@ -447,8 +464,18 @@ fn what_waits_comes_back(rt: HostRuntime) {
 
 // The wish and the run list are those that the pool was shared with.
 fn assert_waits(rt: &impl Abort, pool: &Pool) {
-    assert!(rt; pool.wish_at(0) == Some((1, 16)) && pool.wish_at(1).is_none());
-    assert!(rt; pool.run_at(0) == Some(1) && pool.run_at(1) == Some(0));
+    assert!(rt; has_wish(pool, 0, Some((1, 16))) && has_wish(pool, 1, None));
+    assert!(rt; is_run(pool, 0, Some(1)) && is_run(pool, 1, Some(0)));
+}
+
+// Whether this is the wish at a place.
+fn has_wish(pool: &Pool, place: u32, wish: Option<(u32, u32)>) -> bool {
+    pool.wish_at(place) == wish
+}
+
+// Whether this is the queue at a place of the run list.
+fn is_run(pool: &Pool, place: u32, queue: Option<u8>) -> bool {
+    pool.run_at(place) == queue
 }
 
 #[test]
@@ -471,9 +498,9 @@ fn side_by_side<N: Name, M: Name, R: Wait + Abort>(rt: &R, one: Start, other: St
     serve_both(rt, &first, &mut desk, &second, &mut other);
     push(rt, &mut desks, desk);
     push(rt, &mut others, other);
-    let pool = emptied(rt, second.gather(others), 1, 6);
+    let pool = emptied(rt, gathered(rt, second.gather(others)), 1, 6);
     assert_census(rt, &pool, (8, 0, 0));
-    let pool = emptied(rt, first.gather(desks), 1, 2);
+    let pool = emptied(rt, end(rt, first, desks), 1, 2);
     assert_census(rt, &pool, (7, 1, 0));
 }
 

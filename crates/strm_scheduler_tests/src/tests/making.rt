@@ -140,10 +140,6 @@ pub(super) fn taken(
 }
 
 impl Found {
-    pub(super) fn head(&self) -> u32 {
-        self.head
-    }
-
     // It is this message, and these are its bytes.
     pub(super) fn assert_is(&self, rt: &impl Abort, bytes: &[u8], wanted: &Standing) {
         assert_eq!(rt; (self.head, self.size), (wanted.head, wanted.size as usize));

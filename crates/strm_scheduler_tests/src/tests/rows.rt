@@ -17,85 +17,163 @@ fn narrow() -> [QueueSpec; 3] {
     ]
 }
 
-// Puts a message of a rank and one byte on the first queue. Returns the number of its first block.
-fn sent(rt: &impl Abort, sides: &mut Sides, rank: u16) -> u32 {
-    match put(sides, 0, rank, &[BYTE]) {
-        Ok(message) => message.head,
-        Err(why) => panic!(rt; "{why:?}"),
+// A call on a side of three queues, and what it has to return.
+#[derive(Clone, Copy)]
+enum Row {
+    // A message of this rank and this one byte is put on queue 0.
+    Put(u16, u8),
+    // A message of this rank and two bytes is put on queue 0.
+    PutTwo(u16),
+    // Messages of one byte are put on this queue, until one block is free.
+    Fill(u8),
+    // Queues are served in this way. Then the first queue that is held back is this one, or there is none.
+    Run(Way, Option<u8>),
+    // The queues have these numbers of messages.
+    Sizes([u32; 3]),
+    // The last queue gives the message with this byte.
+    Take(u8),
+    // Band 0 of the last queue gets this high and this low water mark.
+    Marks(u32, u32),
+}
+
+// A message of a rank and these bytes can be put on queue 0.
+fn assert_put(rt: &impl Abort, sides: &mut Sides, rank: u16, bytes: &[u8]) {
+    assert!(rt; put(sides, 0, rank, bytes).is_ok());
+}
+
+// A message of this byte, and one of two bytes.
+fn assert_put_one(rt: &impl Abort, sides: &mut Sides, rank: u16, byte: u8) {
+    assert_put(rt, sides, rank, &[byte]);
+}
+
+fn assert_put_two(rt: &impl Abort, sides: &mut Sides, rank: u16) {
+    assert_put(rt, sides, rank, &[BYTE, BYTE]);
+}
+
+// Puts messages of one byte on a queue, until one block is free.
+fn fill(rt: &impl Abort, sides: &mut Sides, queue: u8) {
+    for _message in 1..MESSAGES {
+        assert!(rt; put(sides, queue, 0, &[BYTE]).is_ok());
     }
 }
 
+// Serves queues in this way. Then the first queue that is held back is this one, or there is none.
+fn assert_run(rt: &impl Abort, sides: &mut Sides, way: Way, held: Option<u8>) {
+    assert!(rt; way.run(sides) == held.is_some());
+    assert!(rt; sides.pool().run_at(0) == held);
+}
+
 // The queues have these numbers of messages.
-fn assert_sizes(rt: &impl Abort, sides: &Sides, sizes: [u32; 3]) {
+fn assert_sizes(rt: &impl Abort, sides: &Sides, sizes: &[u32; 3]) {
     for (number, size) in (0..3).zip(sizes.iter()) {
         assert_eq!(rt; sides.pool().qsize(number), Ok(*size));
     }
 }
 
-// The last queue gives this message.
-fn assert_taken(rt: &impl Abort, sides: &mut Sides, head: u32) {
-    let message = taken(sides, 2, &mut []).expect(rt, "a last queue");
-    assert_eq!(rt; message.expect(rt, "a message").head(), head);
+// The last queue gives the message with this byte.
+fn assert_taken(rt: &impl Abort, sides: &mut Sides, byte: u8) {
+    let mut bytes = [0];
+    let message = taken(sides, 2, &mut bytes).expect(rt, "a last queue");
+    assert!(rt; message.is_some() && bytes == [byte]);
+}
+
+// The call of a row returns what it has to.
+fn assert_row(rt: &impl Abort, sides: &mut Sides, row: &Row) {
+    match row {
+        Row::Put(rank, byte) => assert_put_one(rt, sides, *rank, *byte),
+        Row::PutTwo(rank) => assert_put_two(rt, sides, *rank),
+        Row::Fill(queue) => fill(rt, sides, *queue),
+        Row::Run(way, held) => assert_run(rt, sides, *way, *held),
+        Row::Sizes(sizes) => assert_sizes(rt, sides, sizes),
+        Row::Take(byte) => assert_taken(rt, sides, *byte),
+        Row::Marks(hiwat, lowat) => { assert!(rt; sides.strqset(2, 0, *hiwat, *lowat) == Ok(())) }
+    }
+}
+
+// The calls of the rows return what they have to. Then this many messages are on queues, and none is held.
+fn assert_each(rt: &impl Abort, sides: &mut Sides, rows: &[Row], queued: u32) {
+    for row in rows {
+        assert_row(rt, sides, row);
+    }
+    let census = sides.pool().census();
+    assert!(rt; (census.queued, census.held) == (queued, 0));
+}
+
+// The same on new sides of these queues.
+fn assert_rows(rt: &impl Abort, alloc: Global, specs: &[QueueSpec; 3], rows: &[Row], queued: u32) {
+    let mut sides = opened(rt, alloc, specs).expect(rt, "sides");
+    assert_each(rt, &mut sides, rows, queued);
 }
 
 // One message stays on each queue that is full; each one that is taken lets one message move up.
 #[test]
 fn a_side_moves_up(rt: HostRuntime) {
-    let mut sides = opened(&rt, rt.alloc(), &narrow()).expect(&rt, "sides");
-    let first = sent(&rt, &mut sides, 0);
-    let second = sent(&rt, &mut sides, 0);
-    let third = sent(&rt, &mut sides, 0);
-    assert_sizes(&rt, &sides, [3, 0, 0]);
-    sides.run();
-    assert_sizes(&rt, &sides, [1, 1, 1]);
-    for head in [first, second, third] {
-        assert_taken(&rt, &mut sides, head);
-        sides.run();
-    }
-    assert_sizes(&rt, &sides, [0, 0, 0]);
+    let rows = [
+        Row::Put(0, b'a'),
+        Row::Put(0, b'b'),
+        Row::Put(0, b'c'),
+        Row::Sizes([3, 0, 0]),
+        Row::Run(Way::Forward, None),
+        Row::Sizes([1, 1, 1]),
+        Row::Take(b'a'),
+        Row::Run(Way::Pass, None),
+        Row::Sizes([0, 1, 1]),
+        Row::Take(b'b'),
+        Row::Run(Way::Forward, None),
+        Row::Take(b'c'),
+        Row::Run(Way::Pass, None),
+    ];
+    assert_rows(&rt, rt.alloc(), &narrow(), &rows, 0);
 }
 
 // A message of a greater band, and one of high priority, pass messages that wait.
 #[test]
 fn greater_ranks_pass(rt: HostRuntime) {
-    let mut sides = opened(&rt, rt.alloc(), &narrow()).expect(&rt, "sides");
-    for _message in 0..3 {
-        sent(&rt, &mut sides, 0);
-        sides.run();
-    }
-    assert_sizes(&rt, &sides, [1, 1, 1]);
-    let banded = sent(&rt, &mut sides, 5);
-    let high = sent(&rt, &mut sides, HIGH_RANK);
-    sides.run();
-    assert_sizes(&rt, &sides, [1, 1, 3]);
-    assert_taken(&rt, &mut sides, high);
-    assert_taken(&rt, &mut sides, banded);
+    let rows = [
+        Row::Put(0, b'a'),
+        Row::Run(Way::Forward, None),
+        Row::Put(0, b'b'),
+        Row::Run(Way::Forward, None),
+        Row::Put(0, b'c'),
+        Row::Run(Way::Forward, None),
+        Row::Sizes([1, 1, 1]),
+        Row::Put(5, b'd'),
+        Row::Put(HIGH_RANK, b'e'),
+        Row::Run(Way::Forward, None),
+        Row::Sizes([1, 1, 3]),
+        Row::Take(b'e'),
+        Row::Take(b'd'),
+    ];
+    assert_rows(&rt, rt.alloc(), &narrow(), &rows, 3);
 }
 
 // New water marks wake the queue behind.
 #[test]
 fn new_marks_wake(rt: HostRuntime) {
-    let mut sides = opened(&rt, rt.alloc(), &narrow()).expect(&rt, "sides");
-    for _message in 0..3 {
-        sent(&rt, &mut sides, 0);
-    }
-    sides.run();
-    assert_sizes(&rt, &sides, [1, 1, 1]);
-    assert_eq!(rt; sides.strqset(2, 0, 8, 4), Ok(()));
-    sides.run();
-    assert_sizes(&rt, &sides, [0, 0, 3]);
+    let rows = [
+        Row::Put(0, b'a'),
+        Row::Put(0, b'b'),
+        Row::Put(0, b'c'),
+        Row::Run(Way::Forward, None),
+        Row::Sizes([1, 1, 1]),
+        Row::Marks(8, 4),
+        Row::Run(Way::Forward, None),
+        Row::Sizes([0, 0, 3]),
+    ];
+    assert_rows(&rt, rt.alloc(), &narrow(), &rows, 3);
 }
 
 // A module that drops messages leaves room for the others, and frees their blocks.
 #[test]
 fn a_module_drops(rt: HostRuntime) {
-    let mut sides = opened(&rt, rt.alloc(), &narrow()).expect(&rt, "sides");
-    for _message in 0..3 {
-        sent(&rt, &mut sides, 0);
-    }
-    Way::Drop.run(&mut sides);
-    let census = sides.pool().census();
-    assert_eq!(rt; (census.queued, census.held), (2, 0));
+    let rows = [
+        Row::Put(0, b'a'),
+        Row::Put(0, b'b'),
+        Row::Put(0, b'c'),
+        Row::Run(Way::Drop, None),
+        Row::Sizes([0, 1, 1]),
+    ];
+    assert_rows(&rt, rt.alloc(), &narrow(), &rows, 2);
 }
 
 // Queues with room for all messages.
@@ -107,52 +185,61 @@ fn wide() -> [QueueSpec; 3] {
     ]
 }
 
-// Puts messages of one byte on a queue, until one block is free.
-fn fill(rt: &impl Abort, sides: &mut Sides, queue: u8) {
-    for _message in 1..MESSAGES {
-        assert!(rt; put(sides, queue, 0, &[BYTE]).is_ok());
-    }
-}
-
 // A message for which the module needs a block waits on its queue until one is free.
 #[test]
 fn a_module_holds_back(rt: HostRuntime) {
-    let mut sides = opened(&rt, rt.alloc(), &wide()).expect(&rt, "sides");
-    fill(&rt, &mut sides, 2);
-    assert!(rt; put(&mut sides, 0, HIGH_RANK, &[BYTE, BYTE]).is_ok());
-    for _run in 0..2 {
-        assert!(rt; Way::Borrow.run(&mut sides));
-        assert_sizes(&rt, &sides, [1, 0, MESSAGES.wrapping_sub(1)]);
-        assert_eq!(rt; sides.pool().run_at(0), Some(0));
-    }
-    assert!(rt; taken(&mut sides, 2, &mut []).is_ok());
-    assert!(rt; !Way::Borrow.run(&mut sides));
-    assert_sizes(&rt, &sides, [0, 0, MESSAGES.wrapping_sub(1)]);
-    assert_eq!(rt; sides.pool().run_at(0), None);
+    let rows = [
+        Row::Fill(2),
+        Row::PutTwo(HIGH_RANK),
+        Row::Run(Way::Borrow, Some(0)),
+        Row::Sizes([1, 0, MESSAGES.wrapping_sub(1)]),
+        Row::Run(Way::Borrow, Some(0)),
+        Row::Sizes([1, 0, MESSAGES.wrapping_sub(1)]),
+        Row::Take(BYTE),
+        Row::Run(Way::Borrow, None),
+        Row::Sizes([0, 0, MESSAGES.wrapping_sub(1)]),
+    ];
+    assert_rows(&rt, rt.alloc(), &wide(), &rows, MESSAGES.wrapping_sub(1));
 }
 
 // A block that becomes free during a run serves a message that was held back before.
 #[test]
 fn a_block_is_freed_meanwhile(rt: HostRuntime) {
-    let mut sides = opened(&rt, rt.alloc(), &wide()).expect(&rt, "sides");
-    assert!(rt; put(&mut sides, 0, 0, &[BYTE, BYTE]).is_ok());
-    fill(&rt, &mut sides, 1);
-    assert!(rt; !Way::Borrow.run(&mut sides));
-    assert_sizes(&rt, &sides, [0, 0, 1]);
+    let rows = [
+        Row::PutTwo(0),
+        Row::Fill(1),
+        Row::Run(Way::Borrow, None),
+        Row::Sizes([0, 0, 1]),
+    ];
+    assert_rows(&rt, rt.alloc(), &wide(), &rows, 1);
+}
+
+// No message can be taken off this queue.
+fn assert_kept(rt: &impl Abort, sides: &mut Sides, queue: u8) {
+    assert!(rt; matches!(taken(sides, queue, &mut []), Err(Refusal::NoSuchQueue)));
+}
+
+// Of three queues there is no queue 3.
+fn assert_no_queue(rt: &impl Abort, sides: &mut Sides) {
+    assert!(rt; matches!(put(sides, 3, 0, &[BYTE]), Err(Refusal::NoSuchQueue)));
+    assert!(rt; sides.bcanput(3, 0) == Err(Refusal::NoSuchQueue));
+    assert!(rt; sides.strqset(3, 0, 2, 1) == Err(Refusal::NoSuchQueue));
 }
 
 // A message is put on any queue, and taken off the last one alone.
+fn assert_refused(rt: &impl Abort, sides: &mut Sides) {
+    assert!(rt; put(sides, 1, 0, &[BYTE]).is_ok());
+    for queue in [0, 1, 3] {
+        assert_kept(rt, sides, queue);
+    }
+    assert_no_queue(rt, sides);
+    assert_sizes(rt, sides, &[0, 1, 0]);
+}
+
 #[test]
 fn refuses_other_queues(rt: HostRuntime) {
     let mut sides = opened(&rt, rt.alloc(), &narrow()).expect(&rt, "sides");
-    assert!(&rt; put(&mut sides, 1, 0, &[BYTE]).is_ok());
-    for queue in [0, 1, 3] {
-        assert!(&rt; matches!(taken(&mut sides, queue, &mut []), Err(Refusal::NoSuchQueue)));
-    }
-    assert!(&rt; matches!(put(&mut sides, 3, 0, &[BYTE]), Err(Refusal::NoSuchQueue)));
-    assert_eq!(rt; sides.bcanput(3, 0), Err(Refusal::NoSuchQueue));
-    assert_eq!(rt; sides.strqset(3, 0, 2, 1), Err(Refusal::NoSuchQueue));
-    assert_sizes(&rt, &sides, [0, 1, 0]);
+    assert_refused(&rt, &mut sides);
 }
 
 // Queues of these specs are no sides, for this reason.

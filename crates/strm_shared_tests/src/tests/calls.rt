@@ -2,38 +2,52 @@
 ghost use Rattle.strm_shared.specs.Starts.{IsNameOf};
 
 use super::steps::{assert_census, serve_calls};
-use super::traces::{assert_replayed, kept};
-use super::{drained, eight, only, push, reg};
+use super::traces::{assert_len, assert_replayed, kept};
+use super::{drained, eight, end, only, push, reg};
 use arrayvec::ArrayVec;
-use std::alloc::Global;
 use std::process::Abort;
 use std::sync::Wait;
-use strm_pool::{BlockInfo, Call, Census, Flush, MsgType, Octets, Reply};
-use strm_shared::{Brand, Name, Start};
+use strm_pool::{BlockInfo, Call, Census, Flush, MsgType, Octets, Pool, Reply};
+use strm_shared::{Brand, Desks, Name, Shared, Start, TraceEntries};
 
+// The first two parts leave messages in registers a, c, d and e; the third leaves one on queue 1, and two in a and b. At the end
+// no message is held or queued. A pool like this one gives the same replies to the 58 calls of the trace.
 #[test]
 fn each_kind_of_call(rt: HostRuntime) {
-    each_kind::<Brand, _>(&rt, rt.alloc(), kept(&rt, rt.alloc(), 1, 100, 0));
+    let (pool, trace) = all_kinds(&rt, kept(&rt, rt.alloc(), 1, 100, 0));
+    assert_census(&rt, &pool, (8, 0, 0));
+    assert_len(&rt, &trace, 58);
+    let pool = eight(&rt, rt.alloc(), 7);
+    assert_replayed(&rt, rt.alloc(), pool, trace.items(), (8, 0, 0));
 }
 
-// Serves the parts in order. The first two leave messages in registers a, c, d and e; the third leaves one on queue 1, and two
-// in a and b. At the end no message is held or queued. A pool like this one gives the same replies to the calls of the trace.
-fn each_kind<N: Name, R: Wait + Abort>(rt: &R, alloc: Global, start: Start)
+// Pool and trace after all parts.
+fn all_kinds(rt: &(impl Wait + Abort), start: Start) -> (Pool, TraceEntries) {
+    each_kind::<Brand, _>(rt, start)
+}
+
+fn each_kind<N: Name, R: Wait + Abort>(rt: &R, start: Start) -> (Pool, TraceEntries)
     requires { IsNameOf N.Name start }
 {
-    let (shared, mut desks) = start.open::<N>();
+    let (shared, desks) = start.open::<N>();
+    let desks = serve_parts(rt, &shared, desks);
+    drained(rt, end(rt, shared, desks), 1, 58)
+}
+
+// Serves the parts in order, on the only desk.
+fn serve_parts<N: Name>(
+    rt: &(impl Wait + Abort),
+    shared: &Shared<N>,
+    mut desks: Desks<N>,
+) -> Desks<N> {
     let mut desk = only(rt, &mut desks);
-    serve_calls(rt, &shared, &mut desk, &making(rt));
-    serve_calls(rt, &shared, &mut desk, &altering(rt));
-    serve_calls(rt, &shared, &mut desk, &queueing(rt));
-    serve_calls(rt, &shared, &mut desk, &enabling(rt));
-    serve_calls(rt, &shared, &mut desk, &wishing());
-    let stamp = desk.seen();
+    serve_calls(rt, shared, &mut desk, &making(rt));
+    serve_calls(rt, shared, &mut desk, &altering(rt));
+    serve_calls(rt, shared, &mut desk, &queueing(rt));
+    serve_calls(rt, shared, &mut desk, &enabling(rt));
+    serve_calls(rt, shared, &mut desk, &wishing());
     push(rt, &mut desks, desk);
-    let (pool, trace) = drained(rt, shared.gather(desks), 1, stamp);
-    assert_census(rt, &pool, (8, 0, 0));
-    assert_eq!(rt; trace.items().len() as u64, stamp);
-    assert_replayed(rt, eight(rt, alloc, 7), trace.items(), 8);
+    desks
 }
 
 // The bytes as a call carries them; at most 64.

@@ -1,18 +1,20 @@
-//! Each number of workers, with and without replies, and workers without lines.
+//! What workers leave, with and without replies; each number of workers, and workers without lines.
 ghost use Rattle.strm_shared.specs.Starts.{IsNameOf};
 
-use super::steps::assert_census;
-use super::without_replies::left;
+use super::steps::assert_counts;
 use super::workers::{assert_count, lines};
-use super::{emptied, opened, push, reg, setup, start_of, take_last};
+use super::{drained, end, opened, push, reg, setup, start_of, take_last};
 use std::alloc::{AllocError, Global};
 use std::hint::spin_loop;
 use std::process::Abort;
 use std::sync::Wait;
 use std::sync::atomic::{AtomicU32, Ordering};
 use std::thread::Threads;
-use strm_pool::Reg;
-use strm_shared::{Brand, Desks, End, Ends, Gate, MOST_WORKERS, Name, Parts, Start, Trace};
+use strm_pool::{Census, Reg};
+use strm_shared::{
+    AllReplies, BareOutcome, Brand, Desks, End, Ends, Gate, Gathered, MOST_WORKERS, Name, Outcome,
+    Parts, Shared, Start, Trace, TraceEntries, run_workers, run_workers_without_replies,
+};
 
 // The greatest number of times that a worker looks for the others.
 const LOOKS: u32 = 100_000_000;
@@ -20,14 +22,14 @@ const LOOKS: u32 = 100_000_000;
 // A gate at which workers wait before their first lines until this number of them has come. It notes how many came and how
 // many waited in vain.
 #[derive(Drop)]
-struct Assembly {
+pub(super) struct Assembly {
     workers: u32,
-    came: AtomicU32,
-    missed: AtomicU32,
+    pub(super) came: AtomicU32,
+    pub(super) missed: AtomicU32,
 }
 
 impl Assembly {
-    fn new(workers: u32) -> Assembly {
+    pub(super) fn new(workers: u32) -> Assembly {
         Assembly {
             workers,
             came: AtomicU32::new(0),
@@ -61,13 +63,50 @@ impl Gate for Assembly {
     fn after(&self, _worker: u8, _line: u32) {}
 }
 
-// A list of lines for each of these numbers of rounds. A round is an `allocb` and then a `freemsg` of a register.
-fn parts_of(alloc: Global, reg: Reg, rounds: &[u32]) -> Result<Parts, AllocError> {
-    let mut list = Vec::new(alloc);
-    for count in rounds {
-        list.push(lines(alloc, reg, *count)?)?;
+// Runs workers, each on the desk at its place.
+pub(super) fn ran<N: Name + Send + Sync, R: Threads + Wait + Abort + Sync, G: Gate>(
+    rt: &R,
+    alloc: Global,
+    shared: &Shared<N>,
+    desks: Desks<N>,
+    parts: &Parts,
+    gate: &G,
+) -> Outcome<N> {
+    assert!(rt; parts.items().len() == desks.len());
+    match run_workers(rt, alloc, shared, desks, parts, gate) {
+        Ok(outcome) => outcome,
+        Err((_, desks)) => {
+            desks.forget();
+            panic!(rt; "out of memory")
+        }
     }
-    Ok(Parts::of(list))
+}
+
+// Runs workers without replies.
+fn ran_without<N: Name + Send + Sync, R: Threads + Wait + Abort + Sync, G: Gate>(
+    rt: &R,
+    alloc: Global,
+    shared: &Shared<N>,
+    desks: Desks<N>,
+    parts: &Parts,
+    gate: &G,
+) -> Outcome<N> {
+    assert!(rt; parts.items().len() == desks.len());
+    match run_workers_without_replies(rt, alloc, shared, desks, parts, gate) {
+        Ok(outcome) => {
+            let BareOutcome { desks, ends } = outcome;
+            let replies = AllReplies::of(Vec::new(alloc));
+            Outcome {
+                desks,
+                replies,
+                ends,
+            }
+        }
+        Err((_, desks)) => {
+            desks.forget();
+            panic!(rt; "out of memory")
+        }
+    }
 }
 
 // Moves this number of desks from the end of one list to the end of another, the last one first.
@@ -78,36 +117,120 @@ fn moved<N: Name>(rt: &impl Abort, from: &mut Desks<N>, to: &mut Desks<N>, count
     }
 }
 
-// Starts sharing a pool of sixteen message blocks and data blocks, with the greatest number of desks.
-fn sixteen(rt: &impl Abort, alloc: Global) -> Start {
-    let pool = opened(rt, alloc, 1, 16, &[(16, 16)]);
-    start_of(rt, alloc, pool, setup(MOST_WORKERS as u8, Trace::Off, 0))
+// Workers' desks, and then the others, the last one first.
+fn joined<N: Name>(rt: &impl Abort, mut others: Desks<N>, mut desks: Desks<N>) -> Desks<N> {
+    let count = others.len();
+    moved(rt, &mut others, &mut desks, count);
+    others.forget();
+    desks
 }
 
-// How workers end that have these numbers of rounds. They have the last desks; the other desks are given to nobody. Then no
-// message is held, and `stamp` calls were served.
-fn ended<N: Name + Send + Sync, R: Threads + Wait + Abort + Sync>(
+// The number of message blocks that desks hold.
+fn held_in<N: Name>(gathered: &Gathered<N>) -> u32 {
+    gathered.pool.census().held
+}
+
+// What workers left: their replies, of which there are none if nobody keeps them, how each ended, the number of message blocks
+// that they held, the census once these are freed, and the trace.
+#[derive(Drop)]
+pub(super) struct Left {
+    pub(super) replies: AllReplies,
+    pub(super) ends: Ends,
+    pub(super) held: u32,
+    pub(super) census: Census,
+    pub(super) trace: TraceEntries,
+}
+
+// What workers leave at a pool, with and without replies. They have the last desks, the last one first; the other desks are
+// given to nobody. All desks come back in order, and have then seen this stamp.
+pub(super) fn crew<R: Threads + Wait + Abort + Sync, G: Gate>(
     rt: &R,
     alloc: Global,
     start: Start,
-    gate: &Assembly,
-    rounds: &[u32],
-    stamp: u64,
+    parts: &Parts,
+    gate: &G,
     keeps: bool,
-) -> Ends
+    stamp: u64,
+) -> Left {
+    crew_of::<Brand, R, G>(rt, alloc, start, parts, gate, keeps, stamp)
+}
+
+fn crew_of<N: Name + Send + Sync, R: Threads + Wait + Abort + Sync, G: Gate>(
+    rt: &R,
+    alloc: Global,
+    start: Start,
+    parts: &Parts,
+    gate: &G,
+    keeps: bool,
+    stamp: u64,
+) -> Left
     requires { IsNameOf N.Name start }
 {
     let (shared, mut others) = start.open::<N>();
     let mut desks = Desks::new();
-    moved(rt, &mut others, &mut desks, rounds.len());
-    let parts = parts_of(alloc, reg(rt, b'a'), rounds).expect(rt, "memory");
-    let (mut desks, ends) = left(rt, alloc, &shared, desks, &parts, gate, keeps);
-    let count = others.len();
-    moved(rt, &mut others, &mut desks, count);
-    others.forget();
-    let pool = emptied(rt, shared.gather(desks), MOST_WORKERS, stamp);
-    assert_census(rt, &pool, (16, 0, 0));
-    ends
+    moved(rt, &mut others, &mut desks, parts.items().len());
+    let outcome = if keeps {
+        ran(rt, alloc, &shared, desks, parts, gate)
+    } else {
+        ran_without(rt, alloc, &shared, desks, parts, gate)
+    };
+    left_by(rt, shared, others, outcome, stamp)
+}
+
+// What workers left, and the desks that were given to nobody.
+fn left_by<N: Name>(
+    rt: &impl Abort,
+    shared: Shared<N>,
+    others: Desks<N>,
+    outcome: Outcome<N>,
+    stamp: u64,
+) -> Left {
+    let Outcome {
+        desks,
+        replies,
+        ends,
+    } = outcome;
+    let desks = joined(rt, others, desks);
+    let count = desks.len();
+    let gathered = end(rt, shared, desks);
+    let held = held_in(&gathered);
+    let (pool, trace) = drained(rt, gathered, count, stamp);
+    let census = pool.census();
+    Left {
+        replies,
+        ends,
+        held,
+        census,
+        trace,
+    }
+}
+
+// All workers are done, this number of them. They hold nothing, and this number of message blocks is free.
+pub(super) fn assert_done(rt: &impl Abort, left: &Left, workers: usize, free: u32) {
+    assert!(rt; left.ends.items().len() == workers);
+    assert!(rt; left.ends.items().iter().all(|end| *end == End::Done));
+    assert!(rt; left.held == 0);
+    assert_counts(rt, left.census, (free, 0, 0));
+}
+
+// A list of lines for each of these numbers of rounds. A round is an `allocb` and then a `freemsg` of a register.
+fn parts_of(alloc: Global, reg: Reg, rounds: &[u32]) -> Result<Parts, AllocError> {
+    let mut list = Vec::new(alloc);
+    for count in rounds {
+        list.push(lines(alloc, reg, *count)?)?;
+    }
+    Ok(Parts::of(list))
+}
+
+// Such lists on register a.
+pub(super) fn parts_on_a(rt: &impl Abort, alloc: Global, rounds: &[u32]) -> Parts {
+    parts_of(alloc, reg(rt, b'a'), rounds).expect(rt, "memory")
+}
+
+// Starts sharing a pool of sixteen message blocks and data blocks, with the greatest number of desks.
+fn sixteen(rt: &impl Abort, alloc: Global) -> Start {
+    let pool = opened(rt, alloc, 1, 16, &[(16, 16)]);
+    start_of(rt, alloc, pool, setup(MOST_WORKERS as u8, Trace::Off, 0))
 }
 
 // Workers with these numbers of rounds are done; `workers` of them have lines, and wait for each other.
@@ -120,33 +243,45 @@ fn assert_ended<R: Threads + Wait + Abort + Sync>(
 ) {
     let gate = Assembly::new(workers);
     let stamp = u64::from(workers).wrapping_mul(2);
-    let start = sixteen(rt, alloc);
-    let ends = ended::<Brand, _>(rt, alloc, start, &gate, rounds, stamp, keeps);
-    assert_eq!(rt; ends.items().len(), rounds.len());
-    assert!(rt; ends.items().iter().all(|end| *end == End::Done));
+    let parts = parts_on_a(rt, alloc, rounds);
+    let left = crew(rt, alloc, sixteen(rt, alloc), &parts, &gate, keeps, stamp);
+    assert_done(rt, &left, rounds.len(), 16);
     assert_count(rt, &gate.came, workers);
     assert_count(rt, &gate.missed, 0);
 }
 
-// One round for each of no, one, two, four, and the greatest number of workers.
-const CREWS: [&[u32]; 5] = [&[], &[1], &[1, 1], &[1; 4], &[1; MOST_WORKERS]];
+// One round for each of no, one, two, four, and the greatest number of workers. Then workers of which some have no lines.
+const CREWS: [(&[u32], u32); 5] = [
+    (&[], 0),
+    (&[1], 1),
+    (&[1, 1], 2),
+    (&[1; 4], 4),
+    (&[1; MOST_WORKERS], MOST_WORKERS as u32),
+];
+
+const SOME_WITHOUT_LINES: [(&[u32], u32); 3] = [(&[1, 0, 1], 2), (&[0, 1, 0], 1), (&[0], 0)];
+
+// Crews with and without replies.
+fn assert_all_ended<R: Threads + Wait + Abort + Sync>(
+    rt: &R,
+    alloc: Global,
+    crews: &[(&[u32], u32)],
+) {
+    for (rounds, workers) in crews {
+        for keeps in [true, false] {
+            assert_ended(rt, alloc, rounds, *workers, keeps);
+        }
+    }
+}
 
 // Whatever the number of workers is, each has its own thread, and all of them run at once. There may be no workers.
 #[test]
 fn each_number_of_workers(rt: HostRuntime) {
-    for rounds in CREWS {
-        let workers = rounds.len() as u32;
-        assert_ended(&rt, rt.alloc(), rounds, workers, true);
-        assert_ended(&rt, rt.alloc(), rounds, workers, false);
-    }
+    assert_all_ended(&rt, rt.alloc(), &CREWS);
 }
 
 // A worker without lines is done as the others are, whatever its place is.
 #[test]
 fn workers_without_lines(rt: HostRuntime) {
-    for keeps in [true, false] {
-        assert_ended(&rt, rt.alloc(), &[1, 0, 1], 2, keeps);
-        assert_ended(&rt, rt.alloc(), &[0, 1, 0], 1, keeps);
-        assert_ended(&rt, rt.alloc(), &[0], 0, keeps);
-    }
+    assert_all_ended(&rt, rt.alloc(), &SOME_WITHOUT_LINES);
 }

@@ -1,19 +1,14 @@
 //! The gate is called before and after each line.
-ghost use Rattle.strm_shared.specs.Starts.{IsNameOf};
-
-use super::steps::assert_census;
-use super::workers::{all_done, assert_count, comes, line, ran, small};
-use super::{emptied, gathered, push, reg, start, take_last};
+use super::crews::{Left, assert_done, crew};
+use super::workers::{assert_all_done, assert_count, comes, line, small};
+use super::{reg, start};
 use std::alloc::{AllocError, Global};
 use std::process::Abort;
 use std::sync::Wait;
 use std::sync::atomic::{AtomicU32, Ordering};
 use std::thread::Threads;
 use strm_pool::{Call, Refusal, Reg};
-use strm_shared::{
-    Brand, Desks, End, Ends, Gate, Gathered, Line, Lines, MOST_STAMP, Name, Outcome, Parts, Start,
-    Trace,
-};
+use strm_shared::{End, Gate, Line, Lines, MOST_STAMP, Parts, Start, Trace};
 
 // A gate that notes which lines came, and which were served or refused, one digit of four bits for each. It counts lines of
 // another worker's number.
@@ -66,84 +61,40 @@ fn numbered(alloc: Global, reg: Reg, workers: u32) -> Result<Parts, AllocError> 
     Ok(Parts::of(list))
 }
 
-// The desks in the order in which they are given to workers: the last one first if `backwards`.
-fn in_order<N: Name>(rt: &impl Abort, mut desks: Desks<N>, backwards: bool) -> Desks<N> {
-    if !backwards {
-        return desks;
-    }
-    let mut turned = Desks::new();
-    for _ in 0..desks.len() {
-        let desk = take_last(rt, &mut desks);
-        push(rt, &mut turned, desk);
-    }
-    desks.forget();
-    turned
-}
-
-// How each of these workers ends, with the gate around its two lines. They then hold `held` message blocks. Worker 0 has the
-// last desk if `backwards`.
-fn told<N: Name + Send + Sync, R: Threads + Wait + Abort + Sync>(
+// What these workers leave, up to this stamp. The gate was called once before and once after each of these lines, with the
+// right worker's number.
+fn rolled<R: Threads + Wait + Abort + Sync>(
     rt: &R,
     alloc: Global,
     start: Start,
-    gate: &Roll,
-    held: u32,
-    backwards: bool,
-) -> Ends
-    requires { IsNameOf N.Name start }
-{
-    let (shared, desks) = start.open::<N>();
-    let desks = in_order(rt, desks, backwards);
-    let parts = numbered(alloc, reg(rt, b'a'), desks.len() as u32).expect(rt, "memory");
-    let Outcome {
-        desks,
-        replies: _,
-        ends,
-    } = ran(rt, alloc, &shared, desks, &parts, gate);
-    let Gathered {
-        pool,
-        trace: _,
-        desks,
-    } = gathered(rt, shared.gather(desks));
-    desks.forget();
-    assert!(rt; pool.census().held == held);
-    ends
-}
-
-// The gate was called once before and once after each line, with the right worker's number.
-fn assert_told(rt: &impl Abort, gate: &Roll, lines: u32) {
+    workers: u32,
+    stamp: u64,
+    lines: u32,
+) -> Left {
+    let gate = Roll::new();
+    let parts = numbered(alloc, reg(rt, b'a'), workers).expect(rt, "memory");
+    let left = crew(rt, alloc, start, &parts, &gate, true, stamp);
     assert_count(rt, &gate.came, lines);
     assert_count(rt, &gate.answered, lines);
     assert_count(rt, &gate.strange, 0);
+    left
 }
 
+// The number of a worker is the place of its lines, whatever desk it has: here worker 0 has desk 2, and worker 2 desk 0.
 #[test]
 fn each_line_by_its_worker(rt: HostRuntime) {
-    let gate = Roll::new();
     let three = small(&rt, rt.alloc(), 3, Trace::Off);
-    let ends = told::<Brand, _>(&rt, rt.alloc(), three, &gate, 0, false);
-    assert!(rt; ends.items() == [End::Done, End::Done, End::Done].as_slice());
-    assert_told(&rt, &gate, 0x11_1111);
+    let left = rolled(&rt, rt.alloc(), three, 3, 6, 0x11_1111);
+    assert_done(&rt, &left, 3, 4);
 }
 
-// The number of a worker is the place of its lines, whatever desk it has.
-#[test]
-fn each_line_by_its_worker_at_another_desk(rt: HostRuntime) {
-    let gate = Roll::new();
-    let three = small(&rt, rt.alloc(), 3, Trace::Off);
-    let ends = told::<Brand, _>(&rt, rt.alloc(), three, &gate, 0, true);
-    assert!(rt; ends.items() == [End::Done, End::Done, End::Done].as_slice());
-    assert_told(&rt, &gate, 0x11_1111);
-}
-
-// The second line is refused at the last stamp, and the gate is called after it too.
+// The second line is refused at the last stamp, and the gate is called after it too. The worker then holds a message.
 #[test]
 fn a_refused_line(rt: HostRuntime) {
-    let gate = Roll::new();
     let one = start(&rt, rt.alloc(), 7, 1, MOST_STAMP - 1);
-    let ends = told::<Brand, _>(&rt, rt.alloc(), one, &gate, 1, false);
-    assert!(rt; ends.items() == [End::Refused(Refusal::Worn)].as_slice());
-    assert_told(&rt, &gate, 0x11);
+    let left = rolled(&rt, rt.alloc(), one, 1, MOST_STAMP, 0x11);
+    assert!(rt; left.ends.items() == [End::Refused(Refusal::Worn)].as_slice());
+    assert!(rt; left.held == 1);
 }
 
 // A gate by which worker 0 puts a message on a queue, and worker 1 then takes it. Worker 1 comes to its first line. Then worker 0
@@ -224,29 +175,15 @@ fn giving_and_taking(alloc: Global, reg: Reg) -> Result<Parts, AllocError> {
     Ok(Parts::of(list))
 }
 
-// Each of the four lines has the reply `Done`.
-fn handed_over<N: Name + Send + Sync, R: Threads + Wait + Abort + Sync>(
-    rt: &R,
-    alloc: Global,
-    start: Start,
-    gate: &Handover,
-)
-    requires { IsNameOf N.Name start }
-{
-    let (shared, desks) = start.open::<N>();
-    let parts = giving_and_taking(alloc, reg(rt, b'a')).expect(rt, "memory");
-    let outcome = ran(rt, alloc, &shared, desks, &parts, gate);
-    let desks = all_done(rt, outcome, 2);
-    let pool = emptied(rt, shared.gather(desks), 2, 4);
-    assert_census(rt, &pool, (4, 0, 0));
-}
-
 // The gate is called before a line is served, and after it was. The `getq` that waits for the call after the `putq` finds the
-// message. Worker 0 begins only after the call before that `getq`.
+// message. Worker 0 begins only after the call before that `getq`. Each of the four lines has the reply `Done`.
 #[test]
 fn before_and_after_a_line_is_served(rt: HostRuntime) {
     let gate = Handover::new();
     let two = small(&rt, rt.alloc(), 2, Trace::Off);
-    handed_over::<Brand, _>(&rt, rt.alloc(), two, &gate);
+    let parts = giving_and_taking(rt.alloc(), reg(&rt, b'a')).expect(&rt, "memory");
+    let left = crew(&rt, rt.alloc(), two, &parts, &gate, true, 4);
+    assert_done(&rt, &left, 2, 4);
+    assert_all_done(&rt, left.replies.items(), 2);
     assert_count(&rt, &gate.missed, 0);
 }

@@ -1,7 +1,7 @@
 //! Steps at the desks of a shared pool, each with what is expected of it.
 ghost use Rattle.strm_shared.specs.Starts.{IsNameOf};
 
-use super::{Gathering, drained};
+use super::{drained, end};
 use std::process::Abort;
 use std::sync::Wait;
 use strm_pool::{Call, Census, Pool, Refusal, Reply};
@@ -39,9 +39,14 @@ fn assert_refused(rt: &impl Abort, served: Result<Reply, Refusal>, why: Refusal)
     }
 }
 
+// The numbers are the same.
+pub(super) fn assert_same(rt: &impl Abort, found: u64, wanted: u64) {
+    assert_eq!(rt; found, wanted);
+}
+
 // A census has these numbers of message blocks.
 pub(super) fn assert_counts(rt: &impl Abort, census: Census, counts: Counts) {
-    assert_eq!(rt; (census.free, census.queued, census.held), counts);
+    assert!(rt; (census.free, census.queued, census.held) == counts);
 }
 
 // The pool's census has these numbers.
@@ -52,18 +57,29 @@ pub(super) fn assert_census(rt: &impl Abort, pool: &Pool, counts: Counts) {
 // A look saw this stamp and these numbers of message blocks.
 pub(super) fn assert_told(rt: &impl Abort, told: (u64, Census), stamp: u64, counts: Counts) {
     let (found, census) = told;
-    assert_eq!(rt; found, stamp);
+    assert_same(rt, found, stamp);
     assert_counts(rt, census, counts);
 }
 
 // The desk has seen this stamp.
 pub(super) fn assert_seen<N: Name>(rt: &impl Abort, desk: &Desk<N>, stamp: u64) {
-    assert_eq!(rt; desk.seen(), stamp);
+    assert_same(rt, desk.seen(), stamp);
 }
 
 // The desk was served this number of calls.
 pub(super) fn assert_calls<N: Name>(rt: &impl Abort, desk: &Desk<N>, calls: u64) {
-    assert_eq!(rt; desk.calls(), calls);
+    assert_same(rt, desk.calls(), calls);
+}
+
+// Has a call served, as this line.
+fn serve<N: Name>(
+    rt: &impl Wait,
+    shared: &Shared<N>,
+    desk: &mut Desk<N>,
+    line: u32,
+    call: &Call,
+) -> Result<Reply, Refusal> {
+    shared.serve(rt, desk, line, call)
 }
 
 impl Step {
@@ -77,9 +93,11 @@ impl Step {
     ) {
         match self {
             Step::Serve(call, reply) => {
-                assert_served(rt, shared.serve(rt, desk, line, call), reply);
+                assert_served(rt, serve(rt, shared, desk, line, call), reply);
             }
-            Step::Refuse(call, why) => assert_refused(rt, shared.serve(rt, desk, line, call), *why),
+            Step::Refuse(call, why) => {
+                assert_refused(rt, serve(rt, shared, desk, line, call), *why);
+            }
             Step::Look(stamp, counts) => {
                 assert_told(rt, shared.census_now(desk), *stamp, *counts);
                 assert_seen(rt, desk, *stamp);
@@ -100,8 +118,21 @@ pub(super) fn serve_calls<N: Name>(
     rows: &[(Call, Reply)],
 ) {
     for (call, reply) in rows {
-        assert_served(rt, shared.serve(rt, desk, 1, call), reply);
+        assert_served(rt, serve(rt, shared, desk, 1, call), reply);
     }
+}
+
+// Takes a step at the desk at this place, as this line.
+fn take_at<N: Name>(
+    rt: &(impl Wait + Abort),
+    shared: &Shared<N>,
+    desks: &mut Desks<N>,
+    place: usize,
+    step: &Step,
+    line: u32,
+) {
+    assert!(rt; place < desks.len());
+    step.take(rt, shared, desks.desk_mut(place), line);
 }
 
 // Takes steps as lines 1, 2 and so on, each at the desk with the number before it.
@@ -113,24 +144,9 @@ pub(super) fn take_steps<N: Name>(
 ) {
     let mut line: u32 = 0;
     for (number, step) in rows {
-        let place = usize::from(*number);
-        assert!(rt; place < desks.len());
         line = line.wrapping_add(1);
-        step.take(rt, shared, desks.desk_mut(place), line);
+        take_at(rt, shared, desks, usize::from(*number), step, line);
     }
-}
-
-// Shares a pool, takes these steps, and gathers.
-pub(super) fn played<N: Name, R: Wait + Abort>(
-    rt: &R,
-    start: Start,
-    rows: &[(u8, Step)],
-) -> Gathering<N>
-    requires { IsNameOf N.Name start }
-{
-    let (shared, mut desks) = start.open::<N>();
-    take_steps(rt, &shared, &mut desks, rows);
-    shared.gather(desks)
 }
 
 // Pool and trace after these steps; this number of desks has seen this stamp, and what they hold is freed.
@@ -143,7 +159,9 @@ fn ended<N: Name, R: Wait + Abort>(
 ) -> (Pool, TraceEntries)
     requires { IsNameOf N.Name start }
 {
-    drained(rt, played::<N, R>(rt, start, rows), count, stamp)
+    let (shared, mut desks) = start.open::<N>();
+    take_steps(rt, &shared, &mut desks, rows);
+    drained(rt, end(rt, shared, desks), count, stamp)
 }
 
 // Pool and trace after these steps, under a name of its own.

@@ -1,13 +1,11 @@
 //! Traces: which calls they have, and that a replay of them gives the same replies.
-ghost use Rattle.strm_shared.specs.Starts.{IsNameOf};
-
-use super::steps::{Step, assert_calls, assert_census, assert_seen, played, traced};
-use super::{eight, gathered, last, reg, setup, start_of};
+use super::steps::{Counts, Step, assert_census, assert_same, traced};
+use super::{eight, reg, setup, start_of};
 use std::alloc::Global;
 use std::process::Abort;
 use std::sync::Wait;
 use strm_pool::{Call, Pool, Refusal, Regs, Reply};
-use strm_shared::{Brand, Desk, Entry, Gathered, MOST_STAMP, Name, Start, Trace, TraceEntries};
+use strm_shared::{Entry, MOST_STAMP, MOST_WORKERS, Start, Trace, TraceEntries};
 
 // Starts sharing a pool of eight message blocks, with this number of desks, greatest number of entries, and first stamp.
 pub(super) fn kept(
@@ -21,6 +19,29 @@ pub(super) fn kept(
     start_of(rt, alloc, eight(rt, alloc, 7), setup)
 }
 
+// The registers of a desk in a replay. They may be dropped, as elements of a `Vec` must.
+struct Registers {
+    regs: Regs,
+}
+
+impl Drop for Registers {
+    fn drop(self) {
+        let Registers { regs } = self;
+        regs.forget();
+    }
+}
+
+// The registers of each desk that there may be, all empty.
+fn empty_desks(rt: &impl Abort, alloc: Global) -> Vec<Registers> {
+    let mut desks = Vec::new(alloc);
+    for _ in 0..MOST_WORKERS {
+        desks
+            .push(Registers { regs: Regs::new() })
+            .expect(rt, "memory");
+    }
+    desks
+}
+
 // Makes the call of an entry again, which must have the same reply.
 fn replay(rt: &impl Abort, pool: &mut Pool, regs: &mut Regs, entry: &Entry) {
     assert!(rt; pool.owns(regs));
@@ -28,33 +49,38 @@ fn replay(rt: &impl Abort, pool: &mut Pool, regs: &mut Regs, entry: &Entry) {
     assert!(rt; reply == entry.reply);
 }
 
-// Makes the calls of these entries again, each on the registers of its desk, of three. After the registers are drained, `free`
-// message blocks are free, and no others are left.
-pub(super) fn assert_replayed(rt: &impl Abort, mut pool: Pool, entries: &[Entry], free: u32) {
-    let (mut zero, mut one, mut two) = (Regs::new(), Regs::new(), Regs::new());
+// Makes the calls of these entries again, each on the registers of its desk.
+fn replay_all(rt: &impl Abort, pool: &mut Pool, desks: &mut [Registers], entries: &[Entry]) {
     for entry in entries {
-        match entry.desk {
-            0 => replay(rt, &mut pool, &mut zero, entry),
-            1 => replay(rt, &mut pool, &mut one, entry),
-            2 => replay(rt, &mut pool, &mut two, entry),
-            _ => panic!(rt; "no such desk"),
-        }
+        let place = usize::from(entry.desk);
+        assert!(rt; place < desks.len());
+        replay(rt, pool, &mut desks[place].regs, entry);
     }
-    pool.drain(zero);
-    pool.drain(one);
-    pool.drain(two);
-    assert_census(rt, &pool, (free, 0, 0));
+}
+
+// Makes the calls of these entries again, on one thread, which must have the same replies, and leave these numbers of message
+// blocks.
+pub(super) fn assert_replayed(
+    rt: &impl Abort,
+    alloc: Global,
+    mut pool: Pool,
+    entries: &[Entry],
+    counts: Counts,
+) {
+    let mut desks = empty_desks(rt, alloc);
+    replay_all(rt, &mut pool, desks.as_mut_slice(), entries);
+    assert_census(rt, &pool, counts);
 }
 
 // The trace has this number of entries.
 pub(super) fn assert_len(rt: &impl Abort, trace: &TraceEntries, count: usize) {
-    assert_eq!(rt; trace.items().len(), count);
+    assert_same(rt, trace.items().len() as u64, count as u64);
 }
 
 // The entry has this text.
 fn expect_entry(rt: &(impl Abort + AllocGlobal), entry: &Entry, wanted: &str) {
     let found = format!(in rt.alloc(); "{entry:?}").expect(rt, "memory");
-    assert_eq!(rt; found.as_str(), wanted);
+    assert!(rt; found.as_str() == wanted);
 }
 
 // The entries have these texts.
@@ -83,6 +109,7 @@ fn trace_of(
     trace
 }
 
+// A message goes from one desk to the other over the queue, and is held at the end. Each desk is served two calls.
 #[test]
 fn a_trace_by_turns(rt: HostRuntime) {
     let a = reg(&rt, b'a');
@@ -91,8 +118,11 @@ fn a_trace_by_turns(rt: HostRuntime) {
         (1, Step::Serve(Call::Getq(0, a), Reply::Nothing)),
         (0, Step::Serve(Call::Putq(0, a), Reply::Done)),
         (1, Step::Serve(Call::Getq(0, a), Reply::Done)),
+        (0, Step::Stand(3, 2)),
+        (1, Step::Stand(4, 2)),
+        (1, Step::Look(4, (7, 0, 1))),
     ];
-    let trace = by_turns::<Brand, _>(&rt, kept(&rt, rt.alloc(), 2, 4, 0), &rows);
+    let trace = trace_of(&rt, kept(&rt, rt.alloc(), 2, 4, 0), &rows, 2, 4);
     let wanted = [
         "Entry { desk: 0, line: 1, call: Allocb(Reg { place: 0 }, 1), reply: Done }",
         "Entry { desk: 1, line: 2, call: Getq(0, Reg { place: 0 }), reply: Nothing }",
@@ -100,31 +130,6 @@ fn a_trace_by_turns(rt: HostRuntime) {
         "Entry { desk: 1, line: 4, call: Getq(0, Reg { place: 0 }), reply: Done }",
     ];
     expect_entries(&rt, &trace, &wanted);
-}
-
-// A message goes from one desk to the other over the queue, and is held at the end. Each desk is served two calls.
-fn by_turns<N: Name, R: Wait + Abort>(rt: &R, start: Start, rows: &[(u8, Step)]) -> TraceEntries
-    requires { IsNameOf N.Name start }
-{
-    let Gathered {
-        pool,
-        trace,
-        mut desks,
-    } = gathered(rt, played::<N, R>(rt, start, rows));
-    assert_census(rt, &pool, (7, 0, 1));
-    let one = spent(rt, last(rt, &mut desks, 1));
-    spent(rt, last(rt, &mut desks, 0)).forget();
-    desks.forget();
-    assert!(rt; one.holds(reg(rt, b'a')));
-    one.forget();
-    trace
-}
-
-// Returns the registers of a desk that has seen stamp 4 and was served two calls.
-fn spent<N: Name>(rt: &impl Abort, desk: Desk<N>) -> Regs {
-    assert_seen(rt, &desk, 4);
-    assert_calls(rt, &desk, 2);
-    desk.into_regs()
 }
 
 // A call that is refused, one with an empty source, and one with a taken destination are entries as all others are.

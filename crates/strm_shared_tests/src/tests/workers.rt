@@ -1,12 +1,10 @@
 //! Workers on their own threads, next to each other and to a monitor.
 ghost use Rattle.strm_shared.specs.Starts.{IsNameOf};
 
-use super::steps::{Step, assert_census, take_steps};
-use super::traces::{assert_len, assert_replayed, kept};
-use super::{
-    drained, eight, emptied, gathered, last, opened, push, reg, setup, start, start_of, take_last,
-    ungathered,
-};
+use super::crews::{Left, assert_done, crew, parts_on_a, ran};
+use super::steps::{Step, assert_census, assert_counts, assert_same, take_steps};
+use super::traces::{assert_len, assert_replayed, expect_entries, kept};
+use super::{drained, eight, end, last, opened, push, reg, setup, start_of, ungathered};
 use std::alloc::{AllocError, Global};
 use std::process::Abort;
 use std::sync::Wait;
@@ -15,8 +13,8 @@ use std::thread::Threads;
 use std::{mem, thread};
 use strm_pool::{Call, Census, Pool, Refusal, Reg, Reply};
 use strm_shared::{
-    Brand, Desk, Desks, End, Entry, Gate, Gathered, Line, Lines, MOST_STAMP, Name, OpenGate,
-    Outcome, Parts, Replies, Shared, Start, Trace, TraceEntries, run_workers,
+    Brand, Desk, Desks, End, Entry, Gate, Line, Lines, MOST_STAMP, Name, OpenGate, Outcome, Parts,
+    Replies, Shared, Start, Trace, TraceEntries,
 };
 
 // The greatest number of turns that a worker waits and a monitor looks.
@@ -37,7 +35,11 @@ pub(super) fn comes(flags: &AtomicU32, bits: u32) -> bool {
 
 // The number is this count.
 pub(super) fn assert_count(rt: &impl Abort, number: &AtomicU32, count: u32) {
-    assert_eq!(rt; number.load(Ordering::SeqCst), count);
+    assert_same(
+        rt,
+        u64::from(number.load(Ordering::SeqCst)),
+        u64::from(count),
+    );
 }
 
 // A gate at which two workers of two lines each wait for each other. It notes which lines came and were served, one digit of
@@ -168,57 +170,11 @@ pub(super) fn lines(alloc: Global, reg: Reg, rounds: u32) -> Result<Lines, Alloc
     Ok(Lines::of(list))
 }
 
-// Such rounds for each of these workers.
-fn parts(alloc: Global, reg: Reg, workers: usize, rounds: u32) -> Result<Parts, AllocError> {
-    let mut list = Vec::new(alloc);
-    for _ in 0..workers {
-        list.push(lines(alloc, reg, rounds)?)?;
-    }
-    Ok(Parts::of(list))
-}
-
-// Such rounds on register a.
-pub(super) fn parts_on_a(rt: &impl Abort, alloc: Global, workers: usize, rounds: u32) -> Parts {
-    parts(alloc, reg(rt, b'a'), workers, rounds).expect(rt, "memory")
-}
-
-// All lines of a worker have the reply `Done`.
-fn assert_done(rt: &impl Abort, replies: &Replies, count: usize) {
-    let replies = replies.items();
-    assert_eq!(rt; replies.len(), count);
-    assert!(rt; replies.iter().all(|reply| *reply == Reply::Done));
-}
-
-// The desks of workers whose lines all have the reply `Done`.
-pub(super) fn all_done<N: Name>(rt: &impl Abort, outcome: Outcome<N>, count: usize) -> Desks<N> {
-    let Outcome {
-        desks,
-        replies,
-        ends,
-    } = outcome;
-    assert!(rt; ends.items().iter().all(|end| *end == End::Done));
-    for given in replies.items() {
-        assert_done(rt, given, count);
-    }
-    desks
-}
-
-// Runs workers, each on the desk at its place, and returns the outcome.
-pub(super) fn ran<N: Name + Send + Sync, R: Threads + Wait + Abort + Sync, G: Gate>(
-    rt: &R,
-    alloc: Global,
-    shared: &Shared<N>,
-    desks: Desks<N>,
-    parts: &Parts,
-    gate: &G,
-) -> Outcome<N> {
-    assert!(rt; parts.items().len() == desks.len());
-    match run_workers(rt, alloc, shared, desks, parts, gate) {
-        Ok(outcome) => outcome,
-        Err((_, desks)) => {
-            desks.forget();
-            panic!(rt; "out of memory")
-        }
+// Each of these workers has the reply `Done` to all its lines, this number of them.
+pub(super) fn assert_all_done(rt: &impl Abort, replies: &[Replies], count: usize) {
+    for given in replies {
+        assert!(rt; given.items().len() == count);
+        assert!(rt; given.items().iter().all(|reply| *reply == Reply::Done));
     }
 }
 
@@ -232,62 +188,38 @@ pub(super) fn small(rt: &impl Abort, alloc: Global, desks: u8, trace: Trace) -> 
     start_of(rt, alloc, four(rt, alloc), setup(desks, trace, 0))
 }
 
-// The trace after at most two workers had these rounds served at the small pool. One more desk is a monitor's, which looks
-// after they ended.
-fn work<N: Name + Send + Sync, R: Threads + Wait + Abort + Sync, G: Gate>(
-    rt: &R,
-    alloc: Global,
-    start: Start,
-    gate: &G,
-    rounds: u32,
-) -> TraceEntries
-    requires { IsNameOf N.Name start }
-{
-    let (shared, mut desks) = start.open::<N>();
-    let monitor = take_last(rt, &mut desks);
-    let parts = parts_on_a(rt, alloc, desks.len(), rounds);
-    let outcome = ran(rt, alloc, &shared, desks, &parts, gate);
-    after_work(rt, shared, monitor, outcome, rounds)
+// All four lines came to the gate, and were served after that. Nobody waited in vain.
+fn assert_met(rt: &impl Abort, gate: &Meeting) {
+    assert_count(rt, &gate.missed, 0);
+    assert_count(rt, &gate.early, 0);
+    assert_count(rt, &gate.came, ALL);
+    assert_count(rt, &gate.answered, ALL);
 }
 
-// The trace after all workers ended. No desks can be gathered without the monitor's, which then sees what the workers left.
-fn after_work<N: Name, R: Wait + Abort>(
-    rt: &R,
-    shared: Shared<N>,
-    monitor: Desk<N>,
-    outcome: Outcome<N>,
-    rounds: u32,
-) -> TraceEntries {
-    let lines = u64::from(rounds).wrapping_mul(2);
-    let desks = all_done(rt, outcome, lines as usize);
-    let count = desks.len();
-    let stamp = lines.wrapping_mul(count as u64);
-    let (shared, mut desks) = ungathered(rt, shared, desks, count);
-    let number = monitor.number();
-    push(rt, &mut desks, monitor);
-    let (free, queued, held) = (4, 0, 0);
-    let census = Reply::Census(Census { free, queued, held });
-    let rows = [
-        (number, Step::Look(stamp, (free, queued, held))),
-        (number, Step::Serve(Call::Census, census)),
-    ];
-    take_steps(rt, &shared, &mut desks, &rows);
-    let gathering = shared.gather(desks);
-    let (pool, trace) = drained(rt, gathering, count.wrapping_add(1), stamp.wrapping_add(1));
-    assert_census(rt, &pool, (4, 0, 0));
-    trace
+// Two workers have two lines each served at the same time, with or without replies.
+pub(super) fn meet<R: Threads + Wait + Abort + Sync>(rt: &R, alloc: Global, keeps: bool) -> Left {
+    let gate = Meeting::new();
+    let two = small(rt, alloc, 2, Trace::Keep(4));
+    let left = crew(
+        rt,
+        alloc,
+        two,
+        &parts_on_a(rt, alloc, &[1, 1]),
+        &gate,
+        keeps,
+        4,
+    );
+    assert_met(rt, &gate);
+    assert_done(rt, &left, 2, 4);
+    assert_small_trace(rt, alloc, left.trace.items(), 2, 4);
+    left
 }
 
 #[test]
 fn two_threads_at_once(rt: HostRuntime) {
-    let gate = Meeting::new();
-    let three = small(&rt, rt.alloc(), 3, Trace::Keep(5));
-    let trace = work::<Brand, _, _>(&rt, rt.alloc(), three, &gate, 1);
-    assert_small_trace(&rt, rt.alloc(), trace.items(), 2);
-    assert_count(&rt, &gate.missed, 0);
-    assert_count(&rt, &gate.early, 0);
-    assert_count(&rt, &gate.came, ALL);
-    assert_count(&rt, &gate.answered, ALL);
+    let left = meet(&rt, rt.alloc(), true);
+    assert!(&rt; left.replies.items().len() == 2);
+    assert_all_done(&rt, left.replies.items(), 2);
 }
 
 #[test]
@@ -305,18 +237,16 @@ pub(super) fn assert_lines(rt: &impl Abort, entries: &[Entry], worker: u8, count
             next = next.wrapping_add(1);
         }
     }
-    assert_eq!(rt; next, count);
+    assert!(rt; next == count);
 }
 
-// The trace has these lines of each of two workers and the monitor's one call. A pool like theirs gives the same replies to it.
-fn assert_small_trace(rt: &impl Abort, alloc: Global, entries: &[Entry], lines: u32) {
+// The trace has this number of entries, with these lines of each of two workers. A pool like theirs gives the same replies to
+// it.
+fn assert_small_trace(rt: &impl Abort, alloc: Global, entries: &[Entry], lines: u32, count: usize) {
     assert_lines(rt, entries, 0, lines);
     assert_lines(rt, entries, 1, lines);
-    assert_eq!(rt;
-        entries.len(),
-        (lines as usize).wrapping_mul(2).wrapping_add(1)
-    );
-    assert_replayed(rt, four(rt, alloc), entries, 4);
+    assert!(rt; entries.len() == count);
+    assert_replayed(rt, alloc, four(rt, alloc), entries, (4, 0, 0));
 }
 
 // Two workers of 500 rounds each, while a monitor on its own thread looks until they have ended. A closure owns only values
@@ -330,7 +260,7 @@ fn watched<N: Name + Send + Sync, R: Threads + Wait + Abort + Sync>(
 {
     let (shared, mut desks) = start.open::<N>();
     let mut monitor = last(rt, &mut desks, 2);
-    let parts = parts_on_a(rt, alloc, desks.len(), 500);
+    let parts = parts_on_a(rt, alloc, &[500, 500]);
     let gate = Watch::new(999);
     let (in_time, outcome) = thread::join(
         rt,
@@ -343,8 +273,36 @@ fn watched<N: Name + Send + Sync, R: Threads + Wait + Abort + Sync>(
     desks.forget();
     assert!(rt; in_time);
     assert_count(rt, &gate.missed, 0);
-    let trace = after_work(rt, shared, monitor, outcome, 500);
-    assert_small_trace(rt, alloc, trace.items(), 1000);
+    after_work(rt, alloc, shared, monitor, outcome);
+}
+
+// All workers are done. No desks can be gathered without the monitor's, which then sees what the workers left.
+fn after_work<N: Name>(
+    rt: &(impl Wait + Abort),
+    alloc: Global,
+    shared: Shared<N>,
+    monitor: Desk<N>,
+    outcome: Outcome<N>,
+) {
+    let Outcome {
+        desks,
+        replies,
+        ends,
+    } = outcome;
+    assert!(rt; ends.items() == [End::Done, End::Done].as_slice());
+    assert_all_done(rt, replies.items(), 1000);
+    let (shared, mut desks) = ungathered(rt, shared, desks, 2);
+    push(rt, &mut desks, monitor);
+    let (free, queued, held) = (4, 0, 0);
+    let census = Reply::Census(Census { free, queued, held });
+    let rows = [
+        (2, Step::Look(2000, (free, queued, held))),
+        (2, Step::Serve(Call::Census, census)),
+    ];
+    take_steps(rt, &shared, &mut desks, &rows);
+    let (pool, trace) = drained(rt, end(rt, shared, desks), 3, 2001);
+    assert_census(rt, &pool, (4, 0, 0));
+    assert_small_trace(rt, alloc, trace.items(), 1000, 2001);
 }
 
 // The number of message blocks that a census counts.
@@ -378,16 +336,12 @@ fn monitored<N: Name>(
 
 #[test]
 fn one_worker_of_many_lines(rt: HostRuntime) {
-    let one = small(&rt, rt.alloc(), 2, Trace::Off);
-    let trace = work::<Brand, _, _>(&rt, rt.alloc(), one, &OpenGate, 1500);
-    assert!(rt; trace.items().is_empty());
-}
-
-#[test]
-fn a_full_trace(rt: HostRuntime) {
-    let trace = full::<Brand, _>(&rt, rt.alloc(), kept(&rt, rt.alloc(), 2, 3, 0));
-    assert_len(&rt, &trace, 3);
-    assert_replayed(&rt, eight(&rt, rt.alloc(), 7), trace.items(), 8);
+    let one = small(&rt, rt.alloc(), 1, Trace::Off);
+    let parts = parts_on_a(&rt, rt.alloc(), &[1500]);
+    let left = crew(&rt, rt.alloc(), one, &parts, &OpenGate, true, 3000);
+    assert_done(&rt, &left, 1, 4);
+    assert_all_done(&rt, left.replies.items(), 3000);
+    assert!(rt; left.trace.items().is_empty());
 }
 
 // One of the two workers is done, and the other is refused as `TraceFull`.
@@ -397,63 +351,44 @@ fn assert_one_refused(rt: &impl Abort, ends: &[End]) {
 }
 
 // Of two workers of two lines each one is done. The other is refused at its second line, and then holds a message.
-fn full<N: Name + Send + Sync, R: Threads + Wait + Abort + Sync>(
-    rt: &R,
-    alloc: Global,
-    start: Start,
-) -> TraceEntries
-    requires { IsNameOf N.Name start }
-{
-    let (shared, desks) = start.open::<N>();
-    let parts = parts_on_a(rt, alloc, desks.len(), 1);
-    let Outcome {
-        desks,
-        replies: _,
-        ends,
-    } = ran(rt, alloc, &shared, desks, &parts, &OpenGate);
-    assert_one_refused(rt, ends.items());
-    let Gathered { pool, trace, desks } = gathered(rt, shared.gather(desks));
-    desks.forget();
-    assert_census(rt, &pool, (7, 0, 1));
-    trace
-}
-
 #[test]
-fn replies_in_order(rt: HostRuntime) {
-    let early = start(&rt, rt.alloc(), 7, 1, 0);
-    unlike::<Brand, _>(&rt, rt.alloc(), early, 4, 4, End::Done);
-    let late = start(&rt, rt.alloc(), 7, 1, MOST_STAMP - 3);
-    let end = End::Refused(Refusal::Worn);
-    unlike::<Brand, _>(&rt, rt.alloc(), late, 3, MOST_STAMP, end);
+fn a_full_trace(rt: HostRuntime) {
+    let two = kept(&rt, rt.alloc(), 2, 3, 0);
+    let parts = parts_on_a(&rt, rt.alloc(), &[1, 1]);
+    let left = crew(&rt, rt.alloc(), two, &parts, &OpenGate, true, 3);
+    assert_one_refused(&rt, left.ends.items());
+    assert!(rt; left.held == 1);
+    assert_len(&rt, &left.trace, 3);
+    let pool = eight(&rt, rt.alloc(), 7);
+    assert_replayed(&rt, rt.alloc(), pool, left.trace.items(), (7, 0, 1));
 }
 
-// One worker has four lines with four kinds of replies. This number of them is served, up to this stamp, and the worker ends
-// so.
-fn unlike<N: Name + Send + Sync, R: Threads + Wait + Abort + Sync>(
+// Two runs of one worker of four lines: the first stamp, how the worker ends, and how many lines are served. In the second the last
+// stamp comes before the last line.
+pub(super) const RUNS: [(u64, End, usize); 2] = [
+    (0, End::Done, 4),
+    (MOST_STAMP - 3, End::Refused(Refusal::Worn), 3),
+];
+
+// What one worker leaves in such a run. Its lines have four kinds of replies.
+pub(super) fn unlike<R: Threads + Wait + Abort + Sync>(
     rt: &R,
     alloc: Global,
-    start: Start,
-    count: usize,
-    stamp: u64,
-    end: End,
-)
-    requires { IsNameOf N.Name start }
-{
-    let (shared, desks) = start.open::<N>();
+    run: (u64, End, usize),
+    keeps: bool,
+) -> Left {
+    let (first, end, count) = run;
+    let start = kept(rt, alloc, 1, 4, first);
     let parts = one_part(alloc, reg(rt, b'a')).expect(rt, "memory");
-    let Outcome {
-        desks,
-        replies,
-        ends,
-    } = ran(rt, alloc, &shared, desks, &parts, &OpenGate);
-    assert!(rt; ends.items() == [end].as_slice());
-    assert_unlike(rt, replies.items(), count);
-    let pool = emptied(rt, shared.gather(desks), 1, stamp);
-    assert_census(rt, &pool, (8, 0, 0));
+    let stamp = first.wrapping_add(count as u64);
+    let left = crew(rt, alloc, start, &parts, &OpenGate, keeps, stamp);
+    assert!(rt; left.ends.items() == [end].as_slice());
+    assert_counts(rt, left.census, (8, 0, 0));
+    left
 }
 
 // The lines of one worker, with four kinds of replies.
-pub(super) fn one_part(alloc: Global, reg: Reg) -> Result<Parts, AllocError> {
+fn one_part(alloc: Global, reg: Reg) -> Result<Parts, AllocError> {
     let calls = [
         Call::Allocb(reg, 3),
         Call::Allocb(reg, 3),
@@ -469,6 +404,20 @@ pub(super) fn one_part(alloc: Global, reg: Reg) -> Result<Parts, AllocError> {
     Ok(Parts::of(list))
 }
 
+// The entries of a trace of all four lines.
+const ENTRIES: [&str; 4] = [
+    "Entry { desk: 0, line: 1, call: Allocb(Reg { place: 0 }, 3), reply: Done }",
+    "Entry { desk: 0, line: 1, call: Allocb(Reg { place: 0 }, 3), reply: Taken }",
+    "Entry { desk: 0, line: 1, call: Msgdsize(Reg { place: 0 }), reply: Size(0) }",
+    "Entry { desk: 0, line: 1, call: Qsize(9), reply: Refused(NoSuchQueue) }",
+];
+
+// The trace has the first `count` of these entries.
+pub(super) fn expect_first(rt: &(impl Abort + AllocGlobal), trace: &TraceEntries, count: usize) {
+    assert!(rt; count <= ENTRIES.len());
+    expect_entries(rt, trace, &ENTRIES[..count]);
+}
+
 // The one worker has the first `count` of these replies.
 fn assert_unlike(rt: &impl Abort, replies: &[Replies], count: usize) {
     let wanted = [
@@ -477,6 +426,15 @@ fn assert_unlike(rt: &impl Abort, replies: &[Replies], count: usize) {
         Reply::Size(0),
         Reply::Refused(Refusal::NoSuchQueue),
     ];
-    assert_eq!(rt; replies.len(), 1);
+    assert!(rt; replies.len() == 1);
     assert!(rt; count <= wanted.len() && replies[0].items() == &wanted[..count]);
+}
+
+#[test]
+fn replies_in_order(rt: HostRuntime) {
+    for run in RUNS {
+        let left = unlike(&rt, rt.alloc(), run, true);
+        assert_unlike(&rt, left.replies.items(), run.2);
+        expect_first(&rt, &left.trace, run.2);
+    }
 }

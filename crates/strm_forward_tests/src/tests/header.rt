@@ -1,9 +1,6 @@
-ghost use Rattle.std.specs.Prelude.{IsTrue};
-ghost use Rattle.strm_mblk.specs.Arena.{has};
-
 use super::{assert_census, opened};
-use crate::{HeaderFault, Outcome, age_header, hop};
 use std::process::Abort;
+use strm_forward::{HeaderFault, Outcome, age_header, hop};
 use strm_pool::{Pool, Token};
 
 // A header of a packet with 115 bytes, and with time to live 64. Its checksum is B861.
@@ -60,10 +57,16 @@ fn header(identification: u8, time: u8) -> [u8; 20] {
     header
 }
 
+// What came of a hop.
+#[derive(Clone, Copy, PartialEq, Eq)]
+enum End {
+    GoesOn,
+    Dropped(HeaderFault),
+    Refused,
+}
+
 // A message of one block with these bytes.
-fn message(rt: &impl Abort, pool: &mut Pool, bytes: &[u8]) -> Token
-    ensures { IsTrue (has pool.new.arena result) }
-{
+fn message(rt: &impl Abort, pool: &mut Pool, bytes: &[u8]) -> Token {
     let Ok(token) = pool.allocb(64) else {
         panic!(rt; "no message")
     };
@@ -82,29 +85,44 @@ fn assert_wrong(rt: &impl Abort, bytes: &[u8; 20], count: usize, wanted: HeaderF
     assert!(rt; own == *bytes);
 }
 
-// Fails: the outcome is another one than the test wants.
-fn wrong(rt: &impl Abort, pool: &mut Pool, outcome: Outcome) -> Token
-    ensures { IsTrue (has pool.new.arena result) }
-{
-    match outcome {
-        Outcome::GoesOn(token) | Outcome::Refused(token) => pool.freemsg(token),
-        Outcome::Dropped(_) => (),
+// Has a message make a hop. Says what came of it, and returns the message unless it was dropped.
+fn hopped(rt: &impl Abort, pool: &mut Pool, token: Token) -> (End, Option<Token>) {
+    assert!(rt; pool.has(&token));
+    match hop(pool, token) {
+        Outcome::GoesOn(token) => (End::GoesOn, Some(token)),
+        Outcome::Dropped(why) => (End::Dropped(why), None),
+        Outcome::Refused(token) => (End::Refused, Some(token)),
     }
-    panic!(rt; "another outcome")
 }
 
-// The message makes the hop, and has these bytes then.
-fn assert_goes_on(rt: &impl Abort, pool: &mut Pool, token: Token, wanted: &[u8])
-    requires { IsTrue (has pool.old.arena token) }
-{
-    let token = match hop(pool, token) {
-        Outcome::GoesOn(token) => token,
-        other => wrong(rt, pool, other),
-    };
+// The message has these bytes. It is freed.
+fn assert_bytes(rt: &impl Abort, pool: &mut Pool, token: Token, wanted: &[u8]) {
+    assert!(rt; pool.has(&token));
     let mut bytes = [0; 64];
     let count = pool.read(&token, 0, &mut bytes);
-    assert!(rt; &bytes[..(count as usize).min(64)] == wanted);
+    assert!(rt; &bytes[..count.min(64)] == wanted);
     pool.freemsg(token);
+}
+
+// This comes of a message's hop. Unless it is dropped, the message has these bytes then, and is freed.
+fn assert_hop(rt: &impl Abort, pool: &mut Pool, token: Token, end: End, wanted: &[u8]) {
+    let (found, left) = hopped(rt, pool, token);
+    assert!(rt; found == end);
+    if let Some(token) = left {
+        assert_bytes(rt, pool, token, wanted);
+    }
+}
+
+// A message with the same data block, and one with a copy of it.
+fn twins(rt: &impl Abort, pool: &mut Pool, token: &Token) -> (Token, Token) {
+    assert!(rt; pool.has(token));
+    let Ok(duplicate) = pool.dupmsg(token) else {
+        panic!(rt; "no duplicate")
+    };
+    let Ok(copy) = pool.copymsg(token) else {
+        panic!(rt; "no copy")
+    };
+    (duplicate, copy)
 }
 
 #[test]
@@ -136,54 +154,49 @@ fn tells_what_is_wrong(rt: HostRuntime) {
     assert_wrong(&rt, &PAST, 20, HeaderFault::Expired);
 }
 
+// A message with bytes after its header makes a hop.
+fn assert_hops(rt: &impl Abort, pool: &mut Pool) {
+    let mut bytes = [0; 24];
+    bytes[..20].copy_from_slice(&HEADER);
+    bytes[20..].copy_from_slice(b"data");
+    let token = message(rt, pool, &bytes);
+    bytes[..20].copy_from_slice(&LATER);
+    assert_hop(rt, pool, token, End::GoesOn, &bytes);
+    assert_census(rt, pool, (8, 0, 0));
+}
+
+// A message of these bytes is dropped, for this reason.
+fn assert_dropped(rt: &impl Abort, pool: &mut Pool, bytes: &[u8], why: HeaderFault) {
+    let token = message(rt, pool, bytes);
+    assert_hop(rt, pool, token, End::Dropped(why), &[]);
+    assert_census(rt, pool, (8, 0, 0));
+}
+
+// While two messages share the bytes, neither makes the hop. A copy does, and so does the last message that has them.
+fn assert_shared(rt: &impl Abort, pool: &mut Pool) {
+    let token = message(rt, pool, &HEADER);
+    let (duplicate, copy) = twins(rt, pool, &token);
+    assert_hop(rt, pool, copy, End::GoesOn, &LATER);
+    assert_hop(rt, pool, token, End::Refused, &HEADER);
+    assert_hop(rt, pool, duplicate, End::GoesOn, &LATER);
+    assert_census(rt, pool, (8, 0, 0));
+}
+
 #[test]
 fn makes_a_hop(rt: HostRuntime) {
     let mut pool = opened(rt.alloc()).expect(&rt, "a pool");
-    let token = message(&rt, &mut pool, &HEADER);
-    assert!(rt; pool.write(&token, 0, b"data") == Ok(()));
-    let mut wanted = [0; 24];
-    wanted[..20].copy_from_slice(&LATER);
-    wanted[20..].copy_from_slice(b"data");
-    assert_goes_on(&rt, &mut pool, token, &wanted);
-    assert_census(&rt, &pool, (8, 0, 0));
+    assert_hops(&rt, &mut pool);
 }
 
 #[test]
 fn drops_wrong_messages(rt: HostRuntime) {
     let mut pool = opened(rt.alloc()).expect(&rt, "a pool");
-    for (bytes, wanted) in [
-        (b"short".as_slice(), HeaderFault::TooShort),
-        (LAST.as_slice(), HeaderFault::Expired),
-    ] {
-        let token = message(&rt, &mut pool, bytes);
-        match hop(&mut pool, token) {
-            Outcome::Dropped(why) => assert!(rt; why == wanted),
-            other => {
-                let token = wrong(&rt, &mut pool, other);
-                pool.freemsg(token);
-            }
-        }
-        assert_census(&rt, &pool, (8, 0, 0));
-    }
+    assert_dropped(&rt, &mut pool, b"short", HeaderFault::TooShort);
+    assert_dropped(&rt, &mut pool, &LAST, HeaderFault::Expired);
 }
 
 #[test]
 fn refuses_shared_bytes(rt: HostRuntime) {
     let mut pool = opened(rt.alloc()).expect(&rt, "a pool");
-    let token = message(&rt, &mut pool, &HEADER);
-    let Ok(duplicate) = pool.dupmsg(&token) else {
-        panic!(rt; "no duplicate")
-    };
-    let token = match hop(&mut pool, token) {
-        Outcome::Refused(token) => token,
-        other => wrong(&rt, &mut pool, other),
-    };
-    let Ok(copy) = pool.copymsg(&token) else {
-        panic!(rt; "no copy")
-    };
-    assert_goes_on(&rt, &mut pool, copy, &LATER);
-    pool.freemsg(token);
-    assert!(rt; pool.has(&duplicate));
-    assert_goes_on(&rt, &mut pool, duplicate, &LATER);
-    assert_census(&rt, &pool, (8, 0, 0));
+    assert_shared(&rt, &mut pool);
 }

@@ -3,10 +3,10 @@ mod header;
 ghost use Rattle.std.specs.Prelude.{IsTrue};
 ghost use Rattle.strm_mblk.specs.Arena.{has};
 
-use crate::forward;
 use arrayvec::ArrayVec;
 use std::alloc::Global;
 use std::process::Abort;
+use strm_forward::forward;
 use strm_pool::{
     ClassSpec, ClassSpecs, Config, MsgType, NewFault, Pool, QueueSpec, QueueSpecs, Refusal,
     Rejected, Token,
@@ -65,7 +65,7 @@ fn post(pool: &mut Pool, queue: u8, kind: MsgType, bytes: &[u8]) -> Result<(), R
     }
 }
 
-// Takes the first message of a queue, frees it, and returns its first byte.
+// Takes the first message off a queue, frees it, and returns its first byte.
 fn taken(rt: &impl Abort, pool: &mut Pool, queue: u8) -> u8 {
     let Ok(Some(token)) = pool.getq(queue) else {
         panic!(rt; "no message")
@@ -76,25 +76,44 @@ fn taken(rt: &impl Abort, pool: &mut Pool, queue: u8) -> u8 {
     bytes[0]
 }
 
-// This message can be put on the queue.
-fn assert_posted(rt: &impl Abort, pool: &mut Pool, queue: u8, kind: MsgType, bytes: &[u8]) {
-    assert!(rt; post(pool, queue, kind, bytes) == Ok(()));
+// A call, and what it has to return.
+#[derive(Clone, Copy)]
+enum Row {
+    // Puts a message of this type and these bytes on queue 0.
+    Put(MsgType, [u8; 4]),
+    // `forward` from one queue to another returns this.
+    Forward(u8, u8, Result<u32, Refusal>),
+    // `next_service` takes this queue, or none.
+    Next(Option<u8>),
+    // The first message of queue 1 is taken off; its first byte is this.
+    Take(u8),
+}
+
+// A message of this type and these bytes can be put on queue 0.
+fn assert_posted(rt: &impl Abort, pool: &mut Pool, kind: MsgType, bytes: &[u8; 4]) {
+    assert!(rt; post(pool, 0, kind, bytes) == Ok(()));
 }
 
 // `forward` from one queue to another returns this.
 fn assert_forwarded(
     rt: &impl Abort,
     pool: &mut Pool,
-    queues: (u8, u8),
+    from: u8,
+    to: u8,
     wanted: Result<u32, Refusal>,
 ) {
-    assert!(rt; queues.0 != queues.1);
-    assert!(rt; forward(pool, queues.0, queues.1) == wanted);
+    assert!(rt; from != to);
+    assert!(rt; forward(pool, from, to) == wanted);
 }
 
-// `next_service` takes this queue, or none.
-fn assert_next(rt: &impl Abort, pool: &mut Pool, wanted: Option<u8>) {
-    assert!(rt; pool.next_service() == wanted);
+// The call of a row returns what it has to.
+fn assert_row(rt: &impl Abort, pool: &mut Pool, row: &Row) {
+    match row {
+        Row::Put(kind, bytes) => assert_posted(rt, pool, *kind, bytes),
+        Row::Forward(from, to, wanted) => assert_forwarded(rt, pool, *from, *to, *wanted),
+        Row::Next(wanted) => assert!(rt; pool.next_service() == *wanted),
+        Row::Take(wanted) => assert!(rt; taken(rt, pool, 1) == *wanted),
+    }
 }
 
 // The census is this: free, queued and held message blocks.
@@ -103,34 +122,52 @@ fn assert_census(rt: &impl Abort, pool: &Pool, wanted: (u32, u32, u32)) {
     assert!(rt; (census.free, census.queued, census.held) == wanted);
 }
 
+// The calls of these rows return what they have to. Then the census is this.
+fn assert_each(rt: &impl Abort, pool: &mut Pool, rows: &[Row], census: (u32, u32, u32)) {
+    for row in rows {
+        assert_row(rt, pool, row);
+    }
+    assert_census(rt, pool, census);
+}
+
+// The same on a new pool.
+fn assert_rows(rt: &impl Abort, alloc: Global, rows: &[Row], census: (u32, u32, u32)) {
+    let mut pool = opened(alloc).expect(rt, "a pool");
+    assert_each(rt, &mut pool, rows, census);
+}
+
 // Three of four messages go; then queue 1 has 12 bytes, above its high water mark of 10. A high priority message goes before
 // the fourth all the same. Once queue 1 has at most 4 bytes, queue 0 is enabled again, and the fourth goes too.
 #[test]
 fn forwards_while_there_is_room(rt: HostRuntime) {
-    let mut pool = opened(rt.alloc()).expect(&rt, "a pool");
-    for bytes in [b"1...", b"2...", b"3...", b"4..."] {
-        assert_posted(&rt, &mut pool, 0, MsgType::MData, bytes);
-    }
-    assert_forwarded(&rt, &mut pool, (0, 1), Ok(3));
-    assert_posted(&rt, &mut pool, 0, MsgType::MPcproto, b"0...");
-    assert_forwarded(&rt, &mut pool, (0, 1), Ok(1));
-    for queue in [Some(0), Some(1)] {
-        assert_next(&rt, &mut pool, queue);
-    }
-    for byte in b"012" {
-        assert_next(&rt, &mut pool, None);
-        assert_eq!(rt; taken(&rt, &mut pool, 1), *byte);
-    }
-    assert_next(&rt, &mut pool, Some(0));
-    assert_forwarded(&rt, &mut pool, (0, 1), Ok(1));
-    assert_census(&rt, &pool, (6, 2, 0));
+    let rows = [
+        Row::Put(MsgType::MData, *b"1..."),
+        Row::Put(MsgType::MData, *b"2..."),
+        Row::Put(MsgType::MData, *b"3..."),
+        Row::Put(MsgType::MData, *b"4..."),
+        Row::Forward(0, 1, Ok(3)),
+        Row::Put(MsgType::MPcproto, *b"0..."),
+        Row::Forward(0, 1, Ok(1)),
+        Row::Next(Some(0)),
+        Row::Next(Some(1)),
+        Row::Next(None),
+        Row::Take(b'0'),
+        Row::Next(None),
+        Row::Take(b'1'),
+        Row::Next(None),
+        Row::Take(b'2'),
+        Row::Next(Some(0)),
+        Row::Forward(0, 1, Ok(1)),
+    ];
+    assert_rows(&rt, rt.alloc(), &rows, (6, 2, 0));
 }
 
 #[test]
 fn asks_for_both_queues(rt: HostRuntime) {
-    let mut pool = opened(rt.alloc()).expect(&rt, "a pool");
-    assert_posted(&rt, &mut pool, 0, MsgType::MData, b"1");
-    assert_forwarded(&rt, &mut pool, (2, 1), Err(Refusal::NoSuchQueue));
-    assert_forwarded(&rt, &mut pool, (0, 2), Err(Refusal::NoSuchQueue));
-    assert_census(&rt, &pool, (7, 1, 0));
+    let rows = [
+        Row::Put(MsgType::MData, *b"1..."),
+        Row::Forward(2, 1, Err(Refusal::NoSuchQueue)),
+        Row::Forward(0, 2, Err(Refusal::NoSuchQueue)),
+    ];
+    assert_rows(&rt, rt.alloc(), &rows, (7, 1, 0));
 }
