@@ -16,8 +16,10 @@ CRATE ?= strm_pool
 SCRIPT ?= examples/first_run.strm
 # Where `make dist` puts what it builds.
 DIST ?= dist
-# The prefix that the installed strm.pc names, and where zsh finds functions below share.
+# The prefix that the installed strm.pc names, the one that installed pages name, or nothing in an archive, and where zsh finds functions below
+# share.
 PC_PREFIX ?= $(PREFIX)
+PAGE_PREFIX ?= $(PC_PREFIX)
 ZSH ?= zsh/site-functions
 # The version, which the installed manuals name.
 VERSION := $(shell cat VERSION)
@@ -39,7 +41,7 @@ MODULES := $(shell cd tools && find strm_tools -name __pycache__ -prune -o -type
 # Stops make with one line if there is no `rt`.
 NEEDS_RT = $(if $(shell command -v rt 2>/dev/null),,$(error no rt on PATH, so nothing is proved or built; the archive of a release has strm and libstrm.a, and make install-tools installs the tools that need Python alone (README.md, "Without rt")))
 
-.PHONY: run try test cases planted edits lint soak field view-test pictures bench bench-lines bench-library bench-census bench-header bench-lock bench-c bench-peers strm install install-pages install-tools install-docs lib install-lib dist vendor
+.PHONY: run try test cases planted edits lint soak field view-test pictures bench bench-lines bench-library bench-batches bench-census bench-header bench-lock bench-c bench-peers strm install install-pages install-tools install-docs lib install-lib dist vendor
 
 # Runs examples/first_run.strm on the proved program.
 run: $(BUILT)
@@ -68,7 +70,7 @@ planted:
 # Tries the edits that the gate leaves out, and requires the prover to refuse each. CRATES names crates, if not all.
 edits:
 	$(NEEDS_RT)
-	@tests/more_edits $(CRATES)
+	@tests/edits $(CRATES)
 
 # Checks the shell scripts with shellcheck and the Python programs with a linter.
 lint:
@@ -93,9 +95,9 @@ pictures:
 	@tools/strm-view examples/recorded/ppp.strm examples/recorded/ppp.text --output docs/example.html
 	@for picture in docs/pictures/*.svg; do tools/strm-view $$(sed -n 's:^<desc>\(.*\)</desc>$$:\1:p' $$picture) --output $$picture || exit 1; done
 
-# Prints what a line, a call of the libraries, a look at the census, a header, a lock and a call from C cost. OPTIONS are those of all, as --write for
+# Prints what a line, a call of the libraries, one in a batch, a look at the census, a header, a lock and a call from C cost. OPTIONS are those of all, as --write for
 # docs/. With PEERS=1, also what bench-peers prints.
-bench: bench-lines bench-library bench-census bench-header bench-lock bench-c
+bench: bench-lines bench-library bench-batches bench-census bench-header bench-lock bench-c
 
 # Prints what a line and a call of each word cost. OPTIONS are those of bench/run.py, as --instructions, or --write for docs/.
 bench-lines: $(BUILT)
@@ -105,6 +107,10 @@ bench-lines: $(BUILT)
 # --write for docs/.
 bench-library: $(ROUNDS)
 	@python3 bench/library.py $(OPTIONS) $(ROUNDS)
+
+# Prints what calls at a shared pool cost in batches, on one thread and on four. OPTIONS are those of bench/batches.py, as --write for docs/.
+bench-batches: $(ROUNDS)
+	@python3 bench/batches.py $(OPTIONS) $(ROUNDS)
 
 # Prints what a look at the census without the lock costs, beside workers too. OPTIONS are those of bench/census.py.
 bench-census: $(BUILT)
@@ -161,8 +167,7 @@ install-tools: install-pages
 install-docs:
 	for file in $$(find examples -type f); do install -D -m 644 $$file $(SHARE)/doc/strm/$$file || exit; done
 	install -m 644 LICENSE $(SHARE)/doc/strm/LICENSE
-	install -m 644 docs/PACKAGE.md $(SHARE)/doc/strm/README.md
-	tools/doc_pages $(SHARE)/doc/strm
+	tools/doc_pages $(SHARE)/doc/strm $(PAGE_PREFIX)
 
 # Puts the library for C at build/libstrm.a, the shared library at build/libstrm.so, and the pkg-config file at build/strm.pc.
 lib: build/libstrm.a build/libstrm.so build/strm.pc

@@ -53,6 +53,14 @@ begin() {
     run_job $((${#begun[@]} - 1)) "$@" &
 }
 
+# Starts a job as soon as the process $1, which need not be a job, has ended.
+begin_after() {
+    local process=$1
+    shift
+    begun+=("$*")
+    { tail --pid="$process" -f /dev/null; run_job $((${#begun[@]} - 1)) "$@"; } &
+}
+
 # Takes the job with the number $1 for whoever calls first, and sets `words` to its command.
 take_job() {
     mkdir "$room/taken$1" 2>/dev/null && read -ra words <<<"${begun[$1]}"
