@@ -123,6 +123,8 @@ class LineFault(NamedTuple):
         """The fault as strm reports it."""
         return f"line {self.number}: {self.kind}"
 
+    told = reported
+
     def explained(self):
         """The fault as strm reports it, and which tool says what was expected."""
         return f"{self.reported()}; strm-check FILE says more"
@@ -193,8 +195,13 @@ class ConfigFault(NamedTuple):
         """The fault as strm reports it."""
         return f"bad config: {self.which}"
 
-    def explained(self):
+    def told(self):
+        """The fault as strm reports it, with its line and what is wrong."""
         return f"line {self.number}: {self.reported()}: {self.why}"
+
+    def explained(self):
+        """The fault with what is wrong, and which tool lists all others."""
+        return f"{self.told()}; strm-check --all FILE lists all faults"
 
 
 class Header:

@@ -3,7 +3,7 @@ import os
 import shlex
 from collections import Counter
 
-from strm_tools.faults import fault_in, require_right
+from strm_tools.faults import fault_in, first_fault
 from strm_tools.listing import listing
 from strm_tools.play import proved
 from strm_tools.play.completion import completed
@@ -229,10 +229,9 @@ class Shell(Turns):
         header = self.typed.take(text)
         if header is not None:
             self.typed = None
-            try:
-                require_right(text_of([*header, "worker"]))
-            except Wrong as why_not:
-                raise HeaderFault(f"the header has a fault: {why_not}", "; it is dropped, and the pool is as before")
+            fault = first_fault(text_of([*header, "worker"]))
+            if fault:
+                raise HeaderFault(f"the header has a fault: {fault.told()}", "; it is dropped, and the pool is as before")
             self.open([opening(header)], "these lines")
 
     # ---- Commands of the session -------------------------------------------------------------------------------------
