@@ -421,7 +421,7 @@ int strm_iov_(struct strm_pool *pool, struct strm_msg msg, uint32_t from, struct
 
 /*
  * Opens a pool, with all blocks free and all queues empty. It allocates all memory, 68 MB for the
- * largest pool, and copies the configuration. It uses 13 KB of stack, far more than other calls.
+ * largest pool, and copies the configuration. It uses 11 KB of stack, far more than other calls.
  * The fields `classes` and `queues` may be null if their count is 0. A count of 0 is refused as
  * STRM_BAD_CLASSES or STRM_BAD_QUEUES, a count above its limit as STRM_BAD_ARGUMENT. The first id
  * must be above 0 even if `bufcalls` is 0.

@@ -125,7 +125,7 @@ int main(void)
 {
 	size_t opening = depth_of(open_pool), in_place = depth_of(make_calls_in_place), others = depth_of(make_calls);
 
-	CHECK(1000 < opening && opening <= 13000);
+	CHECK(1000 < opening && opening <= 11000);
 	CHECK(0 < in_place && in_place < 1000);
 	CHECK(0 < others && others < 1000);
 	printf("strm_open %lu, calls in place %lu, others %lu bytes\n", (unsigned long)opening, (unsigned long)in_place, (unsigned long)others);

@@ -135,6 +135,7 @@ fn times_next(queues: &[QueueSpec], queue: u8) -> usize
 }
 
 // Whether each next queue exists, has a greater number than its own queue, and is named once.
+#[inline(always)]
 fn nexts_fit(queues: &[QueueSpec]) -> bool
     ensures { result ≡ nexts_fit queues.now }
 {
@@ -153,6 +154,7 @@ impl Config {
     ghost use Rattle.strm_pool.specs.Config.{fault_of};
 
     /// Returns the first fault, in the order of [`Which`], or none if the configuration is lawful.
+    #[inline(always)]
     pub fn fault(&self) -> Option<Which>
         ensures { result ≡ fault_of self.now }
     {
