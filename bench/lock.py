@@ -16,7 +16,21 @@ TURNS, LINES = 2_000_000, 400_000
 WORKERS = 4
 HEADER = ["pool 1 4095", "class 16 1000", "class 64 2000", "class 256 1000", *(f"queue 4096 1024 s {next}" for next in ("1", "2", "3", "-")), "bufcalls 8 1"]
 REGISTERS = "abcdefghijklmnopqrstuvwxyz"
-FLOORS = {"one thread": ("looks", 1), "four threads, which wait as workers do": ("looks", WORKERS), "four threads, `pthread_mutex_lock`": ("mutex", WORKERS)}
+# Turns of the lock: how threads wait, how many threads there are, and to how many cache lines a turn writes.
+FLOORS = {
+    "a turn of the lock, one thread": ("looks", 1, 1),
+    "a turn of the lock, four threads, which wait as workers do": ("looks", WORKERS, 1),
+    "a turn of the lock, four threads, `pthread_mutex_lock`": ("mutex", WORKERS, 1),
+    "a turn that goes to the other of two threads each time": ("round", 2, 1),
+    "the same, and the turn writes to 16 cache lines more": ("round", 2, 17),
+}
+# Runs of scripts: the queues of the sections, and the options.
+RUNS = {
+    "a line, by `--serial`": ([0], ["--serial"]),
+    "a line, by one worker": ([0], []),
+    "a line, by four workers on four queues": (range(WORKERS), []),
+    "a line, by four workers on one queue": ([0] * WORKERS, []),
+}
 
 
 def section(queue, lines):
@@ -41,40 +55,52 @@ def compiled(room):
 
 def floors(running):
     """The nanoseconds of a turn of the lock, by row."""
-    for row, (how, threads) in FLOORS.items():
-        _, passed, turns = running.turn(f"{how} {threads} {TURNS}")
+    for row, (how, threads, written) in FLOORS.items():
+        _, passed, turns = running.turn(f"{how} {threads} {TURNS} {written}")
         if turns != TURNS:
             sys.exit(f"{row}: {turns} turns, not {TURNS}")
         yield passed / turns
 
 
-def seconds(program, path, *options):
-    """How long a run of a script takes."""
-    begun = time.perf_counter()
+def run(program, path, options, output):
+    """Runs a script."""
     with open(path) as text:
-        subprocess.run([program, "--max", "16777216", *options], stdin=text, stdout=subprocess.DEVNULL, check=True)
-    return time.perf_counter() - begun
+        return subprocess.run([program, "--max", "16777216", *options], stdin=text, stdout=output, check=True).stdout
+
+
+def ran(program, path, options):
+    """How long a run of a script takes, and what share of the lines of another run comes behind a line of another worker."""
+    begun = time.perf_counter()
+    run(program, path, options, subprocess.DEVNULL)
+    passed = time.perf_counter() - begun
+    said = run(program, path, options, subprocess.PIPE).split(b"\n")
+    workers = [line.partition(b":")[0] for line in said[:LINES]]
+    return passed, sum(one != other for one, other in zip(workers, workers[1:])) / LINES
 
 
 def lines_of(program, room):
-    """The nanoseconds of a line, by row. Reading the script and writing the text are in each."""
-    forms = {"one": ([0], ["--serial"]), "four": (range(WORKERS), []), "shared": ([0] * WORKERS, [])}
-    for name, (queues, options) in forms.items():
-        path = os.path.join(room, name)
+    """The nanoseconds of a line, and the share of lines behind another worker's, by row. Reading the script and writing the text are in each
+    line."""
+    for number, (queues, options) in enumerate(RUNS.values()):
+        path = os.path.join(room, f"script{number}")
         if not os.path.exists(path):
             with open(path, "w") as text:
                 text.write(script(queues, LINES))
-        yield 1e9 * seconds(program, path, *options) / LINES
+        passed, share = ran(program, path, options)
+        yield 1e9 * passed / LINES
+        yield share
 
 
-def table(floor, line):
+def table(floor, lines):
     """The table, in markdown."""
-    yield from ("| | ns |", "|---|---|")
+    serial, of_one, of_four, _ = (nanoseconds for nanoseconds, _ in lines)
+    yield from ("| | ns | behind another thread's |", "|---|---|---|")
     for row, measured in zip(FLOORS, floor):
-        yield f"| a turn of the lock, {row} | {measured:.0f} |"
-    for row, measured in zip(("by `--serial`", "by four workers on four queues", "by four workers on one queue"), line):
-        yield f"| a line, {row} | {measured:.0f} |"
-    yield f"| what four workers add to a line, of a turn by four threads | {(line[1] - line[0]) / floor[1]:.2f} |"
+        yield f"| {row} | {measured:.0f} | |"
+    for row, (nanoseconds, share) in zip(RUNS, lines):
+        yield f"| {row} | {nanoseconds:.0f} | {100 * share:.2f}% |"
+    yield f"| what one worker adds to a line | {of_one - serial:.0f} | |"
+    yield f"| what three more workers add, on queues of their own | {of_four - of_one:.0f} | |"
 
 
 def main():
@@ -89,7 +115,8 @@ def main():
     with tempfile.TemporaryDirectory() as room, Running(compiled(room)) as running:
         rounds = [(*floors(running), *lines_of(given.program, room)) for _ in range(given.rounds)]
     measured = medians(rounds)
-    lines = list(table(measured[: len(FLOORS)], measured[len(FLOORS) :]))
+    floor, lines = measured[: len(FLOORS)], measured[len(FLOORS) :]
+    lines = list(table(floor, list(zip(lines[::2], lines[1::2]))))
     print("\n".join(lines))
     if given.write:
         rewrite("lock", lines)

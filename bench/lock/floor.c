@@ -1,8 +1,9 @@
 /*
  * The floor of a lock: threads that take it, execute some 100 instructions on what it guards, and release it, again and again.
  *
- * Reads lines 'HOW THREADS TURNS', and answers each with the number of turns. HOW is `looks`, to wait as strm_shared does (some looks, with
- * pauses that double, and then to sleep), or `mutex`, a pthread_mutex_t.
+ * Reads lines 'HOW THREADS TURNS LINES', and answers each with the number of turns. HOW is `looks`, to wait as strm_shared does (some looks,
+ * with pauses that double, and then to sleep); `mutex`, a pthread_mutex_t; or `round`, where each turn goes to the next thread. A turn writes
+ * to this number of cache lines.
  */
 #define _GNU_SOURCE
 #include <linux/futex.h>
@@ -15,16 +16,19 @@
 #include <unistd.h>
 
 #define MOST_THREADS 16
+#define MOST_LINES 64
 #define LOOKS 16
 
 enum { FREE, TAKEN, AWAITED };
 
-/* The lock, and behind it what it guards, on cache lines of their own. */
+/* The lock, and behind it what it guards, on cache lines of their own. In the form `round` the word is the number of the next thread. */
 static struct {
 	_Alignas(64) _Atomic uint32_t word;
 	pthread_mutex_t mutex;
 	_Alignas(64) uint64_t state, turns;
+	struct { _Alignas(64) uint64_t count; } further[MOST_LINES];
 } held = { .mutex = PTHREAD_MUTEX_INITIALIZER, .state = 1 };
+static unsigned threads, further;
 
 static void pause_for(unsigned times)
 {
@@ -58,10 +62,11 @@ static void unlock_after_looks(void)
 		syscall(SYS_futex, &held.word, FUTEX_WAKE_PRIVATE, 1, NULL, NULL, 0);
 }
 
-/* Some 100 instructions: 16 rounds of six. */
+/* Some 100 instructions: 16 rounds of six. And one for each further cache line. */
 static void work(void)
 {
 	uint64_t state = held.state;
+	unsigned line;
 	int round;
 
 #pragma GCC unroll 16
@@ -72,13 +77,21 @@ static void work(void)
 	}
 	held.state = state;
 	held.turns++;
+	for (line = 0; line < further; line++)
+		held.further[line].count++;
 }
 
 static pthread_barrier_t start;
 
-static void *by_looks(void *turns)
+/* What a thread gets: its number, and how many turns it takes. */
+struct share {
+	unsigned number;
+	uint64_t turns;
+};
+
+static void *by_looks(void *share)
 {
-	uint64_t left = *(uint64_t *)turns;
+	uint64_t left = ((struct share *)share)->turns;
 
 	pthread_barrier_wait(&start);
 	for (; left > 0; left--) {
@@ -89,9 +102,9 @@ static void *by_looks(void *turns)
 	return NULL;
 }
 
-static void *by_mutex(void *turns)
+static void *by_mutex(void *share)
 {
-	uint64_t left = *(uint64_t *)turns;
+	uint64_t left = ((struct share *)share)->turns;
 
 	pthread_barrier_wait(&start);
 	for (; left > 0; left--) {
@@ -102,23 +115,47 @@ static void *by_mutex(void *turns)
 	return NULL;
 }
 
+static void *in_a_round(void *share)
+{
+	uint64_t left = ((struct share *)share)->turns;
+	uint32_t own = ((struct share *)share)->number, next = (own + 1) % threads;
+
+	pthread_barrier_wait(&start);
+	for (; left > 0; left--) {
+		while (atomic_load(&held.word) != own)
+			pause_for(1);
+		work();
+		atomic_store(&held.word, next);
+	}
+	return NULL;
+}
+
+static void *(*form_of(const char *how))(void *)
+{
+	return strcmp(how, "mutex") == 0 ? by_mutex : strcmp(how, "round") == 0 ? in_a_round : by_looks;
+}
+
 int main(void)
 {
-	pthread_t threads[MOST_THREADS];
+	pthread_t ids[MOST_THREADS];
+	struct share shares[MOST_THREADS];
 	unsigned long long turns;
-	unsigned count, i;
+	unsigned i, lines;
 	char how[8];
 
-	while (scanf("%7s %u %llu", how, &count, &turns) == 3 && count > 0 && count <= MOST_THREADS) {
-		uint64_t each = turns / count;
-
+	while (scanf("%7s %u %llu %u", how, &threads, &turns, &lines) == 4 && threads > 0 && threads <= MOST_THREADS && lines > 0 &&
+	       lines <= MOST_LINES) {
+		further = lines - 1;
 		held.turns = 0;
-		pthread_barrier_init(&start, NULL, count);
-		for (i = 0; i < count; i++)
-			if (pthread_create(&threads[i], NULL, strcmp(how, "mutex") == 0 ? by_mutex : by_looks, &each) != 0)
+		held.word = FREE;
+		pthread_barrier_init(&start, NULL, threads);
+		for (i = 0; i < threads; i++) {
+			shares[i] = (struct share){ i, turns / threads };
+			if (pthread_create(&ids[i], NULL, form_of(how), &shares[i]) != 0)
 				return 1;
-		for (i = 0; i < count; i++)
-			pthread_join(threads[i], NULL);
+		}
+		for (i = 0; i < threads; i++)
+			pthread_join(ids[i], NULL);
 		pthread_barrier_destroy(&start);
 		printf("%llu\n", (unsigned long long)held.turns);
 		fflush(stdout);
