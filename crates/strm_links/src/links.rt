@@ -249,18 +249,17 @@ impl Links {
         ensures others { (k : ℕ) → k ≢ node → holder k self.new ≡ holder k self.old }
         ensures parting { IsParting self.new }
     {
-        let mut ends = self.ends[list as usize];
-        let previous = ahead_of(&self.nodes, &ends, next);
+        let ends = &mut self.ends[list as usize];
+        let previous = ahead_of(&self.nodes, ends, next);
         self.nodes[node as usize] = Node {
             list: Slot::some(list),
             previous,
             next,
         };
         let own = Slot::some(node);
-        set_next(&mut self.nodes, &mut ends, previous, own);
-        set_previous(&mut self.nodes, &mut ends, next, own);
+        set_next(&mut self.nodes, ends, previous, own);
+        set_previous(&mut self.nodes, ends, next, own);
         ends.len += 1;
-        self.ends[list as usize] = ends;
     }
 
     /// Puts the free node `node` into `list`: just before the node `next` of this list, or at the back if `next` is none. All other
@@ -340,13 +339,12 @@ impl Links {
             previous,
             next,
         } = self.nodes[node as usize];
-        let list = list.get().unwrap();
+        let list = list.number();
         self.nodes[node as usize] = Node::free();
-        let mut ends = self.ends[list as usize];
-        set_next(&mut self.nodes, &mut ends, previous, next);
-        set_previous(&mut self.nodes, &mut ends, next, previous);
+        let ends = &mut self.ends[list as usize];
+        set_next(&mut self.nodes, ends, previous, next);
+        set_previous(&mut self.nodes, ends, next, previous);
         ends.len -= 1;
-        self.ends[list as usize] = ends;
     }
 
     /// Appends all nodes of `from` to `to`, a different list, in order, and leaves `from` empty. All other lists stay unchanged.

@@ -112,8 +112,33 @@ impl BandSet {
         self.at_least(band.checked_add(1)?)
     }
 
+    // Whether the set has no band.
+    #[inline(always)]
+    fn is_empty(&self) -> bool
+        ensures { result ≡ true → (band : ℕ) → has_band self.now band ≡ false }
+    {
+        self.words[0] | self.words[1] | self.words[2] | self.words[3] == 0
+    }
+
     // Removes each band that has drained: it has at most as many bytes as its low water mark. Says whether there was any.
+    // Most sets are empty, for which no loop runs.
+    #[inline(always)]
     pub(crate) fn relieve(&mut self, counts: &[u32; BANDS], marks: &[Marks; BANDS]) -> bool
+        ensures left { self.new ≡ still_wanted self.old (λ band. slice_index_or counts.now band 0)
+            (λ band. (slice_index_or marks.now band no_marks).lowat) }
+        ensures some { result ≡ some_relieved self.old (λ band. slice_index_or counts.now band 0)
+            (λ band. (slice_index_or marks.now band no_marks).lowat) }
+    {
+        self.lawful();
+        if self.is_empty() {
+            return false;
+        }
+        self.relieve_each(counts, marks)
+    }
+
+    // Does what `relieve` does, by a loop over the bands of the set.
+    #[inline(never)]
+    fn relieve_each(&mut self, counts: &[u32; BANDS], marks: &[Marks; BANDS]) -> bool
         ensures left { self.new ≡ still_wanted self.old (λ band. slice_index_or counts.now band 0)
             (λ band. (slice_index_or marks.now band no_marks).lowat) }
         ensures some { result ≡ some_relieved self.old (λ band. slice_index_or counts.now band 0)

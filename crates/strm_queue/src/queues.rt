@@ -137,6 +137,7 @@ impl Queues {
     }
 
     // Notes that a message has joined a queue.
+    #[inline(always)]
     fn join(&mut self, queue: u8, placed: Placed)
         requires queue { queue < length self.old.state.specs }
         requires rank { placed.rank < ranks }
@@ -152,6 +153,7 @@ impl Queues {
     }
 
     // Notes that a message has left a queue.
+    #[inline(always)]
     fn leave(&mut self, queue: u8, placed: Placed)
         requires queue { queue < length self.old.state.specs }
         requires rank { placed.rank < ranks }

@@ -1,5 +1,5 @@
 //! What is stored of a queue's messages, so that `qsize`, `bcanput` and `putq` walk along no list.
-ghost use Rattle.std.specs.Prelude.{◌≡◌, ◌+◌, ◌-◌, ◌<◌, ◌≤◌, ◌^◌, ℕ, false};
+ghost use Rattle.std.specs.Prelude.{◌≡◌, ◌+◌, ◌-◌, ◌<◌, ◌≤◌, ◌^◌, ℕ, false, is_some};
 ghost use Rattle.std.specs.Option.{ForSome, IfNone, IfSome};
 ghost use Rattle.strm_queue.specs.Flow.{band_of_rank, has_band};
 ghost use Rattle.strm_queue.specs.Limits.{ranks};
@@ -105,11 +105,11 @@ impl Tally {
     }
 
     // The head of the last message of a rank, if any.
-    pub(crate) fn last(&self, rank: u16) -> Option<BlockNo>
+    pub(crate) fn last(&self, rank: u16) -> Slot
         requires { rank < ranks }
         ensures { result ≡ last_in self.now rank }
     {
-        self.lasts[usize::from(rank)].get()
+        self.lasts[usize::from(rank)]
     }
 
     // The smallest rank that is this one or above and has messages, if any.
@@ -141,6 +141,7 @@ impl Tally {
     }
 
     // Counts a message that has joined the queue; `hiwat` is the high water mark of its band.
+    #[inline(always)]
     pub(crate) fn join(&mut self, hiwat: u32, placed: Placed)
         requires rank { placed.rank < ranks }
         requires numbered { IsNumbered placed }
@@ -162,10 +163,11 @@ impl Tally {
         self.len += 1;
         self.bytes += size;
         self.set_count(hiwat, band, self.count(band) + size);
-        self.set_ends(rank, first, last);
+        self.set_ends(rank, first, last, true);
     }
 
     // Counts out a message that has left the queue; `hiwat` is the high water mark of its band.
+    #[inline(always)]
     pub(crate) fn leave(&mut self, hiwat: u32, placed: Placed)
         requires rank { placed.rank < ranks }
         requires numbered { IsNumbered placed }
@@ -189,7 +191,7 @@ impl Tally {
         self.len -= 1;
         self.bytes -= size;
         self.set_count(hiwat, band, self.count(band) - size);
-        self.set_ends(rank, next_first, next_last);
+        self.set_ends(rank, next_first, next_last, next_first.get().is_some());
     }
 
     // Sets or clears the full mark of a band whose high water mark is now `hiwat`.
@@ -207,17 +209,19 @@ impl Tally {
         self.full.set(band, hiwat <= count);
     }
 
-    // Stores the heads of the first and the last message of a rank.
+    // Stores the heads of the first and the last message of a rank, and whether it has messages.
+    #[inline(always)]
     #[tactic(auto, using(std::proofs::lemmas::List::set_past, crate::proofs::bands::Bands::length_every_band))]
-    fn set_ends(&mut self, rank: u16, first: Slot, last: Slot)
-        requires { rank < ranks }
+    fn set_ends(&mut self, rank: u16, first: Slot, last: Slot, used: bool)
+        requires rank { rank < ranks }
+        requires used { used ≡ is_some first }
         ensures { self.new ≡ with_ends rank first last self.old }
     {
         self.used.lawful();
         self.firsts[usize::from(rank)] = first;
         self.lasts[usize::from(rank)] = last;
         if rank < HIGH_RANK {
-            self.used.set(rank as u8, first.get().is_some());
+            self.used.set(rank as u8, used);
         }
     }
 }

@@ -78,8 +78,9 @@ impl Blocks {
             (Ok tt) }
     {
         let head = token.spend().head;
-        self.queued += self.chains.len(head);
+        let blocks = self.chains.len(head);
         self.chains.shelve(u32::from(shelf), before, head);
+        self.queued += blocks;
     }
 
     /// Takes the message with this head off its shelf, and returns its token. The shelf's other messages keep their

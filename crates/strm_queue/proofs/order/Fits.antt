@@ -1,5 +1,5 @@
 -- Whether a message keeps the order at a place, by the messages on both sides of it.
-use Rattle.std.proofs.Common.{arith, ◌≡◌, ℕ, Bool, true, false, List, [], ◌∷◌, ◌++◌, Option, Some, None, refl, sym, ap, ◌∙◌, subst}
+use Rattle.std.proofs.Common.{arith, ◌≡◌, ℕ, ◌-◌, ◌^◌, ◌<◌, ◌≤◌, Bool, true, false, List, length, [], ◌∷◌, ◌++◌, Option, Some, None, refl, sym, ap, ◌∙◌, subst}
 use Rattle.std.proofs.lemmas.Grind.{common_steps}
 use Rattle.std.specs.Prelude.{nat_le}
 use Rattle.std.specs.Option.{ForSome}
@@ -10,7 +10,8 @@ use Rattle.strm_mblk.specs.Arena.{Arena, IsParted, shelf_at}
 use Rattle.strm_mblk.specs.Block.{Message, head_of}
 use Rattle.strm_mblk.specs.Messages.{put_before_head}
 use Rattle.strm_mblk.specs.Shelves.{heads_at, is_on}
-use Rattle.strm_mblk.proofs.arena.Stands.{heads_apart}
+use Rattle.strm_mblk.specs.Limits.{most_message_blocks}
+use Rattle.strm_mblk.proofs.arena.Stands.{heads_apart, heads_room}
 use Rattle.strm_queue.specs.Rank.{is_ordered, rank_of}
 use Rattle.strm_queue.proofs.shelf.OnShelf.{Parts, after-head, at_there, before-head, first_of, first_there, heads, last_none, last_of, parts_of, placed-between}
 use Rattle.strm_queue.proofs.order.Order.{first_fits, fits_between, fits_first, ordered_last, rises_behind}
@@ -88,3 +89,7 @@ module _ (a : Arena) (parted : IsParted a) (q h : ℕ) (there : is_on a q h ≡ 
 
   pub behind_there : after h (heads_at a q) ≡ Some k → is_on a q k ≡ true
   behind_there some = grind (arith, common_steps, append_assoc, heads, first_there, after-head, apart)
+
+-- a head on a shelf is a number that a `Slot` can store
+pub fits_slot : (a : Arena) → IsParted a → length a.held ≤ most_message_blocks → (q : ℕ) (o : Option ℕ) → ForSome o (λ h. is_on a q h ≡ true) → ForSome o (λ h. h < 2 ^ 32 - 1)
+fits_slot a parted few q o there h is = omega (arith, few, heads_room a parted q h (there h is))

@@ -76,6 +76,7 @@ impl Queues {
 
     // Clears the wanted mark of each band that has drained: it has at most as many bytes as its low water mark. Says whether
     // there was any.
+    #[inline(always)]
     pub(super) fn relieve(&mut self, queue: u8) -> bool
         requires { queue < length self.old.state.specs }
         ensures flags { let flags = flags_at self.old.state queue in

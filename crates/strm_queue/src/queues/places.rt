@@ -15,6 +15,7 @@ ghost use Rattle.strm_queue.specs.Rank.{as_queued, is_ordered, put_ahead, put_be
 use super::Queues;
 use crate::limits::HIGH_RANK;
 use strm_data::MsgType;
+use strm_links::Slot;
 use strm_mblk::{BlockNo, Blocks, Token};
 
 // The rank of a message whose first block is of this type and band.
@@ -86,7 +87,8 @@ fn is_at_most(blocks: &Blocks, at: Option<BlockNo>, rank: u16) -> bool
 }
 
 // The head of the message just before this one, or of the last message if none is given.
-pub(super) fn ahead_of(blocks: &Blocks, queue: u8, before: Option<BlockNo>) -> Option<BlockNo>
+#[inline(always)]
+pub(super) fn ahead_of(blocks: &Blocks, queue: u8, before: Option<BlockNo>) -> Slot
     requires queue { queue < length blocks.now.shelves }
     requires before { ForSome before (λ head. IsTrue (is_on blocks.now queue head)) }
     ensures { (pre post : List Message) → shelf_at blocks.now queue ≡ pre ++ post
@@ -95,8 +97,8 @@ pub(super) fn ahead_of(blocks: &Blocks, queue: u8, before: Option<BlockNo>) -> O
 {
     blocks.lawful();
     match before {
-        Some(head) => blocks.before(head),
-        None => blocks.last(queue),
+        Some(head) => Slot::of(blocks.before(head)),
+        None => Slot::of(blocks.last(queue)),
     }
 }
 
@@ -114,7 +116,7 @@ pub(super) fn fits_before(blocks: &Blocks, queue: u8, before: Option<BlockNo>, r
     if !is_at_most(blocks, before, rank) {
         return false;
     }
-    match ahead_of(blocks, queue, before) {
+    match ahead_of(blocks, queue, before).get() {
         Some(head) => queued_rank(blocks, head) >= rank,
         None => true,
     }
@@ -124,7 +126,8 @@ impl Queues {
     // Where `putq` puts a message of this rank: the head of the message that comes after it, or none for the end. That is
     // the one after the last message of the smallest rank, this or above, that has messages, or else the queue's first
     // message. An empty queue needs no search.
-    pub(super) fn place_behind(&self, blocks: &Blocks, queue: u8, rank: u16) -> Option<BlockNo>
+    #[inline(always)]
+    pub(super) fn place_behind(&self, blocks: &Blocks, queue: u8, rank: u16) -> Slot
         requires queue { queue < length self.now.state.specs }
         requires rank { rank < ranks }
         requires in_order { AreInOrder self.now blocks.now }
@@ -136,16 +139,11 @@ impl Queues {
         blocks.lawful();
         let tally = self.tally(queue);
         if tally.len() == 0 {
-            return None;
+            return Slot::none();
         }
         match tally.rank_at_least(rank) {
-            Some(found) => {
-                let Some(last) = tally.last(found) else {
-                    unreachable!()
-                };
-                blocks.after(last)
-            }
-            None => blocks.first(queue),
+            Some(found) => Slot::of(blocks.after(tally.last(found).number())),
+            None => Slot::of(blocks.first(queue)),
         }
     }
 

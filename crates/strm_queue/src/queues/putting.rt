@@ -21,6 +21,7 @@ use strm_mblk::{BlockNo, Blocks, Rejected, Token};
 
 impl Queues {
     // Puts a message of this rank on a queue, as `shelve` does, and enables the queue if `enables` is true.
+    #[inline(always)]
     fn put(
         &mut self,
         blocks: &mut Blocks,
@@ -74,7 +75,7 @@ impl Queues {
             return Err(Rejected { why, token });
         }
         let rank = held_rank(blocks, &token);
-        let before = self.place_behind(blocks, queue, rank);
+        let before = self.place_behind(blocks, queue, rank).get();
         let enables = self.enables_put(queue, rank);
         self.put(blocks, queue, before, rank, token, enables);
         Ok(())

@@ -9,6 +9,7 @@ use super::Queues;
 impl Queues {
     // Clears the wanted mark of each band that has drained, and if there was any, enables the waker. Takes a step for each
     // wanted band; the waker takes at most 120 more, over all lower queues.
+    #[inline(always)]
     pub(super) fn settle(&mut self, queue: u8)
         requires queue { queue < length self.old.state.specs }
         ensures state { (arena : Arena) → AreInOrder self.old arena
@@ -22,6 +23,7 @@ impl Queues {
     }
 
     // Enables the waker, the nearest queue behind with a service procedure, if any.
+    #[inline(never)]
     fn enable_waker(&mut self, queue: u8)
         requires { queue < length self.old.state.specs }
         ensures { self.new ≡ record self.old { state = waker_enabled queue self.old.state } }

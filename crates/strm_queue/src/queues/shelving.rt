@@ -22,6 +22,7 @@ use strm_mblk::{BlockNo, Blocks, Token};
 impl Queues {
     // Puts a message of this rank on a queue's shelf, before the one with this head, or last. Ranks must not rise then.
     // High priority gives the first block band 0. Takes a step for each block of the message.
+    #[inline(always)]
     pub(super) fn shelve(
         &mut self,
         blocks: &mut Blocks,
@@ -54,7 +55,7 @@ impl Queues {
             head: token.head(),
             rank,
             size: blocks.size(&token),
-            ahead: ahead_of(blocks, queue, before),
+            ahead: ahead_of(blocks, queue, before).get(),
             behind: before,
         };
         if rank == HIGH_RANK {
@@ -66,6 +67,7 @@ impl Queues {
     }
 
     // Takes the message with this head off a queue's shelf. Takes a step for each of its blocks.
+    #[inline(always)]
     pub(super) fn unshelve(&mut self, blocks: &mut Blocks, queue: u8, head: BlockNo) -> Token
         requires queue { queue < length self.old.state.specs }
         requires in_order { AreInOrder self.old blocks.old }

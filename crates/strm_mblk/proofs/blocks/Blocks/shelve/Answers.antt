@@ -10,16 +10,16 @@ use Rattle.strm_mblk.specs.Shelves.{heads_at, shelve}
 use Rattle.strm_mblk.proofs.shelving.Shelving.{heads_at-seen, shelve_filled, shelve_queued, shelve_shows, shelving_room}
 use Rattle.strm_mblk.proofs.arena.Tokens.{IsHad, had_message}
 use Rattle.strm_mblk.proofs.arena.Frame.{none_at, others_one}
-use Rattle.strm_mblk.proofs.blocks.Blocks.shelve.Goals.{After-len, After-shelve}
+use Rattle.strm_mblk.proofs.blocks.Blocks.shelve.Goals.{After-len-blocks, After-self-1, After-shelve}
 use Rattle.strm_mblk.proofs.blocks.Blocks.shelve.Goals as goal
 
-had : (c : After-len) → (m : Message) × IsHad (arena_in c.self.inside) c.spend-head.result m
+had : (c : After-len-blocks) → (m : Message) × IsHad (arena_in c.self.inside) c.spend-head.result m
 had c = had_message (arena_in c.self.inside) c.spend-head.result (ap (λ (t : TokenValue). arena.has (arena_in c.self.inside) t) c.spend-head.ensures ∙ ap (λ a. arena.has a c.args.token) c.self.view_is ∙ c.requires.had)
 
 pub overflow_add-self : goal.overflow_add-self
 overflow_add-self c =
-    let message = had c in
-    omega (arith, shelving_room c.self.inside.id c.self.inside.data c.self.inside.blocks.items c.self.inside.chains c.self.invariant.filled c.spend-head.result.head message.0 message.1.held, c.len.ensures, c.self.invariant.queued)
+    let message = had (goal.at.overflow_add-self c).After-len-blocks in
+    omega (arith, shelving_room c.self.inside.id c.self.inside.data c.self.inside.blocks.items c.self.inside.chains c.self.invariant.filled c.spend-head.result.head message.0 message.1.held, c.len-blocks.ensures, c.self.invariant.queued)
 
 pub shelve-requires-clause-before : goal.shelve-requires-clause-before
 shelve-requires-clause-before c at is =
@@ -32,26 +32,26 @@ within c = omega (arith, c.requires.shelf, c.from.ensures, ap (λ (a : Arena). l
 
 pub invariant_of-self : goal.invariant_of-self
 invariant_of-self c =
-    let message = had (goal.at.invariant_of-self c).After-len in
+    let message = had (goal.at.invariant_of-self c).After-len-blocks in
     record {
       filled =
           shelve_filled c.self.inside.id c.self.inside.data c.self.inside.blocks.items c.self.inside.chains c.self.invariant.filled c.spend-head.result.head message.0 message.1.held
-          c.from.result c.args.before c.shelve.new.self (within c) c.shelve.ensures.after c.shelve.ensures.parted;
+          c.from.result c.args.before c.shelve.new.self (within (goal.at.invariant_of-self c).After-shelve) c.shelve.ensures.after c.shelve.ensures.parted;
       queued =
           omega (
             arith,
-            c.len.ensures,
+            c.len-blocks.ensures,
             c.self.invariant.queued,
             shelve_queued c.self.inside.id c.self.inside.data c.self.inside.blocks.items c.self.inside.chains c.self.invariant.filled c.spend-head.result.head message.0 message.1.held
-                c.from.result c.args.before c.shelve.new.self (within c) c.shelve.ensures.after c.shelve.ensures.parted,
+                c.from.result c.args.before c.shelve.new.self (within (goal.at.invariant_of-self c).After-shelve) c.shelve.ensures.after c.shelve.ensures.parted,
           );
     }
 
-after_is : (c : After-shelve) → arena_of c.self.inside.id c.self.inside.data.store c.self.inside.blocks.items c.shelve.new.self ≡ shelve c.args.shelf c.args.before c.args.token.head c.args.self.now
+after_is : (c : After-self-1) → arena_of c.self.inside.id c.self.inside.data.store c.self.inside.blocks.items c.shelve.new.self ≡ shelve c.args.shelf c.args.before c.args.token.head c.args.self.now
 after_is c =
-    let message = had (goal.at.returns c).After-len in
+    let message = had (goal.at.returns c).After-len-blocks in
     shelve_shows c.self.inside.id c.self.inside.data c.self.inside.blocks.items c.self.inside.chains c.self.invariant.filled c.spend-head.result.head message.0 message.1.held
-    c.from.result c.args.before c.shelve.new.self (within c) c.shelve.ensures.after c.shelve.ensures.parted
+    c.from.result c.args.before c.shelve.new.self (within (goal.at.returns c).After-shelve) c.shelve.ensures.after c.shelve.ensures.parted
     ∙ (λ i. shelve (c.from.ensures i) c.args.before (c.spend-head.ensures i).head (c.self.view_is i))
 
 pub returns : goal.returns

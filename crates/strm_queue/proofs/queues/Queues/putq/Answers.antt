@@ -9,24 +9,26 @@ use Rattle.strm_queue.proofs.order.Order.{ordered_put_behind}
 use Rattle.strm_queue.proofs.moving.Puts.{putq_after}
 use Rattle.strm_queue.proofs.order.Ranks.{rank_of-queued}
 use Rattle.strm_queue.proofs.queues.Queues.putq.Goals as goal
-use Rattle.strm_queue.proofs.queues.Queues.putq.Goals.{After-place_behind-before}
+use Rattle.strm_queue.proofs.queues.Queues.putq.Goals.{After-get-before}
 
 -- the message, as the queue has it
-abbrev m : After-place_behind-before → Message
+abbrev m : After-get-before → Message
 m c = as_queued c.args.blocks.now.store (message_at c.args.blocks.now c.args.token.head)
 
 -- the place is after the last message of at least its rank
-place : (c : After-place_behind-before) → put_before_head head_of c.place_behind-before.result (m c) (shelf_at c.args.blocks.now c.args.queue) ≡ put_behind (rank_of c.args.blocks.now.store) (m c) (shelf_at c.args.blocks.now c.args.queue)
-place c = c.place_behind-before.ensures.place (m c) (rank_of-queued c.args.blocks.now.store (message_at c.args.blocks.now c.args.token.head) ∙ sym c.held_rank-rank.ensures.value)
+place : (c : After-get-before) → put_before_head head_of c.get-before.result (m c) (shelf_at c.args.blocks.now c.args.queue) ≡ put_behind (rank_of c.args.blocks.now.store) (m c) (shelf_at c.args.blocks.now c.args.queue)
+place c =
+    ap (λ o. put_before_head head_of o (m c) (shelf_at c.args.blocks.now c.args.queue)) c.get-before.ensures
+    ∙ c.place_behind.ensures.place (m c) (rank_of-queued c.args.blocks.now.store (message_at c.args.blocks.now c.args.token.head) ∙ sym c.held_rank-rank.ensures.value)
 
 pub put-requires-clause-ordered : goal.put-requires-clause-ordered
 put-requires-clause-ordered c =
-    let at = (goal.at.put-requires-clause-ordered c).After-place_behind-before in
+    let at = (goal.at.put-requires-clause-ordered c).After-get-before in
     ap (is_ordered (rank_of c.args.blocks.now.store)) (place at) ∙ ordered_put_behind (rank_of c.args.blocks.now.store) (m at) (shelf_at c.args.blocks.now c.args.queue) (c.requires.agrees.in_order.ordered c.args.queue)
 
 pub returns-clause-does : goal.returns-clause-does
 returns-clause-does c =
-    let here = (goal.at.returns-clause-does c).After-place_behind-before in
+    let here = (goal.at.returns-clause-does c).After-get-before in
     record {
       after =
           c.put.ensures.after

@@ -55,7 +55,7 @@ here c =
 
 -- its entry for the tally
 abbrev own : After-lawful-2 → Placed
-own c = record { head = c.head.result; rank = c.args.rank; size = c.size.result; ahead = c.ahead_of.result; behind = c.args.before }
+own c = record { head = c.head.result; rank = c.args.rank; size = c.size.result; ahead = c.get.result; behind = c.args.before }
 
 head_is : (c : After-lawful-2) → head_of (message_at c.args.blocks.now c.args.token.head) ≡ c.args.token.head
 head_is c = grind (arith, common_steps, had_message)
@@ -65,7 +65,7 @@ placed c = record {
   head = c.head.ensures ∙ sym (head_of-queued c.args.blocks.now.store (message_at c.args.blocks.now c.args.token.head) ∙ head_is c);
   rank = c.requires.rank ∙ sym (rank_of-queued c.args.blocks.now.store (message_at c.args.blocks.now c.args.token.head));
   size = c.size.ensures ∙ sym (size_of-queued c.args.blocks.now.store (message_at c.args.blocks.now c.args.token.head));
-  ahead = c.ahead_of.ensures (sides c).pre (sides c).post (sides c).is (sides c).at;
+  ahead = c.get.ensures ∙ c.ahead_of.ensures (sides c).pre (sides c).post (sides c).is (sides c).at;
   behind = (sides c).at;
   few = c.requires.few;
 }

@@ -29,7 +29,7 @@ pub queued_rank-requires : goal.queued_rank-requires
 queued_rank-requires c =
     let parts = sides (goal.at.queued_rank-requires c).After-is_at_most in
     shelf_of-there c.args.blocks.now c.args.queue c.in-Some.head
-    (last_there c.args.blocks.now c.args.queue parts.pre parts.post parts.is c.in-Some.head (sym (c.ahead_of.ensures parts.pre parts.post parts.is parts.at) ∙ c.in-Some.is))
+    (last_there c.args.blocks.now c.args.queue parts.pre parts.post parts.is c.in-Some.head (sym (c.get.ensures ∙ c.ahead_of.ensures parts.pre parts.post parts.is parts.at) ∙ c.in-Some.is))
 
 pub returns-in-Some : goal.returns-in-Some
 returns-in-Some c m rank =
@@ -38,7 +38,7 @@ returns-in-Some c m rank =
     ap (λ r. nat_le r c.queued_rank.result) (sym rank)
     ∙ fits_behind c.args.blocks.now c.lawful.ensures.parted c.args.queue c.args.before parts.pre parts.post parts.is parts.at m c.requires.ordered
     (ap (λ r. first_fits (rank_of c.args.blocks.now.store) r parts.post) rank ∙ asked here ∙ c.if-not-is_at_most.false)
-    c.in-Some.head c.queued_rank.result (sym (c.ahead_of.ensures parts.pre parts.post parts.is parts.at) ∙ c.in-Some.is) (λ front back x. c.queued_rank.ensures.value c.args.queue front back x)
+    c.in-Some.head c.queued_rank.result (sym (c.get.ensures ∙ c.ahead_of.ensures parts.pre parts.post parts.is parts.at) ∙ c.in-Some.is) (λ front back x. c.queued_rank.ensures.value c.args.queue front back x)
 
 pub returns-in-None : goal.returns-in-None
 returns-in-None c m rank =
@@ -46,4 +46,4 @@ returns-in-None c m rank =
     let parts = sides here in
     fits_in_front c.args.blocks.now c.lawful.ensures.parted c.args.queue c.args.before parts.pre parts.post parts.is parts.at m c.requires.ordered
     (ap (λ r. first_fits (rank_of c.args.blocks.now.store) r parts.post) rank ∙ asked here ∙ c.if-not-is_at_most.false)
-    (sym (c.ahead_of.ensures parts.pre parts.post parts.is parts.at) ∙ c.in-None.is)
+    (sym (c.get.ensures ∙ c.ahead_of.ensures parts.pre parts.post parts.is parts.at) ∙ c.in-None.is)

@@ -4,7 +4,7 @@ use Rattle.strm_queue.specs.declared.marks.Marks.{Marks}
 use Rattle.strm_queue.specs.Flow.{has_band, has_drained, no_marks}
 use Rattle.strm_queue.specs.Limits.{bands}
 use Rattle.strm_queue.proofs.bands.Bands.{AreLookedAt}
-use Rattle.strm_queue.proofs.band_set.BandSet.relieve.Given as goal
+use Rattle.strm_queue.proofs.band_set.BandSet.relieve_each.Given as goal
 
 -- whether a band has drained
 abbrev pub has_drained_at : List ℕ → List Marks → ℕ → Bool
