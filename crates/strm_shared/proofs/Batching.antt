@@ -1,37 +1,40 @@
 -- Batches: one line more, one batch more, and what a write to the replies of a batch leaves.
-use Rattle.std.proofs.Common.{◌≡◌, ℕ, zero, suc, ◌+◌, ◌-◌, ◌*◌, ◌/◌, ◌%◌, ◌<◌, ◌≤◌, min, List, [], ◌∷◌, ◌++◌, length, get_or, set, take, drop, Result, Ok, Err, refl, sym, ap, ◌∙◌, subst, inl, inr, arith, append_assoc, length-append, length-drop, length-take-le, take_all, take-take, drop_at, drop-drop}
+use Rattle.std.proofs.Common.{◌≡◌, ℕ, zero, suc, ◌+◌, ◌-◌, ◌*◌, ◌/◌, ◌%◌, ◌<◌, ◌≤◌, min, List, [], ◌∷◌, ◌++◌, length, get_or, take, drop, Result, Ok, Err, refl, sym, ap, ◌∙◌, subst, inl, inr, arith, length-drop, length-take, length-take-le, take_all, take-append-drop, take-take, drop_at, drop-drop}
 use Rattle.std.specs.Prelude.{IfErr}
 use Rattle.std.specs.Int.{div_ceil}
 use Rattle.std.proofs.lemmas.Bool.{cases_lt}
 use Rattle.std.proofs.lemmas.Grind.{div_ceil_times}
-use Rattle.std.proofs.lemmas.List.{drop-take, drop_all, drop-append-le, take-append-drop, take_rest}
-use Rattle.std.proofs.lemmas.Nat.{div-mul-add, mod-mul-add}
+use Rattle.std.proofs.lemmas.List.{drop-take, drop-append-le, take_rest}
+use Rattle.std.proofs.lemmas.Nat.{div-add-mod', div-mul-add, mod_below, mod-mul-add}
 use Rattle.std.proofs.lemmas.Slice.{between-put_mid, drop-put_mid, take-put_mid_below}
 use borrow.Rule.Slice.PartMut.{post_of, put_mid, same_len_mid}
 use Rattle.strm_data.specs.declared.refusal.Refusal.{Refusal}
+use Rattle.strm_pool.specs.declared.call.Call.TheVariants.{Census}
 use Rattle.strm_pool.specs.declared.reply.Reply.{Reply}
 use Rattle.strm_shared.specs.declared.line.Line.{Line}
 use Rattle.strm_shared.specs.declared.name.Name.{Ghosts}
-use Rattle.strm_shared.specs.Batches.{AreAfter, AreBatches, AreTurned, AnswersAll, IsAfterBatch, batch_at}
+use Rattle.strm_shared.specs.Batches.{AreAfter, AreBatches, AreTurned, IsAfterBatch, IsAsAlone, batch_at}
 use Rattle.strm_shared.specs.Books.{BookValue, IsBookUnder, IsEnd, IsServed}
 use Rattle.strm_shared.specs.Desks.{DeskValue, stamp_seen}
 use Rattle.strm_shared.specs.Limits.{most_batch}
+use Rattle.strm_shared.specs.Runs.{AreServed}
 use Rattle.strm_shared.proofs.Refusing.{end_shown}
 
 -- ---- one line more
 
-pub turned_more : (b : BookValue) (d : DeskValue) (lines : List Line) (replies : List Reply) (c : BookValue) (e : DeskValue) (line : Line) (reply : Reply) (m : BookValue) (x : DeskValue)
-    → AreTurned b d lines replies c e → length replies < length lines → IsServed c e (get_or lines (length replies) line).number (get_or lines (length replies) line).call m x reply
-    → AreTurned b d lines (replies ++ reply ∷ []) m x
-turned_more b d [] replies c e line reply m x turned below served = absurd (omega (arith, below))
-turned_more b d (l ∷ ls) [] c e line reply m x turned below served = (
+pub turned_more : {N : Type 0} (n : Ghosts N) (b : BookValue) (d : DeskValue) (lines : List Line) (replies : List Reply) (c : BookValue) (e : DeskValue) (line : Line) (reply : Reply) (m : BookValue) (x : DeskValue)
+    → AreTurned n b d lines replies c e → length replies < length lines → IsServed c e (get_or lines (length replies) line).number (get_or lines (length replies) line).call m x reply → IsBookUnder n m
+    → AreTurned n b d lines (replies ++ reply ∷ []) m x
+turned_more n b d [] replies c e line reply m x turned below served under = absurd (omega (arith, below))
+turned_more n b d (l ∷ ls) [] c e line reply m x turned below served under = (
   m,
   x,
   subst (λ (y : BookValue). IsServed y d l.number l.call m x reply) turned.0 (subst (λ (y : DeskValue). IsServed c y l.number l.call m x reply) turned.1 served),
+  under,
   (refl, refl),
 )
-turned_more b d (l ∷ ls) (r ∷ rs) c e line reply m x turned below served =
-    (turned.0, turned.1, turned.2, turned_more turned.0 turned.1 ls rs c e line reply m x turned.3 (omega (arith, below)) served)
+turned_more n b d (l ∷ ls) (r ∷ rs) c e line reply m x turned below served under =
+    (turned.0, turned.1, turned.2, turned.3, turned_more n turned.0 turned.1 ls rs c e line reply m x turned.4 (omega (arith, below)) served under)
 
 -- ---- why a batch ended
 
@@ -136,6 +139,10 @@ module _ {N : Type 0} (n : Ghosts N) (j until : ℕ) (lines : List Line) (rs ys 
       subst (λ (zs : List Reply). IsAfterBatch n x (batch_at j lines) zs e r) (sym (batch_written j until rs ys until_is there long))
       (subst (λ (ls : List Line). IsAfterBatch n x ls ys e r) (batch_is j until lines is) after)
 
+  -- there are as many replies as before
+  pub still_many : length ss ≡ length lines
+  still_many = as_long j until rs ys until_is there long ∙ sym many
+
   -- replies behind the batch are as they were
   pub kept_more : (olds : List Reply) → drop (j * most_batch) rs ≡ drop (j * most_batch) olds → drop ((j + 1) * most_batch) ss ≡ drop ((j + 1) * most_batch) olds
   kept_more olds same =
@@ -165,3 +172,82 @@ module _ {N : Type 0} (n : Ghosts N) (j until : ℕ) (lines : List Line) (rs ys 
       let rest : (j * most_batch + s) % most_batch ≡ s = mod-mul-add j most_batch s few in
       subst (λ (i : ℕ). (y : DeskValue) × AreBatches n i d lines ss y × IsAfterBatch n y (batch_at i lines) (batch_at i ss) e (Err (why, (j * most_batch + s) % most_batch))) (sym whole)
       (subst (λ (k : ℕ). (y : DeskValue) × AreBatches n j d lines ss y × IsAfterBatch n y (batch_at j lines) (batch_at j ss) e (Err (why, k))) (sym rest) (x, before, after_batch (Err (why, s)) after))
+
+-- ---- each line as by a call of its own
+
+-- lines behind those that were served
+served_of_more : {N : Type 0} (n : Ghosts N) (lines more : List Line) (d : DeskValue) (replies : List Reply) (e : DeskValue) → AreServed n lines d replies e → AreServed n (lines ++ more) d replies e
+served_of_more n lines more d [] e served = served
+served_of_more n [] more d (r ∷ rs) e served = absurd served
+served_of_more n (l ∷ ls) more d (r ∷ rs) e served = (served.0, served.1, served_of_more n ls more served.0 rs e served.2)
+
+served_both : {N : Type 0} (n : Ghosts N) (lines more : List Line) (d : DeskValue) (replies : List Reply) (m : DeskValue) (others : List Reply) (e : DeskValue)
+    → length replies ≡ length lines → AreServed n lines d replies m → AreServed n more m others e → AreServed n (lines ++ more) d (replies ++ others) e
+served_both n [] more d [] m others e long first second = subst (λ (x : DeskValue). AreServed n more x others e) first second
+served_both n [] more d (r ∷ rs) m others e long first second = absurd first
+served_both n (l ∷ ls) more d [] m others e long first second = absurd (omega (arith, long))
+served_both n (l ∷ ls) more d (r ∷ rs) m others e long first second = (first.0, first.1, served_both n ls more first.0 rs m others e (omega (arith, long)) first.2 second)
+
+turned_served : {N : Type 0} (n : Ghosts N) (b : BookValue) (d : DeskValue) (lines : List Line) (replies : List Reply) (c : BookValue) (e : DeskValue) → IsBookUnder n b → AreTurned n b d lines replies c e → AreServed n lines d replies e
+turned_served n b d lines [] c e under turned = turned.1
+turned_served n b d [] (r ∷ rs) c e under turned = absurd turned
+turned_served n b d (l ∷ ls) (r ∷ rs) c e under turned = (turned.1, (b, turned.0, under, turned.3, turned.2), turned_served n turned.0 turned.1 ls rs c e turned.3 turned.4)
+
+take_both : {X : Type 0} (a s : ℕ) (xs : List X) → take (a + s) xs ≡ take a xs ++ take s (drop a xs)
+take_both a s xs =
+    sym (take-append-drop a (take (a + s) xs)) ∙ ap (λ ys. ys ++ drop a (take (a + s) xs)) (take-take a (a + s) xs (omega arith)) ∙ ap (λ ys. take a xs ++ ys) (drop-take a s xs)
+
+-- the lines of the first j batches and some more
+module _ {N : Type 0} (n : Ghosts N) (j : ℕ) (d : DeskValue) (lines : List Line) (replies : List Reply) (many : length replies ≡ length lines) where
+  as_many : length (take (j * most_batch) replies) ≡ length (take (j * most_batch) lines)
+  as_many = length-take (j * most_batch) replies ∙ ap (λ k. min (j * most_batch) k) many ∙ sym (length-take (j * most_batch) lines)
+
+  first_served : (x : DeskValue) (s : ℕ) (e : DeskValue) → AreServed n (take (j * most_batch) lines) d (take (j * most_batch) replies) x
+      → AreServed n (batch_at j lines) x (take s (drop (j * most_batch) replies)) e → AreServed n (take (j * most_batch + most_batch) lines) d (take (j * most_batch + s) replies) e
+  first_served x s e first second =
+      subst (λ (ls : List Line). AreServed n ls d (take (j * most_batch + s) replies) e) (sym (take_both (j * most_batch) most_batch lines))
+      (subst (λ (rs : List Reply). AreServed n (take (j * most_batch) lines ++ batch_at j lines) d rs e) (sym (take_both (j * most_batch) s replies))
+      (served_both n (take (j * most_batch) lines) (batch_at j lines) d (take (j * most_batch) replies) x (take s (drop (j * most_batch) replies)) e as_many first second))
+
+batches_served : {N : Type 0} (n : Ghosts N) (j : ℕ) (d : DeskValue) (lines : List Line) (replies : List Reply) (e : DeskValue) → length replies ≡ length lines → AreBatches n j d lines replies e
+    → AreServed n (take (j * most_batch) lines) d (take (j * most_batch) replies) e
+batches_served n zero d lines replies e many done = done
+batches_served n (suc j) d lines replies e many done =
+    let next : j * most_batch + most_batch ≡ suc j * most_batch = omega arith in
+    subst (λ (k : ℕ). AreServed n (take k lines) d (take k replies) e) next
+    (first_served n j d lines replies many done.0 most_batch e (batches_served n j d lines replies done.0 many done.1)
+    (turned_served n done.2.0 done.0 (batch_at j lines) (batch_at j replies) done.2.1 e done.2.2 done.2.4.1))
+
+-- what `serve_all` promises is what as many calls of `serve` promise, and more
+pub as_alone : {N : Type 0} (n : Ghosts N) (d : DeskValue) (lines : List Line) (replies : List Reply) (e : DeskValue) (r : Result (Unit {0}) (Refusal × ℕ)) → length replies ≡ length lines
+    → IfErr r (λ x. IsEnd n x.0 (stamp_seen e)) → AreAfter n d lines replies e r → IsAsAlone n d lines replies e r
+as_alone n d lines replies e (Ok done) many refused after =
+    let j = div_ceil (length lines) most_batch in
+    let all : length lines ≤ j * most_batch = omega (arith, (div_ceil_times (length lines) most_batch (omega arith)).0) in (
+      many,
+      subst (λ (ls : List Line). AreServed n ls d replies e) (take_all (j * most_batch) lines all)
+          (subst (λ (rs : List Reply). AreServed n (take (j * most_batch) lines) d rs e) (take_all (j * most_batch) replies (omega (arith, all, many)))
+          (batches_served n j d lines replies e many after)),
+    )
+as_alone n d lines replies e (Err (why, k)) many refused after =
+    let j = k / most_batch in
+    let s = k % most_batch in
+    let last = after.2 in
+    let here = last.4 in
+    let y = here.2 in
+    let few : s < length (batch_at j lines) = here.0 in
+    let is : j * most_batch + s ≡ k = div-add-mod' k most_batch in
+    let small : s < most_batch = mod_below k most_batch (omega arith) in
+    let within : k < length lines = omega (arith, is, few, length-take most_batch (drop (j * most_batch) lines), length-drop (j * most_batch) lines) in
+    let turned : AreTurned n last.0 after.0 (batch_at j lines) (take s (drop (j * most_batch) replies)) here.1 y =
+    subst (λ (rs : List Reply). AreTurned n last.0 after.0 (batch_at j lines) rs here.1 y) (take-take s most_batch (drop (j * most_batch) replies) (omega (arith, small))) here.3 in
+    let first = first_served n j d lines replies many after.0 s y (batches_served n j d lines replies after.0 many after.1) (turned_served n last.0 after.0 (batch_at j lines) (take s (drop (j * most_batch) replies)) here.1 y last.2 turned) in (
+      omega (arith, within, length-take-le k replies (omega (arith, within, many)), many),
+      y,
+      subst (λ (ls : List Line). AreServed n ls d (take k replies) y) (take-append-drop (j * most_batch + most_batch) lines)
+          (served_of_more n (take (j * most_batch + most_batch) lines) (drop (j * most_batch + most_batch) lines) d (take k replies) y
+          (subst (λ (i : ℕ). AreServed n (take (j * most_batch + most_batch) lines) d (take i replies) y) is first)),
+      record { number = 0; call = Census },
+      (here.1, last.1, subst (λ (b : BookValue). IsBookUnder n b) here.5 last.3, last.3, (here.4, here.5, here.6)),
+      refused,
+    )

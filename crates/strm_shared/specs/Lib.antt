@@ -10,11 +10,11 @@ pub mod DesksLayout
 pub mod Ledger
 pub mod LedgerLayout
 pub mod Books
-pub mod Batches
 pub mod SeatsLayout
 pub mod Starts
 pub mod StartsLayout
 pub mod Invariants
 pub mod Runs
+pub mod Batches
 pub mod Keeping
 pub mod RunsLayout

@@ -113,7 +113,7 @@ impl<N: Name> Book<N> {
 
     /// Serves a call as [`Book::turn`] does, and writes the reply into `reply`, which stays unchanged if the call is refused.
     /// `Shared` serves calls this way.
-    // Inlined into its callers, so that a line of a batch costs no call more than it does alone.
+    // Inlined into its callers, so that a line of a batch costs no function call more than a line alone.
     #[inline(always)]
     pub fn turn_into(
         &mut self,
@@ -158,11 +158,11 @@ impl<N: Name> Book<N> {
         Ok(())
     }
 
-    /// Serves lines one after another, each as [`Book::turn_into`] does, and writes each reply at its line's place. There must be
-    /// as many replies as lines. `Shared` serves batches this way.
+    /// Serves lines in order, each as [`Book::turn_into`] does, and writes each reply at its line's place. There must be as many
+    /// replies as lines. `Shared` serves batches this way.
     ///
-    /// If a line is refused, later lines would be too: returns why, and the number of lines that were served. Replies from this
-    /// place on stay unchanged.
+    /// Refused at the first line that [`Book::turn_into`] refuses; later lines are not tried. Returns why, and the number of lines
+    /// that were served: their replies are written, and the others stay unchanged.
     pub fn turn_all(
         &mut self,
         shared: &Shared<N>,
@@ -171,7 +171,7 @@ impl<N: Name> Book<N> {
         replies: &mut [Reply],
     ) -> Result<(), (Refusal, usize)>
         requires { length lines.now ≡ length replies.old }
-        ensures answer { AnswersAll self.old desk.old lines.now replies.new self.new desk.new result }
+        ensures answer { AnswersAll N.Name self.old desk.old lines.now replies.new self.new desk.new result }
         ensures kept { IfErr result (λ e. drop e.1 replies.new ≡ drop e.1 replies.old) }
     {
         for place in 0..lines.len() {
@@ -181,6 +181,7 @@ impl<N: Name> Book<N> {
                 Ok(()) => {}
                 Err(why) => return Err((why, place)),
             }
+            self.lawful();
         }
         Ok(())
     }

@@ -5,7 +5,7 @@ ghost use Rattle.strm_data.specs.declared.refusal.Refusal.TheVariants.{DeskMissi
 ghost use Rattle.strm_mblk.specs.Given.{answer_map};
 ghost use Rattle.strm_pool.specs.PoolValue.{owns};
 ghost use Rattle.strm_pool.specs.Registers.{AreAccounted, entries_of};
-ghost use Rattle.strm_shared.specs.Batches.{AreAfter, IsAfterBatch};
+ghost use Rattle.strm_shared.specs.Batches.{AreAfter, IsAfterBatch, IsAsAlone};
 ghost use Rattle.strm_shared.specs.Books.{AreShown, IsAfter, IsEnd, IsWholeUnder, TellsNewest};
 ghost use Rattle.strm_shared.specs.Desks.{DeskValue, no_desk, with_pair_seen, stamp_seen};
 ghost use Rattle.strm_shared.specs.Ledger.{AreAll};
@@ -92,14 +92,16 @@ impl<N: Name> Shared<N> {
         answer
     }
 
-    /// Serves lines one after another on the desk's registers, each as [`Shared::serve`] does, and writes each reply at its line's
-    /// place. There must be as many replies as lines. The lock is taken once for up to `MOST_BATCH` lines, among which no other
-    /// thread is served. For more lines it is let go after each `MOST_BATCH`, and others may come in between. Each line raises
-    /// the stamp by 1 and stores the word, and a trace that is kept gets its entry. It waits for the lock; allocates nothing.
+    /// Serves lines in order on the desk's registers, each as [`Shared::serve`] does, and writes each reply at its line's place.
+    /// There must be as many replies as lines. It takes the lock once for up to `MOST_BATCH` lines, and no other call is served
+    /// between these. After `MOST_BATCH` lines it lets the lock go and takes it again, so other calls may be served there. Each
+    /// line raises the stamp by 1, stores the word, and has its own entry in a trace that is kept. Waits for the lock, also if
+    /// it then refuses; allocates nothing.
     ///
-    /// Stops at the first line that is refused, as `Worn` or `TraceFull`, since later lines would be refused too. Returns why, and
-    /// the number of lines that were served. Replies from this place on stay unchanged. The desk has seen the stamp that shows it,
-    /// as after [`Shared::serve`]. Like there, the replies `Refused`, `Empty` and `Taken` are those of served lines.
+    /// Refused as `Worn`, then as `TraceFull`, at the first line that [`Shared::serve`] would refuse; later lines are not tried.
+    /// Returns why, and the number of lines that were served: their replies are written, and the others stay unchanged. The desk
+    /// then has seen the last stamp that there is, or the stamp at which the trace became full. A line whose reply is `Refused`,
+    /// `Empty` or `Taken` was served.
     pub fn serve_all(
         &self,
         rt: &impl Wait,
@@ -109,6 +111,7 @@ impl<N: Name> Shared<N> {
     ) -> Result<(), (Refusal, usize)>
         requires { length lines.now ≡ length replies.old }
         ensures after { AreAfter N.Name desk.old lines.now replies.new desk.new result }
+        ensures alone { IsAsAlone N.Name desk.old lines.now replies.new desk.new result }
         ensures refused { IfErr result (λ e. IsEnd N.Name e.0 (stamp_seen desk.new)) }
         ensures kept { IfErr result (λ e. drop e.1 replies.new ≡ drop e.1 replies.old) }
     {

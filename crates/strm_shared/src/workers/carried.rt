@@ -76,7 +76,7 @@ impl<N: Name> Carried<N> {
             result.done.replies.items result.done.desks }
         ensures spent { result.crew.desks ≡ [] }
     {
-        serve_all(scope, site, parts, &mut self.crew, &mut self.done);
+        serve_each(scope, site, parts, &mut self.crew, &mut self.done);
         self
     }
 
@@ -104,7 +104,7 @@ impl<N: Name> Carried<N> {
 }
 
 // Starts the last worker, goes on with those before it, and then waits for it.
-fn serve_all<'s, E, N: Name + Send + Sync, R: Threads + Wait + Sync, G: Gate>(
+fn serve_each<'s, E, N: Name + Send + Sync, R: Threads + Wait + Sync, G: Gate>(
     scope: &Scope<'s, E>,
     site: &'s Site<'s, N, R, G>,
     parts: &'s [Lines],
@@ -127,6 +127,6 @@ fn serve_all<'s, E, N: Name + Send + Sync, R: Threads + Wait + Sync, G: Gate>(
     let worker = crew.take_last();
     let number = earlier.len() as u8;
     let started = start(scope, site, number, lines.items(), worker);
-    serve_all(scope, site, earlier, crew, done);
+    serve_each(scope, site, earlier, crew, done);
     done.push(finish(site.rt, started));
 }

@@ -1,6 +1,6 @@
-use Rattle.std.proofs.Common.{rules, ◌≡◌, ◌+◌, ◌<◌, List, ◌++◌, ◌∷◌, [], length, get_or, set, take, drop, refl, sym, ap, subst, ◌∙◌, arith, length-take-le, drop-set-lt, take_all}
+use Rattle.std.proofs.Common.{rules, ◌≡◌, ◌+◌, ◌<◌, List, length, get_or, take, refl, sym, subst, ◌∙◌, arith, length-take-le, drop-set-lt, take_all}
 use Rattle.std.proofs.lemmas.Grind.{drop_more_same}
-use Rattle.std.proofs.lemmas.List.{set-get_or, take_more_set}
+use Rattle.std.proofs.lemmas.List.{take_more_set}
 use Rattle.strm_pool.specs.declared.reply.Reply.{Reply}
 use Rattle.strm_shared.specs.declared.line.Line.{Line}
 use Rattle.strm_shared.specs.Batches.{AreTurned}
@@ -24,8 +24,8 @@ loop-place-preserved g c =
     let served = subst (λ n. IsServed c.loop-place.self c.loop-place.desk (get_or lines n line).number (get_or lines n line).call c.turn_into.new.self c.turn_into.new.desk reply) (sym so_far)
     (subst (λ (x : Line). IsServed c.loop-place.self c.loop-place.desk x.number x.call c.turn_into.new.self c.turn_into.new.desk reply) (sym here) c.in-Ok.ensures.answer) in
     record {
-      turned = subst (λ (rs : List Reply). AreTurned c.args.self.now c.args.desk.now lines rs c.turn_into.new.self c.turn_into.new.desk) (sym (take_more_set replies k reply within))
-          (turned_more c.args.self.now c.args.desk.now lines (take k replies) c.loop-place.self c.loop-place.desk line reply c.turn_into.new.self c.turn_into.new.desk c.loop-place.invariant.turned (omega (arith, so_far)) served);
+      turned = subst (λ (rs : List Reply). AreTurned g.N.Name c.args.self.now c.args.desk.now lines rs c.turn_into.new.self c.turn_into.new.desk) (sym (take_more_set replies k reply within))
+          (turned_more g.N.Name c.args.self.now c.args.desk.now lines (take k replies) c.loop-place.self c.loop-place.desk line reply c.turn_into.new.self c.turn_into.new.desk c.loop-place.invariant.turned (omega (arith, so_far)) served (record { lawful = c.lawful.ensures.law; sized = c.lawful.ensures.sized }));
       kept = drop-set-lt (k + 1) replies k reply (omega arith) ∙ drop_more_same replies c.args.replies.now k c.loop-place.invariant.kept;
     }
 
@@ -36,7 +36,7 @@ returns g c =
     record {
       answer = (
         omega (arith, c.loop-place.auto.replies, c.requires),
-        subst (λ (rs : List Reply). AreTurned c.args.self.now c.args.desk.now c.args.lines.now rs c.loop-place.self c.loop-place.desk) all c.loop-place.invariant.turned,
+        subst (λ (rs : List Reply). AreTurned g.N.Name c.args.self.now c.args.desk.now c.args.lines.now rs c.loop-place.self c.loop-place.desk) all c.loop-place.invariant.turned,
       );
       kept = tt;
     }

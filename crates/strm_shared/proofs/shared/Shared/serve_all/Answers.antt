@@ -1,6 +1,8 @@
-use Rattle.std.proofs.Common.{◌≡◌, ◌+◌, ◌-◌, ◌*◌, ◌<◌, ◌≤◌, min, length, take, drop, refl, ap, ◌∙◌, arith, length-drop, length-take-le}
+use Rattle.std.proofs.Common.{◌≡◌, ℕ, ◌+◌, ◌-◌, ◌*◌, ◌≤◌, length, take, drop, Ok, Err, subst, arith, length-drop, length-take-le}
+use Rattle.std.specs.Int.{div_ceil}
+use Rattle.strm_shared.specs.Batches.{AreBatches}
 use Rattle.strm_shared.specs.Limits.{most_batch}
-use Rattle.strm_shared.proofs.Batching.{batch_begins, batches_end, batches_more, kept_end, kept_more, refused_within}
+use Rattle.strm_shared.proofs.Batching.{as_alone, batch_begins, batches_end, batches_more, kept_end, kept_more, refused_within, still_many}
 use Rattle.strm_shared.proofs.shared.Shared.serve_all.Given as given
 use Rattle.strm_shared.proofs.shared.Shared.serve_all.Goals as goal
 use Rattle.strm_shared.proofs.shared.Shared.serve_all.Goals.{After-serve_batch}
@@ -61,3 +63,21 @@ returns-in-Err-clause-kept g c =
       length-take-le (c.min-until.result - j * most_batch) (drop (j * most_batch) c.args.lines.now) (omega (arith, c.min-until.ensures, there g now, length-drop (j * most_batch) c.args.lines.now)),
     ))
     c.in-Err.ensures.kept
+
+pub returns-in-Err-clause-alone : goal.returns-in-Err-clause-alone
+returns-in-Err-clause-alone g c =
+    let now = (goal.at.returns-in-Err-clause-alone g c).After-serve_batch in
+    let j = c.loop-batch.batch in
+    let lines = c.args.lines.now in
+    let rs = c.loop-batch.replies in
+    let ys = c.serve_batch.new.replies in
+    as_alone g.N.Name c.args.desk.now lines _ c.serve_batch.new.desk (Err (c.in-Err.why, j * most_batch + c.in-Err.served))
+    (still_many g.N.Name j c.min-until.result lines rs ys c.min-until.ensures (there g now) (many g now) (long g now) c.args.desk.now c.loop-batch.desk c.serve_batch.new.desk c.loop-batch.invariant.served)
+    c.in-Err.ensures.refused
+    (batches_end g.N.Name j c.min-until.result lines rs ys c.min-until.ensures (there g now) (many g now) (long g now) c.args.desk.now c.loop-batch.desk c.serve_batch.new.desk c.loop-batch.invariant.served c.in-Err.why c.in-Err.served c.in-Err.ensures.after)
+
+pub returns-clause-alone : goal.returns-clause-alone
+returns-clause-alone g c =
+    let all : c.loop-batch.batch ≡ div_ceil (length c.args.lines.now) most_batch = omega (arith, c.loop-batch-test.false, c.div_ceil-batch-end.ensures) in
+    as_alone g.N.Name c.args.desk.now c.args.lines.now c.loop-batch.replies c.loop-batch.desk (Ok tt) (omega (arith, c.requires, c.loop-batch.auto.replies)) tt
+    (subst (λ (j : ℕ). AreBatches g.N.Name j c.args.desk.now c.args.lines.now c.loop-batch.replies c.loop-batch.desk) all c.loop-batch.invariant.served)
