@@ -163,11 +163,14 @@ install-tools: install-pages
 	install -d $(DESTDIR)$(PREFIX)/bin
 	for tool in $(TOOLS); do install -m 755 tools/$$tool $(SHARE)/strm && ln -sf ../share/strm/$$tool $(DESTDIR)$(PREFIX)/bin/$$tool || exit; done
 
-# Installs the examples, the licence, what README.md is for users of what is installed, and the pages of docs that they read.
+# Installs the examples, the licence, what README.md is for users of what is installed, and the pages of docs that they read, in
+# PREFIX/share/strm. In share/doc, which images for containers often leave out, are links to them.
 install-docs:
-	for file in $$(find examples -type f); do install -D -m 644 $$file $(SHARE)/doc/strm/$$file || exit; done
-	install -m 644 LICENSE $(SHARE)/doc/strm/LICENSE
-	tools/doc_pages $(SHARE)/doc/strm $(PAGE_PREFIX)
+	for file in $$(find examples -type f); do install -D -m 644 $$file $(SHARE)/strm/$$file || exit; done
+	install -m 644 LICENSE $(SHARE)/strm/LICENSE
+	tools/doc_pages $(SHARE)/strm $(PAGE_PREFIX)
+	install -d $(SHARE)/doc/strm
+	for name in README.md LICENSE docs examples; do rm -rf $(SHARE)/doc/strm/$$name && ln -s ../../strm/$$name $(SHARE)/doc/strm || exit; done
 
 # Puts the library for C at build/libstrm.a, the shared library at build/libstrm.so, and the pkg-config file at build/strm.pc.
 lib: build/libstrm.a build/libstrm.so build/strm.pc

@@ -4,6 +4,7 @@ import io
 import re
 from typing import NamedTuple
 
+from strm_tools.beside import beside
 from strm_tools.limits import CLASSES, COMMAND_LINES, DATA_BLOCK_BYTES, DATA_BLOCKS, MESSAGE_BLOCKS, QUEUES, WISHES, WORKERS
 from strm_tools.model import HIGH_PRIORITY, ORDINARY, WORDS
 from strm_tools.script import Wrong
@@ -127,7 +128,7 @@ class LineFault(NamedTuple):
 
     def explained(self):
         """The fault as strm reports it, and which tool says what was expected."""
-        return f"{self.reported()}; strm-check FILE says more"
+        return f"{self.reported()}; {beside('strm-check')} FILE says more"
 
 
 class Reading:
@@ -201,7 +202,7 @@ class ConfigFault(NamedTuple):
 
     def explained(self):
         """The fault with what is wrong, and which tool lists all others."""
-        return f"{self.told()}; strm-check --all FILE lists all faults"
+        return f"{self.told()}; {beside('strm-check')} --all FILE lists all faults"
 
 
 class Header:

@@ -5,6 +5,7 @@ import re
 import unicodedata
 from typing import NamedTuple
 
+from strm_tools.beside import beside
 from strm_tools.faults import AFTER, BYTE_ORDER_MARK, FITS, FORMS, GREATEST, MOST, STAGE, bare_of, has_form, line_kind, misfit
 from strm_tools.model import HIGH_PRIORITY, ORDINARY
 from strm_tools.shown import CARRIAGE_RETURN, octets, shown
@@ -195,7 +196,7 @@ def first_word(faulty):
         here = tuple(first for first in FORMS if line_kind(first) in AFTER[faulty.before])
         near = list(nearest_hint(word, here)) or list(nearest_hint(word, tuple(FORMS)))
         is_plain = re.fullmatch(f"[A-Za-z_][A-Za-z0-9_]{{0,{LONGEST_WORD}}}", faulty.word())
-        yield from near or (["strm-check --words lists all words"] if is_plain else [])
+        yield from near or ([f"{beside('strm-check')} --words lists all words"] if is_plain else [])
 
 
 def line_of_first(script, kind):
