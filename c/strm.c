@@ -63,6 +63,19 @@ static int is_open(const struct strm_pool *pool)
 	return pool != NULL && pool->state == STRM_POOL_OPEN;
 }
 
+/*
+ * Makes a reader of a handle for one look, unless the handle is null. So the crate gets a reader that no other call has, and the
+ * handle is only read.
+ */
+static int is_reader(struct strm_reader *reader, const struct strm_pool *pool)
+{
+	if (pool == NULL)
+		return 0;
+	reader->at = pool->at;
+	reader->state = pool->state;
+	return 1;
+}
+
 /* What a call returns if its handle is null or an argument does not fit. */
 static int fault_of(const struct strm_pool *pool)
 {
@@ -161,6 +174,16 @@ int strm_close(struct strm_pool *pool)
 	}
 STRM_CALLS(DEFINE)
 
+/* Defines the look of a row of STRM_LOOKS. */
+#define POOL const struct strm_pool *pool
+#define DEFINE_LOOK(look, parameters, arguments, fits) \
+	int strm_##look parameters \
+	{ \
+		struct strm_reader reader; \
+		return is_reader(&reader, pool) && (fits) ? strm_c_##look arguments : fault_of(pool); \
+	}
+STRM_LOOKS(DEFINE_LOOK)
+
 int strm_freeb(struct strm_pool *pool, struct strm_msg msg, struct strm_msg *rest)
 {
 	if (pool == NULL || rest == NULL)
@@ -182,26 +205,33 @@ int strm_write(struct strm_pool *pool, struct strm_msg msg, uint32_t place, cons
 	return strm_c_write(pool, msg, place, length == 0 ? &nothing.byte : (const uint8_t *)bytes, length);
 }
 
-int strm_read(struct strm_pool *pool, struct strm_msg msg, uint32_t at, void *into, size_t length, size_t *count)
+int strm_read(const struct strm_pool *pool, struct strm_msg msg, uint32_t at, void *into, size_t length, size_t *count)
 {
-	if (pool == NULL || !is_buffer(into, length) || !is_count(count, into, length))
+	struct strm_reader reader;
+
+	if (!is_reader(&reader, pool) || !is_buffer(into, length) || !is_count(count, into, length))
 		return fault_of(pool);
-	return strm_c_read(pool, msg, at, length == 0 ? &nothing.byte : (uint8_t *)into, length, count);
+	return strm_c_read(&reader, msg, at, length == 0 ? &nothing.byte : (uint8_t *)into, length, count);
 }
 
-int strm_blocks(struct strm_pool *pool, struct strm_msg msg, uint32_t from, struct strm_block_info *into, size_t length,
+int strm_blocks(const struct strm_pool *pool, struct strm_msg msg, uint32_t from, struct strm_block_info *into, size_t length,
 	size_t *count)
 {
-	if (pool == NULL || !is_array(into, length, sizeof *into) || !is_count(count, into, length))
+	struct strm_reader reader;
+
+	if (!is_reader(&reader, pool) || !is_array(into, length, sizeof *into) || !is_count(count, into, length))
 		return fault_of(pool);
-	return strm_c_blocks(pool, msg, from, length == 0 ? &nothing.block : into, length, count);
+	return strm_c_blocks(&reader, msg, from, length == 0 ? &nothing.block : into, length, count);
 }
 
-int strm_iov(struct strm_pool *pool, struct strm_msg msg, uint32_t from, struct strm_iov *into, size_t length, size_t *count)
+int strm_iov(const struct strm_pool *pool, struct strm_msg msg, uint32_t from, struct strm_iov *into, size_t length,
+	size_t *count)
 {
-	if (pool == NULL || !is_array(into, length, sizeof *into) || !is_count(count, into, length))
+	struct strm_reader reader;
+
+	if (!is_reader(&reader, pool) || !is_array(into, length, sizeof *into) || !is_count(count, into, length))
 		return fault_of(pool);
-	return strm_c_iov(pool, msg, from, length == 0 ? &nothing.iov : into, length, count);
+	return strm_c_iov(&reader, msg, from, length == 0 ? &nothing.iov : into, length, count);
 }
 
 int strm_overwrite(struct strm_pool *pool, struct strm_msg msg, uint32_t at, const void *bytes, size_t length)
@@ -225,12 +255,14 @@ int strm_transfer(struct strm_pool *pool, struct strm_pool *other, struct strm_m
 	return strm_c_transfer(pool, other, msg, moved);
 }
 
-int strm_read_queued(struct strm_pool *pool, uint32_t queue, uint32_t place, uint32_t at, void *into, size_t length,
+int strm_read_queued(const struct strm_pool *pool, uint32_t queue, uint32_t place, uint32_t at, void *into, size_t length,
 	size_t *count)
 {
-	if (pool == NULL || !is_buffer(into, length) || !is_count(count, into, length))
+	struct strm_reader reader;
+
+	if (!is_reader(&reader, pool) || !is_buffer(into, length) || !is_count(count, into, length))
 		return fault_of(pool);
-	return strm_c_read_queued(pool, queue, place, at, length == 0 ? &nothing.byte : (uint8_t *)into, length, count);
+	return strm_c_read_queued(&reader, queue, place, at, length == 0 ? &nothing.byte : (uint8_t *)into, length, count);
 }
 
 int strm_allocb_n(struct strm_pool *pool, uint32_t size, struct strm_msg *msgs, size_t length, size_t *count)

@@ -45,11 +45,11 @@
  *   - want-to-read: a mark that a new queue has, and that strm_getq sets or clears.
  *   - wish (bufcall): a recorded request for a message block and a data block. strm_take_ready
  *     returns the wish, not the blocks.
- *   - look: a call that changes nothing in the pool. Looks are strm_testb, strm_read, strm_size,
- *     strm_msgdsize, strm_block, strm_blocks, strm_bytes, strm_iov, strm_place, strm_has,
- *     strm_name_at, strm_qsize, strm_queued_at, strm_read_queued, strm_first_queued,
- *     strm_queued_after, strm_queue_spec, strm_strqget, strm_run_at, strm_wish_at, strm_census,
- *     strm_class_info, strm_queue_info, strm_band_info and strm_is_open.
+ *   - look: a call that changes nothing in the pool. Its handle is `const`. Looks are strm_testb,
+ *     strm_read, strm_size, strm_msgdsize, strm_block, strm_blocks, strm_bytes, strm_iov,
+ *     strm_place, strm_has, strm_name_at, strm_qsize, strm_queued_at, strm_read_queued,
+ *     strm_first_queued, strm_queued_after, strm_queue_spec, strm_strqget, strm_run_at,
+ *     strm_wish_at, strm_census, strm_class_info, strm_queue_info, strm_band_info and strm_is_open.
  *
  *
  * Results
@@ -122,11 +122,12 @@
  *   - A pointer that is not null leads to as many objects as the call says. During the call nothing
  *     else writes to these objects. Where the call writes, nothing else reads, and what it writes
  *     overlaps nothing else that it is given.
- *   - A call may write to its handle, even a look. So a handle is passed to one call at a time.
- *     Threads that share a pool hold a lock of their own during each call. Without it, calls that
- *     meet often end the program by SIGILL, or they damage the pool unnoticed. ThreadSanitizer
- *     seldom reports them, since the library has no instrumentation. Different pools may be used at
- *     the same time.
+ *   - Looks write nothing to the pool or its handle, so several looks at one pool may run at the
+ *     same time. Any other call runs alone on its pool. Threads that share a pool hold a lock of
+ *     their own during each call; for looks a read lock is enough (examples/c/readers.c). Without
+ *     it, calls that meet often end the program by SIGILL, or they damage the pool unnoticed.
+ *     ThreadSanitizer seldom reports them, since the library has no instrumentation. Different
+ *     pools may be used at the same time.
  *   - Nothing is written through a pointer that strm_bytes or strm_iov returns. Nothing is read
  *     through it once a call that is no look was made with that pool; a look leaves it good. It is
  *     passed to no call with the same pool, such as strm_write: copy the bytes by strm_read first.
@@ -402,13 +403,14 @@ struct strm_wish {
  * These six calls have names of structs, which a function would hide in C++. Their symbols are
  * those of C.
  */
-int strm_census_(struct strm_pool *pool, struct strm_census *census) __asm__("strm_census");
-int strm_class_info_(struct strm_pool *pool, uint32_t place, struct strm_class_info *info) __asm__("strm_class_info");
-int strm_queue_info_(struct strm_pool *pool, uint32_t queue, struct strm_queue_info *info) __asm__("strm_queue_info");
-int strm_band_info_(struct strm_pool *pool, uint32_t queue, uint32_t band, struct strm_band_info *info) __asm__("strm_band_info");
-int strm_queue_spec_(struct strm_pool *pool, uint32_t queue, struct strm_queue_spec *spec) __asm__("strm_queue_spec");
-int strm_iov_(struct strm_pool *pool, struct strm_msg msg, uint32_t from, struct strm_iov *into, size_t length, size_t *count)
-	__asm__("strm_iov");
+int strm_census_(const struct strm_pool *pool, struct strm_census *census) __asm__("strm_census");
+int strm_class_info_(const struct strm_pool *pool, uint32_t place, struct strm_class_info *info) __asm__("strm_class_info");
+int strm_queue_info_(const struct strm_pool *pool, uint32_t queue, struct strm_queue_info *info) __asm__("strm_queue_info");
+int strm_band_info_(const struct strm_pool *pool, uint32_t queue, uint32_t band, struct strm_band_info *info)
+	__asm__("strm_band_info");
+int strm_queue_spec_(const struct strm_pool *pool, uint32_t queue, struct strm_queue_spec *spec) __asm__("strm_queue_spec");
+int strm_iov_(const struct strm_pool *pool, struct strm_msg msg, uint32_t from, struct strm_iov *into, size_t length,
+	size_t *count) __asm__("strm_iov");
 #define strm_census(pool, census) strm_census_(pool, census)
 #define strm_class_info(pool, place, info) strm_class_info_(pool, place, info)
 #define strm_queue_info(pool, queue, info) strm_queue_info_(pool, queue, info)
@@ -465,7 +467,7 @@ int strm_allocb(struct strm_pool *pool, uint32_t size, struct strm_msg *msg);
  * Sets *yes to 1 if strm_allocb of this size would succeed now, else to 0.
  * Differs from STREAMS: the answer is exact.
  */
-int strm_testb(struct strm_pool *pool, uint32_t size, uint32_t *yes);
+int strm_testb(const struct strm_pool *pool, uint32_t size, uint32_t *yes);
 
 /*
  * Duplicates the first block of a message: the new message has one block over the same data block,
@@ -530,7 +532,7 @@ int strm_write(struct strm_pool *pool, struct strm_msg msg, uint32_t place, cons
  * of the buffer is unchanged.
  * STREAMS: reading through b_rptr, block by block.
  */
-int strm_read(struct strm_pool *pool, struct strm_msg msg, uint32_t at, void *into, size_t length, size_t *count);
+int strm_read(const struct strm_pool *pool, struct strm_msg msg, uint32_t at, void *into, size_t length, size_t *count);
 
 /*
  * Sets the type of the data block of the block numbered `place`, STRM_M_DATA to STRM_M_IOCDATA.
@@ -546,17 +548,17 @@ int strm_settype(struct strm_pool *pool, struct strm_msg msg, uint32_t place, ui
 int strm_setband(struct strm_pool *pool, struct strm_msg msg, uint32_t band);
 
 /* Counts the bytes of a message. Not in STREAMS. */
-int strm_size(struct strm_pool *pool, struct strm_msg msg, uint32_t *bytes);
+int strm_size(const struct strm_pool *pool, struct strm_msg msg, uint32_t *bytes);
 
 /* Counts the bytes in blocks of type STRM_M_DATA. As in STREAMS. */
-int strm_msgdsize(struct strm_pool *pool, struct strm_msg msg, uint32_t *bytes);
+int strm_msgdsize(const struct strm_pool *pool, struct strm_msg msg, uint32_t *bytes);
 
 /*
  * Returns the fields of the block numbered `place`.
  * Refused as STRM_NO_SUCH_BLOCK.
  * STREAMS: the fields of msgb and datab.
  */
-int strm_block(struct strm_pool *pool, struct strm_msg msg, uint32_t place, struct strm_block_info *block);
+int strm_block(const struct strm_pool *pool, struct strm_msg msg, uint32_t place, struct strm_block_info *block);
 
 /*
  * Returns the fields of consecutive blocks of a message, from the block numbered `from` on, in the
@@ -565,11 +567,11 @@ int strm_block(struct strm_pool *pool, struct strm_msg msg, uint32_t place, stru
  * of the array is unchanged. For each 32 blocks it goes from the first block on anew.
  * STREAMS: following b_cont.
  */
-int strm_blocks(struct strm_pool *pool, struct strm_msg msg, uint32_t from, struct strm_block_info *into, size_t length,
+int strm_blocks(const struct strm_pool *pool, struct strm_msg msg, uint32_t from, struct strm_block_info *into, size_t length,
 	size_t *count);
 
 /* Sets *yes to 1 if the name is valid, else to 0. It never returns STRM_INVALID. Not in STREAMS. */
-int strm_has(struct strm_pool *pool, struct strm_msg msg, uint32_t *yes);
+int strm_has(const struct strm_pool *pool, struct strm_msg msg, uint32_t *yes);
 
 /*
  * Returns the name of the held message whose first block has the number `head`. If no held message
@@ -578,7 +580,7 @@ int strm_has(struct strm_pool *pool, struct strm_msg msg, uint32_t *yes);
  * `mblks` of the configuration.
  * Not in STREAMS.
  */
-int strm_name_at(struct strm_pool *pool, uint32_t head, struct strm_msg *msg);
+int strm_name_at(const struct strm_pool *pool, uint32_t head, struct strm_msg *msg);
 
 /* ---- bytes in place: strm_bytes(3) */
 
@@ -590,7 +592,7 @@ int strm_name_at(struct strm_pool *pool, uint32_t head, struct strm_msg *msg);
  * Refused as STRM_NO_SUCH_BLOCK.
  * STREAMS: b_rptr and b_wptr; here the caller may not write.
  */
-int strm_bytes(struct strm_pool *pool, struct strm_msg msg, uint32_t place, const uint8_t **bytes, size_t *length);
+int strm_bytes(const struct strm_pool *pool, struct strm_msg msg, uint32_t place, const uint8_t **bytes, size_t *length);
 
 /*
  * Sets base and length of consecutive blocks of a message, as strm_bytes does, in the array `into`
@@ -602,7 +604,8 @@ int strm_bytes(struct strm_pool *pool, struct strm_msg msg, uint32_t place, cons
  * takes time for the square of their number.
  * Not in STREAMS.
  */
-int strm_iov(struct strm_pool *pool, struct strm_msg msg, uint32_t from, struct strm_iov *into, size_t length, size_t *count);
+int strm_iov(const struct strm_pool *pool, struct strm_msg msg, uint32_t from, struct strm_iov *into, size_t length,
+	size_t *count);
 
 /*
  * Returns the data block of the block numbered `place`, and where its bytes are. With these numbers
@@ -614,7 +617,7 @@ int strm_iov(struct strm_pool *pool, struct strm_msg msg, uint32_t from, struct 
  * Refused as STRM_NO_SUCH_BLOCK.
  * STREAMS: db_base, db_lim, b_rptr and b_wptr, as numbers.
  */
-int strm_place(struct strm_pool *pool, struct strm_msg msg, uint32_t place, struct strm_block_place *where);
+int strm_place(const struct strm_pool *pool, struct strm_msg msg, uint32_t place, struct strm_block_place *where);
 
 /*
  * Writes `length` bytes over those of a message, beginning with the byte numbered `at`, counted
@@ -762,21 +765,21 @@ int strm_getq(struct strm_pool *pool, uint32_t queue, struct strm_msg *msg);
 int strm_rmvq(struct strm_pool *pool, uint32_t queue, uint32_t place, struct strm_msg *msg);
 
 /* Counts the messages on a queue. As in STREAMS. */
-int strm_qsize(struct strm_pool *pool, uint32_t queue, uint32_t *msgs);
+int strm_qsize(const struct strm_pool *pool, uint32_t queue, uint32_t *msgs);
 
 /*
  * Returns what the message at `place` of a queue is like.
  * Refused as STRM_NO_SUCH_PLACE.
  * STREAMS: following q_first and b_next.
  */
-int strm_queued_at(struct strm_pool *pool, uint32_t queue, uint32_t place, struct strm_queued *queued);
+int strm_queued_at(const struct strm_pool *pool, uint32_t queue, uint32_t place, struct strm_queued *queued);
 
 /*
  * Copies bytes of the message at `place` of a queue, as strm_read does.
  * Refused as STRM_NO_SUCH_PLACE.
  * STREAMS: reading through q_first, b_next and b_rptr.
  */
-int strm_read_queued(struct strm_pool *pool, uint32_t queue, uint32_t place, uint32_t at, void *into, size_t length,
+int strm_read_queued(const struct strm_pool *pool, uint32_t queue, uint32_t place, uint32_t at, void *into, size_t length,
 	size_t *count);
 
 /*
@@ -784,7 +787,7 @@ int strm_read_queued(struct strm_pool *pool, uint32_t queue, uint32_t place, uin
  * is empty.
  * STREAMS: q_first.
  */
-int strm_first_queued(struct strm_pool *pool, uint32_t queue, uint32_t *head);
+int strm_first_queued(const struct strm_pool *pool, uint32_t queue, uint32_t *head);
 
 /*
  * Returns the number of the first block of the next message on the same queue, after the message
@@ -792,7 +795,7 @@ int strm_first_queued(struct strm_pool *pool, uint32_t queue, uint32_t *head);
  * Refused as STRM_NO_SUCH_PLACE if no message on a queue begins with that block.
  * STREAMS: b_next.
  */
-int strm_queued_after(struct strm_pool *pool, uint32_t head, uint32_t *after);
+int strm_queued_after(const struct strm_pool *pool, uint32_t head, uint32_t *after);
 
 /*
  * Frees messages of a queue, front to back: all, or those with data (STRM_FLUSHALL,
@@ -873,7 +876,7 @@ int strm_bcanput(struct strm_pool *pool, uint32_t queue, uint32_t band, uint32_t
 int strm_strqset(struct strm_pool *pool, uint32_t queue, uint32_t band, uint32_t hiwat, uint32_t lowat);
 
 /* Returns the water marks of a band. Differs from STREAMS (QHIWAT, QLOWAT): both at once. */
-int strm_strqget(struct strm_pool *pool, uint32_t queue, uint32_t band, struct strm_marks *marks);
+int strm_strqget(const struct strm_pool *pool, uint32_t queue, uint32_t band, struct strm_marks *marks);
 
 /*
  * Enables a queue, even if enabling is off.
@@ -898,7 +901,7 @@ int strm_enableok(struct strm_pool *pool, uint32_t queue);
 int strm_next_service(struct strm_pool *pool, uint32_t *queue);
 
 /* Returns the queue at a place of the run list, or STRM_NONE if there is none. Not in STREAMS. */
-int strm_run_at(struct strm_pool *pool, uint32_t place, uint32_t *queue);
+int strm_run_at(const struct strm_pool *pool, uint32_t place, uint32_t *queue);
 
 /* ---- wishes: strm_bufcall(3) */
 
@@ -933,7 +936,7 @@ int strm_unbufcall(struct strm_pool *pool, uint32_t id);
 int strm_take_ready(struct strm_pool *pool, struct strm_wish *wish);
 
 /* Returns the wish at a place, the oldest first, or STRM_NONE if there is none. Not in STREAMS. */
-int strm_wish_at(struct strm_pool *pool, uint32_t place, struct strm_wish *wish);
+int strm_wish_at(const struct strm_pool *pool, uint32_t place, struct strm_wish *wish);
 
 /* ---- what there is: strm_census(3) */
 
@@ -942,28 +945,28 @@ int strm_wish_at(struct strm_pool *pool, uint32_t place, struct strm_wish *wish)
  * `service` is 1 or 0.
  * STREAMS: q_qinfo and q_next.
  */
-int strm_queue_spec(struct strm_pool *pool, uint32_t queue, struct strm_queue_spec *spec);
+int strm_queue_spec(const struct strm_pool *pool, uint32_t queue, struct strm_queue_spec *spec);
 
 /* Counts the message blocks: free, on queues, and held. Not in STREAMS. */
-int strm_census(struct strm_pool *pool, struct strm_census *census);
+int strm_census(const struct strm_pool *pool, struct strm_census *census);
 
 /*
  * Returns the size class at a place, the smallest first, or STRM_NONE if there is none.
  * Not in STREAMS.
  */
-int strm_class_info(struct strm_pool *pool, uint32_t place, struct strm_class_info *info);
+int strm_class_info(const struct strm_pool *pool, uint32_t place, struct strm_class_info *info);
 
 /*
  * Returns the state of a queue.
  * STREAMS: q_count, and QWANTR, QNOENB and QENAB of q_flag; here `bytes` counts all bands.
  */
-int strm_queue_info(struct strm_pool *pool, uint32_t queue, struct strm_queue_info *info);
+int strm_queue_info(const struct strm_pool *pool, uint32_t queue, struct strm_queue_info *info);
 
 /*
  * Returns the state of a band of a queue, 0 to 255.
  * STREAMS: qb_count, and QB_FULL and QB_WANTW of qb_flag.
  */
-int strm_band_info(struct strm_pool *pool, uint32_t queue, uint32_t band, struct strm_band_info *info);
+int strm_band_info(const struct strm_pool *pool, uint32_t queue, uint32_t band, struct strm_band_info *info);
 
 /* ---- texts: strm_text(3) */
 

@@ -8,13 +8,18 @@
 
 #include "strm.h"
 
+/* A reader of a pool: the words of its handle. It has a share of the right to read the pool, and is used by one call. */
+struct strm_reader {
+	void *at;
+	size_t state;
+};
+
 /*
  * The calls that pass their arguments on unchanged, in the order of strm.h. A row has a call's name without `strm_`, its parameters,
  * its arguments, and what must be true of the pointers among them.
  */
 #define STRM_CALLS(CALL) \
 	CALL(allocb, (struct strm_pool *pool, uint32_t size, struct strm_msg *msg), (pool, size, msg), msg != NULL) \
-	CALL(testb, (struct strm_pool *pool, uint32_t size, uint32_t *yes), (pool, size, yes), yes != NULL) \
 	CALL(dupb, (struct strm_pool *pool, struct strm_msg msg, struct strm_msg *copy), (pool, msg, copy), copy != NULL) \
 	CALL(dupmsg, (struct strm_pool *pool, struct strm_msg msg, struct strm_msg *copy), (pool, msg, copy), copy != NULL) \
 	CALL(copyb, (struct strm_pool *pool, struct strm_msg msg, struct strm_msg *copy), (pool, msg, copy), copy != NULL) \
@@ -22,16 +27,6 @@
 	CALL(freemsg, (struct strm_pool *pool, struct strm_msg msg), (pool, msg), 1) \
 	CALL(settype, (struct strm_pool *pool, struct strm_msg msg, uint32_t place, uint32_t type), (pool, msg, place, type), 1) \
 	CALL(setband, (struct strm_pool *pool, struct strm_msg msg, uint32_t band), (pool, msg, band), 1) \
-	CALL(size, (struct strm_pool *pool, struct strm_msg msg, uint32_t *bytes), (pool, msg, bytes), bytes != NULL) \
-	CALL(msgdsize, (struct strm_pool *pool, struct strm_msg msg, uint32_t *bytes), (pool, msg, bytes), bytes != NULL) \
-	CALL(block, (struct strm_pool *pool, struct strm_msg msg, uint32_t place, struct strm_block_info *block), \
-		(pool, msg, place, block), block != NULL) \
-	CALL(has, (struct strm_pool *pool, struct strm_msg msg, uint32_t *yes), (pool, msg, yes), yes != NULL) \
-	CALL(name_at, (struct strm_pool *pool, uint32_t head, struct strm_msg *msg), (pool, head, msg), msg != NULL) \
-	CALL(bytes, (struct strm_pool *pool, struct strm_msg msg, uint32_t place, const uint8_t **bytes, size_t *length), \
-		(pool, msg, place, bytes, length), bytes != NULL && length != NULL && (void *)bytes != (void *)length) \
-	CALL(place, (struct strm_pool *pool, struct strm_msg msg, uint32_t place, struct strm_block_place *where), \
-		(pool, msg, place, where), where != NULL) \
 	CALL(reserve, (struct strm_pool *pool, struct strm_msg msg, uint32_t place, uint32_t count), (pool, msg, place, count), 1) \
 	CALL(advance, (struct strm_pool *pool, struct strm_msg msg, uint32_t place, uint32_t count), (pool, msg, place, count), 1) \
 	CALL(linkb, (struct strm_pool *pool, struct strm_msg msg, struct strm_msg tail), (pool, msg, tail), 1) \
@@ -45,41 +40,58 @@
 	CALL(getq, (struct strm_pool *pool, uint32_t queue, struct strm_msg *msg), (pool, queue, msg), msg != NULL) \
 	CALL(rmvq, (struct strm_pool *pool, uint32_t queue, uint32_t place, struct strm_msg *msg), \
 		(pool, queue, place, msg), msg != NULL) \
-	CALL(qsize, (struct strm_pool *pool, uint32_t queue, uint32_t *msgs), (pool, queue, msgs), msgs != NULL) \
-	CALL(queued_at, (struct strm_pool *pool, uint32_t queue, uint32_t place, struct strm_queued *queued), \
-		(pool, queue, place, queued), queued != NULL) \
-	CALL(first_queued, (struct strm_pool *pool, uint32_t queue, uint32_t *head), (pool, queue, head), head != NULL) \
-	CALL(queued_after, (struct strm_pool *pool, uint32_t head, uint32_t *after), (pool, head, after), after != NULL) \
 	CALL(flushq, (struct strm_pool *pool, uint32_t queue, uint32_t flush), (pool, queue, flush), 1) \
 	CALL(flushband, (struct strm_pool *pool, uint32_t queue, uint32_t band, uint32_t flush), (pool, queue, band, flush), 1) \
 	CALL(bcanput, (struct strm_pool *pool, uint32_t queue, uint32_t band, uint32_t *yes), \
 		(pool, queue, band, yes), yes != NULL) \
 	CALL(strqset, (struct strm_pool *pool, uint32_t queue, uint32_t band, uint32_t hiwat, uint32_t lowat), \
 		(pool, queue, band, hiwat, lowat), 1) \
-	CALL(strqget, (struct strm_pool *pool, uint32_t queue, uint32_t band, struct strm_marks *marks), \
-		(pool, queue, band, marks), marks != NULL) \
 	CALL(qenable, (struct strm_pool *pool, uint32_t queue), (pool, queue), 1) \
 	CALL(noenable, (struct strm_pool *pool, uint32_t queue), (pool, queue), 1) \
 	CALL(enableok, (struct strm_pool *pool, uint32_t queue), (pool, queue), 1) \
 	CALL(next_service, (struct strm_pool *pool, uint32_t *queue), (pool, queue), queue != NULL) \
-	CALL(run_at, (struct strm_pool *pool, uint32_t place, uint32_t *queue), (pool, place, queue), queue != NULL) \
 	CALL(bufcall, (struct strm_pool *pool, uint32_t size, uint32_t *id), (pool, size, id), id != NULL) \
 	CALL(unbufcall, (struct strm_pool *pool, uint32_t id), (pool, id), 1) \
-	CALL(take_ready, (struct strm_pool *pool, struct strm_wish *wish), (pool, wish), wish != NULL) \
-	CALL(wish_at, (struct strm_pool *pool, uint32_t place, struct strm_wish *wish), (pool, place, wish), wish != NULL) \
-	CALL(queue_spec, (struct strm_pool *pool, uint32_t queue, struct strm_queue_spec *spec), \
-		(pool, queue, spec), spec != NULL) \
-	CALL(census, (struct strm_pool *pool, struct strm_census *census), (pool, census), census != NULL) \
-	CALL(class_info, (struct strm_pool *pool, uint32_t place, struct strm_class_info *info), \
-		(pool, place, info), info != NULL) \
-	CALL(queue_info, (struct strm_pool *pool, uint32_t queue, struct strm_queue_info *info), \
-		(pool, queue, info), info != NULL) \
-	CALL(band_info, (struct strm_pool *pool, uint32_t queue, uint32_t band, struct strm_band_info *info), \
-		(pool, queue, band, info), info != NULL)
+	CALL(take_ready, (struct strm_pool *pool, struct strm_wish *wish), (pool, wish), wish != NULL)
+
+/*
+ * The looks that pass their arguments on unchanged, likewise. POOL is the first parameter: in strm.h a handle, which is only read,
+ * and in the crate a reader, which strm.c makes of the handle for each call.
+ */
+#define STRM_LOOKS(LOOK) \
+	LOOK(testb, (POOL, uint32_t size, uint32_t *yes), (&reader, size, yes), yes != NULL) \
+	LOOK(size, (POOL, struct strm_msg msg, uint32_t *bytes), (&reader, msg, bytes), bytes != NULL) \
+	LOOK(msgdsize, (POOL, struct strm_msg msg, uint32_t *bytes), (&reader, msg, bytes), bytes != NULL) \
+	LOOK(block, (POOL, struct strm_msg msg, uint32_t place, struct strm_block_info *block), \
+		(&reader, msg, place, block), block != NULL) \
+	LOOK(has, (POOL, struct strm_msg msg, uint32_t *yes), (&reader, msg, yes), yes != NULL) \
+	LOOK(name_at, (POOL, uint32_t head, struct strm_msg *msg), (&reader, head, msg), msg != NULL) \
+	LOOK(bytes, (POOL, struct strm_msg msg, uint32_t place, const uint8_t **bytes, size_t *length), \
+		(&reader, msg, place, bytes, length), bytes != NULL && length != NULL && (void *)bytes != (void *)length) \
+	LOOK(place, (POOL, struct strm_msg msg, uint32_t place, struct strm_block_place *where), \
+		(&reader, msg, place, where), where != NULL) \
+	LOOK(qsize, (POOL, uint32_t queue, uint32_t *msgs), (&reader, queue, msgs), msgs != NULL) \
+	LOOK(queued_at, (POOL, uint32_t queue, uint32_t place, struct strm_queued *queued), \
+		(&reader, queue, place, queued), queued != NULL) \
+	LOOK(first_queued, (POOL, uint32_t queue, uint32_t *head), (&reader, queue, head), head != NULL) \
+	LOOK(queued_after, (POOL, uint32_t head, uint32_t *after), (&reader, head, after), after != NULL) \
+	LOOK(strqget, (POOL, uint32_t queue, uint32_t band, struct strm_marks *marks), \
+		(&reader, queue, band, marks), marks != NULL) \
+	LOOK(run_at, (POOL, uint32_t place, uint32_t *queue), (&reader, place, queue), queue != NULL) \
+	LOOK(wish_at, (POOL, uint32_t place, struct strm_wish *wish), (&reader, place, wish), wish != NULL) \
+	LOOK(queue_spec, (POOL, uint32_t queue, struct strm_queue_spec *spec), (&reader, queue, spec), spec != NULL) \
+	LOOK(census, (POOL, struct strm_census *census), (&reader, census), census != NULL) \
+	LOOK(class_info, (POOL, uint32_t place, struct strm_class_info *info), (&reader, place, info), info != NULL) \
+	LOOK(queue_info, (POOL, uint32_t queue, struct strm_queue_info *info), (&reader, queue, info), info != NULL) \
+	LOOK(band_info, (POOL, uint32_t queue, uint32_t band, struct strm_band_info *info), \
+		(&reader, queue, band, info), info != NULL)
 
 /* Declares the export of a row. */
 #define STRM_DECLARE(call, parameters, arguments, fits) int32_t strm_c_##call parameters;
 STRM_CALLS(STRM_DECLARE)
+#define POOL struct strm_reader *pool
+STRM_LOOKS(STRM_DECLARE)
+#undef POOL
 #undef STRM_DECLARE
 
 /* The calls that strm.c writes out. */
@@ -91,14 +103,15 @@ int32_t strm_c_close(struct strm_pool *pool);
 int32_t strm_c_freeb(struct strm_pool *pool, struct strm_msg msg, struct strm_msg *rest);
 int32_t strm_c_unlinkb(struct strm_pool *pool, struct strm_msg msg, struct strm_msg *rest);
 int32_t strm_c_write(struct strm_pool *pool, struct strm_msg msg, uint32_t place, const uint8_t *bytes, size_t length);
-int32_t strm_c_read(struct strm_pool *pool, struct strm_msg msg, uint32_t at, uint8_t *into, size_t length, size_t *count);
-int32_t strm_c_blocks(struct strm_pool *pool, struct strm_msg msg, uint32_t from, struct strm_block_info *into, size_t length,
+int32_t strm_c_read(struct strm_reader *pool, struct strm_msg msg, uint32_t at, uint8_t *into, size_t length, size_t *count);
+int32_t strm_c_blocks(struct strm_reader *pool, struct strm_msg msg, uint32_t from, struct strm_block_info *into, size_t length,
 	size_t *count);
-int32_t strm_c_iov(struct strm_pool *pool, struct strm_msg msg, uint32_t from, struct strm_iov *into, size_t length, size_t *count);
+int32_t strm_c_iov(struct strm_reader *pool, struct strm_msg msg, uint32_t from, struct strm_iov *into, size_t length,
+	size_t *count);
 int32_t strm_c_overwrite(struct strm_pool *pool, struct strm_msg msg, uint32_t at, const uint8_t *bytes, size_t length);
 int32_t strm_c_prepend(struct strm_pool *pool, struct strm_msg msg, const uint8_t *bytes, size_t length);
 int32_t strm_c_transfer(struct strm_pool *pool, struct strm_pool *other, struct strm_msg msg, struct strm_msg *moved);
-int32_t strm_c_read_queued(struct strm_pool *pool, uint32_t queue, uint32_t place, uint32_t at, uint8_t *into, size_t length,
+int32_t strm_c_read_queued(struct strm_reader *pool, uint32_t queue, uint32_t place, uint32_t at, uint8_t *into, size_t length,
 	size_t *count);
 int32_t strm_c_allocb_n(struct strm_pool *pool, uint32_t size, struct strm_msg *msgs, size_t length, size_t *count);
 int32_t strm_c_freemsg_n(struct strm_pool *pool, const struct strm_msg *msgs, size_t length, size_t *count);

@@ -1325,7 +1325,7 @@ static void test_without_struct(void)
 	strm_queue_spec spec;
 	strm_iov iov;
 	size_t count;
-	int (*take)(strm_pool *, strm_census *) = &strm_census_;
+	int (*take)(const strm_pool *, strm_census *) = &strm_census_;
 
 	ANSWERS(strm_census(&pool, &census), STRM_OK);
 	ANSWERS(take(&pool, &census), STRM_OK);

@@ -7,3 +7,5 @@ pub mod Reading
 pub mod BlockArrays
 pub mod Serial
 pub mod Measuring
+pub mod Loans
+pub mod Readers

@@ -6,5 +6,7 @@ pub mod InPlace
 pub mod Lending
 pub mod Memory
 pub mod Opening
+pub mod Rights
 pub mod Series
 pub mod Texts
+pub mod Viewing

@@ -11,8 +11,8 @@ ghost use Rattle.strm_c.specs.InPlace.{AreLent, count_from, infos_asked, infos_s
 
 use crate::address::address_of;
 use crate::code::Code;
-use crate::handle::StrmPool;
 use crate::layout::{StrmBlockInfo, StrmIov};
+use crate::reader::StrmReader;
 use strm_named::{Name, NamedPool};
 use strm_pool::{BlockInfo, MsgType};
 
@@ -101,7 +101,7 @@ fn lend_all(named: &NamedPool, msg: Name, from: u32, into: &mut [StrmIov]) -> us
 /// Stores what blocks of a message are like in an array, and their number in `count`. As [`NamedPool::walk`] of strm_named.
 #[unsafe(no_mangle)]
 pub extern "C" fn strm_c_blocks(
-    pool: &mut StrmPool,
+    pool: &mut StrmReader,
     msg: Name,
     from: u32,
     into: &mut [StrmBlockInfo],
@@ -111,10 +111,12 @@ pub extern "C" fn strm_c_blocks(
         (count_from (length into.old) from (message_at v.pool.arena msg.head))))
         pool.old.at.named pool.new.at.named result count.old count.new }
     ensures infos { into.new ≡ infos_asked pool.old.at.named msg from into.old }
+    ensures same { pool.new ≡ pool.old }
 {
-    let Some(named) = pool.named_mut() else {
+    let Some(view) = pool.view() else {
         return Code::NotOpen.number();
     };
+    let named = view.named();
     if !named.has(msg) {
         return Code::Invalid.number();
     }
@@ -127,7 +129,7 @@ pub extern "C" fn strm_c_blocks(
 /// (strm.h).
 #[unsafe(no_mangle)]
 pub extern "C" fn strm_c_iov(
-    pool: &mut StrmPool,
+    pool: &mut StrmReader,
     msg: Name,
     from: u32,
     into: &mut [StrmIov],
@@ -137,10 +139,12 @@ pub extern "C" fn strm_c_iov(
         (count_from (length into.old) from (message_at v.pool.arena msg.head))))
         pool.old.at.named pool.new.at.named result count.old count.new }
     ensures lent { AreLent (lengths_asked pool.old.at.named msg from) into.old into.new }
+    ensures same { pool.new ≡ pool.old }
 {
-    let Some(named) = pool.named_mut() else {
+    let Some(view) = pool.view() else {
         return Code::NotOpen.number();
     };
+    let named = view.named();
     if !named.has(msg) {
         return Code::Invalid.number();
     }

@@ -16,6 +16,7 @@ use crate::code::Code;
 use crate::handle::StrmPool;
 use crate::layout::StrmBlockInfo;
 use crate::numbers::{band_of, type_of};
+use crate::reader::StrmReader;
 use strm_named::Name;
 
 /// Puts bytes at the write place of a block. As [`NamedPool::write`] of strm_named.
@@ -35,7 +36,7 @@ pub extern "C" fn strm_c_write(pool: &mut StrmPool, msg: Name, place: u32, bytes
 /// Copies bytes of a message into a buffer, and stores their number in `count`. As [`NamedPool::read`] of strm_named.
 #[unsafe(no_mangle)]
 pub extern "C" fn strm_c_read(
-    pool: &mut StrmPool,
+    pool: &mut StrmReader,
     msg: Name,
     at: u32,
     into: &mut [u8],
@@ -45,11 +46,12 @@ pub extern "C" fn strm_c_read(
         (min (length into.old) (size_of (message_at v.pool.arena msg.head) - at))))
         pool.old.at.named pool.new.at.named result count.old count.new }
     ensures bytes { into.new ≡ bytes_read pool.old.at.named msg at into.old }
+    ensures same { pool.new ≡ pool.old }
 {
-    let Some(named) = pool.named_mut() else {
+    let Some(view) = pool.view() else {
         return Code::NotOpen.number();
     };
-    let answer = named.read(msg, at, into);
+    let answer = view.named().read(msg, at, into);
     put(coded(answer), count)
 }
 
@@ -89,71 +91,76 @@ pub extern "C" fn strm_c_setband(pool: &mut StrmPool, msg: Name, band: u32) -> i
 
 /// Stores the number of a message's bytes in `bytes`. As [`NamedPool::size`] of strm_named.
 #[unsafe(no_mangle)]
-pub extern "C" fn strm_c_size(pool: &mut StrmPool, msg: Name, bytes: &mut u32) -> i32
-    ensures { Asks (λ v. answer_of_result Ok (if_valid v msg (size_of (message_at v.pool.arena msg.head))))
+pub extern "C" fn strm_c_size(pool: &mut StrmReader, msg: Name, bytes: &mut u32) -> i32
+    ensures answer { Asks (λ v. answer_of_result Ok (if_valid v msg (size_of (message_at v.pool.arena msg.head))))
         pool.old.at.named pool.new.at.named result bytes.old bytes.new }
+    ensures same { pool.new ≡ pool.old }
 {
-    let Some(named) = pool.named_mut() else {
+    let Some(view) = pool.view() else {
         return Code::NotOpen.number();
     };
-    let answer = named.size(msg);
+    let answer = view.named().size(msg);
     put(coded(answer), bytes)
 }
 
 /// Stores the number of a message's bytes in M_DATA blocks in `bytes`. As [`NamedPool::msgdsize`] of strm_named.
 #[unsafe(no_mangle)]
-pub extern "C" fn strm_c_msgdsize(pool: &mut StrmPool, msg: Name, bytes: &mut u32) -> i32
-    ensures { Asks (λ v. answer_of_result Ok (if_valid v msg
+pub extern "C" fn strm_c_msgdsize(pool: &mut StrmReader, msg: Name, bytes: &mut u32) -> i32
+    ensures answer { Asks (λ v. answer_of_result Ok (if_valid v msg
         (data_size_of v.pool.arena.store (message_at v.pool.arena msg.head))))
         pool.old.at.named pool.new.at.named result bytes.old bytes.new }
+    ensures same { pool.new ≡ pool.old }
 {
-    let Some(named) = pool.named_mut() else {
+    let Some(view) = pool.view() else {
         return Code::NotOpen.number();
     };
-    let answer = named.msgdsize(msg);
+    let answer = view.named().msgdsize(msg);
     put(coded(answer), bytes)
 }
 
 /// Stores what a block is like in `block`. As [`NamedPool::block`] of strm_named.
 #[unsafe(no_mangle)]
 pub extern "C" fn strm_c_block(
-    pool: &mut StrmPool,
+    pool: &mut StrmReader,
     msg: Name,
     place: u32,
     block: &mut StrmBlockInfo,
 ) -> i32
-    ensures { Asks (λ v. answer_of_result (λ b. Ok (block_in_c b))
+    ensures answer { Asks (λ v. answer_of_result (λ b. Ok (block_in_c b))
         (answer_told no_message v (on_name v msg (on_arena v.pool (blocks.block msg.head place v.pool.arena)))))
         pool.old.at.named pool.new.at.named result block.old block.new }
+    ensures same { pool.new ≡ pool.old }
 {
-    let Some(named) = pool.named_mut() else {
+    let Some(view) = pool.view() else {
         return Code::NotOpen.number();
     };
-    let answer = named.block(msg, place);
+    let answer = view.named().block(msg, place);
     put(coded(answer).map(StrmBlockInfo::of), block)
 }
 
 /// Stores 1 in `yes` if a name is valid, otherwise 0. As [`NamedPool::has`] of strm_named.
 #[unsafe(no_mangle)]
-pub extern "C" fn strm_c_has(pool: &mut StrmPool, msg: Name, yes: &mut u32) -> i32
-    ensures { Asks (λ v. Ok (flag (is_valid v msg))) pool.old.at.named pool.new.at.named result yes.old yes.new }
+pub extern "C" fn strm_c_has(pool: &mut StrmReader, msg: Name, yes: &mut u32) -> i32
+    ensures answer { Asks (λ v. Ok (flag (is_valid v msg))) pool.old.at.named pool.new.at.named result yes.old yes.new }
+    ensures same { pool.new ≡ pool.old }
 {
-    let Some(named) = pool.named_mut() else {
+    let Some(view) = pool.view() else {
         return Code::NotOpen.number();
     };
-    let answer = named.has(msg);
+    let answer = view.named().has(msg);
     put(Ok(u32::from(answer)), yes)
 }
 
 /// Stores the name of the message that is held at a head in `msg`. As [`NamedPool::name_at`] of strm_named. Returns `Nothing` if
 /// no message is held there.
 #[unsafe(no_mangle)]
-pub extern "C" fn strm_c_name_at(pool: &mut StrmPool, head: u32, msg: &mut Name) -> i32
-    ensures { Asks (λ v. any_or_nothing (name_at v head)) pool.old.at.named pool.new.at.named result msg.old msg.new }
+pub extern "C" fn strm_c_name_at(pool: &mut StrmReader, head: u32, msg: &mut Name) -> i32
+    ensures answer { Asks (λ v. any_or_nothing (name_at v head)) pool.old.at.named pool.new.at.named result msg.old msg.new }
+    ensures same { pool.new ≡ pool.old }
 {
-    let Some(named) = pool.named_mut() else {
+    let Some(view) = pool.view() else {
         return Code::NotOpen.number();
     };
-    let answer = named.name_at(head);
+    let answer = view.named().name_at(head);
     put(present(answer), msg)
 }

@@ -1,5 +1,5 @@
 //! Calls on flow control and on the run list.
-ghost use Rattle.std.specs.Prelude.{Ok};
+ghost use Rattle.std.specs.Prelude.{◌≡◌, Ok};
 ghost use Rattle.strm_mblk.specs.Given.{answer_of};
 ghost use Rattle.strm_queue.specs.QueueCalls as queues;
 ghost use Rattle.strm_pool.specs.PoolValue.{on_queues, queued_blocks_of, with_queued};
@@ -12,6 +12,7 @@ use crate::code::Code;
 use crate::handle::StrmPool;
 use crate::layout::StrmMarks;
 use crate::numbers::{band_of, capped_number};
+use crate::reader::StrmReader;
 
 /// Stores 1 in `yes` if a band has room at the target of a queue, otherwise 0. As [`NamedPool::bcanput`] of strm_named. A band
 /// above 255 is a `BadArgument`.
@@ -57,23 +58,24 @@ pub extern "C" fn strm_c_strqset(
 /// Stores the water marks of a band in `marks`. As [`Pool::strqget`] of strm_pool. A band above 255 is a `BadArgument`.
 #[unsafe(no_mangle)]
 pub extern "C" fn strm_c_strqget(
-    pool: &mut StrmPool,
+    pool: &mut StrmReader,
     queue: u32,
     band: u32,
     marks: &mut StrmMarks,
 ) -> i32
-    ensures { Ranged (band_of band) (λ b. Asks
+    ensures answer { Ranged (band_of band) (λ b. Asks
         (λ v. answer_of_refusable (λ m. Ok (marks_in_c m))
         (answer_of (queues.strqget (capped_number queue) b (queued_blocks_of v.pool)))))
         pool.old.at.named pool.new.at.named result marks.old marks.new }
+    ensures same { pool.new ≡ pool.old }
 {
-    let Some(named) = pool.named_mut() else {
+    let Some(view) = pool.view() else {
         return Code::NotOpen.number();
     };
     let Some(band) = band_of(band) else {
         return Code::BadArgument.number();
     };
-    let answer = named.pool().strqget(capped_number(queue), band);
+    let answer = view.named().pool().strqget(capped_number(queue), band);
     put(coded_refusal(answer).map(StrmMarks::of), marks)
 }
 
@@ -138,13 +140,14 @@ pub extern "C" fn strm_c_next_service(pool: &mut StrmPool, queue: &mut u32) -> i
 /// Stores the number of the queue at a place of the run list in `queue`. As [`Pool::run_at`] of strm_pool. Returns
 /// `Nothing` if the list is shorter.
 #[unsafe(no_mangle)]
-pub extern "C" fn strm_c_run_at(pool: &mut StrmPool, place: u32, queue: &mut u32) -> i32
-    ensures { Asks (λ v. any_or_nothing (queues.run_at place (queued_blocks_of v.pool)))
+pub extern "C" fn strm_c_run_at(pool: &mut StrmReader, place: u32, queue: &mut u32) -> i32
+    ensures answer { Asks (λ v. any_or_nothing (queues.run_at place (queued_blocks_of v.pool)))
         pool.old.at.named pool.new.at.named result queue.old queue.new }
+    ensures same { pool.new ≡ pool.old }
 {
-    let Some(named) = pool.named_mut() else {
+    let Some(view) = pool.view() else {
         return Code::NotOpen.number();
     };
-    let answer = named.pool().run_at(place);
+    let answer = view.named().pool().run_at(place);
     put(present(answer).map(u32::from), queue)
 }

@@ -12,7 +12,7 @@ use std::mem::replace;
 use strm_named::NamedPool;
 
 // The state of an open handle: the letters STRM.
-const OPEN: usize = 0x5354_524D;
+pub(crate) const OPEN: usize = 0x5354_524D;
 
 /// The handle of a pool, in the memory of a program in C. The program may move it, but not copy it. An open handle owns the box
 /// of its pool; zeros, or any other state, mean that it is not open. A handle that is dropped forgets the box.
@@ -82,7 +82,7 @@ impl StrmPool {
 }
 
 // A value that can go to another thread.
-fn sendable<T: Send>(value: T) -> T
+pub(crate) fn sendable<T: Send>(value: T) -> T
     ensures { result ≡ value }
 {
     value

@@ -1,5 +1,5 @@
 //! Calls on the bytes of a message where they are, and on the places of its blocks.
-ghost use Rattle.std.specs.Prelude.{[], Ok};
+ghost use Rattle.std.specs.Prelude.{◌≡◌, [], Ok};
 ghost use Rattle.strm_mblk.specs.InPlace as in_place;
 ghost use Rattle.strm_pool.specs.PoolValue.{on_arena};
 ghost use Rattle.strm_named.specs.NamedCalls.{asked, no_message, on_name};
@@ -13,13 +13,14 @@ use crate::answer::{coded, number, put};
 use crate::code::Code;
 use crate::handle::StrmPool;
 use crate::layout::StrmBlockPlace;
+use crate::reader::StrmReader;
 use strm_named::Name;
 
 /// Stores the address of a block's bytes in `bytes`, and their number in `length`. As [`NamedPool::bytes`] of strm_named. The
 /// bytes stay there until the next call that is no look (strm.h).
 #[unsafe(no_mangle)]
 pub extern "C" fn strm_c_bytes(
-    pool: &mut StrmPool,
+    pool: &mut StrmReader,
     msg: Name,
     place: u32,
     bytes: &mut *const u8,
@@ -29,11 +30,12 @@ pub extern "C" fn strm_c_bytes(
         pool.old.at.named pool.new.at.named result length.old length.new }
     ensures bytes { AsksAddress (λ v. number_lent (asked v msg (in_place.bytes msg.head place v.pool.arena)))
         pool.old.at.named bytes.old bytes.new }
+    ensures same { pool.new ≡ pool.old }
 {
-    let Some(named) = pool.named_mut() else {
+    let Some(view) = pool.view() else {
         return Code::NotOpen.number();
     };
-    match named.bytes(msg, place) {
+    match view.named().bytes(msg, place) {
         Ok(lent) => {
             *bytes = address_of(lent);
             *length = lent.len();
@@ -46,19 +48,20 @@ pub extern "C" fn strm_c_bytes(
 /// Stores the data block of a block, and where its bytes are, in `found`. As [`NamedPool::place`] of strm_named.
 #[unsafe(no_mangle)]
 pub extern "C" fn strm_c_place(
-    pool: &mut StrmPool,
+    pool: &mut StrmReader,
     msg: Name,
     place: u32,
     found: &mut StrmBlockPlace,
 ) -> i32
-    ensures { Asks (λ v. answer_of_result (λ p. Ok (place_in_c p))
+    ensures answer { Asks (λ v. answer_of_result (λ p. Ok (place_in_c p))
         (asked v msg (in_place.place msg.head place v.pool.arena)))
         pool.old.at.named pool.new.at.named result found.old found.new }
+    ensures same { pool.new ≡ pool.old }
 {
-    let Some(named) = pool.named_mut() else {
+    let Some(view) = pool.view() else {
         return Code::NotOpen.number();
     };
-    let answer = named.place(msg, place);
+    let answer = view.named().place(msg, place);
     put(coded(answer).map(StrmBlockPlace::of), found)
 }
 

@@ -16,6 +16,7 @@ mod handle;
 mod in_place;
 mod joining;
 mod layout;
+mod lending;
 mod looks;
 mod making;
 mod memory;
@@ -24,10 +25,13 @@ mod opening;
 mod parts;
 mod pointer;
 mod queues;
+mod reader;
 mod several;
 mod telling;
 mod texts;
 mod transferring;
+mod view;
+mod view_pointer;
 mod wishes;
 
 pub use code::Code;
@@ -36,5 +40,9 @@ pub use layout::{
     StrmBandInfo, StrmBlockInfo, StrmBlockPlace, StrmCensus, StrmClassInfo, StrmClassSpec, StrmIov,
     StrmMarks, StrmQueueInfo, StrmQueueSpec, StrmQueued, StrmWish,
 };
+pub use lending::{Lender, end, join, lend, split};
 pub use parts::Parts;
 pub use pointer::PoolPointer;
+pub use reader::StrmReader;
+pub use view::PoolView;
+pub use view_pointer::ViewPointer;

@@ -10,26 +10,27 @@ ghost use Rattle.strm_c.specs.InC.{capped_number, queued_in_c, spec_in_c};
 
 use crate::answer::{coded_any_refusal, coded_refusal, put};
 use crate::code::Code;
-use crate::handle::StrmPool;
 use crate::layout::{StrmQueueSpec, StrmQueued};
 use crate::numbers::capped_number;
+use crate::reader::StrmReader;
 
 /// Stores what the message at a place of a queue is like in `queued`. As [`Pool::queued_at`] of strm_pool.
 #[unsafe(no_mangle)]
 pub extern "C" fn strm_c_queued_at(
-    pool: &mut StrmPool,
+    pool: &mut StrmReader,
     queue: u32,
     place: u32,
     queued: &mut StrmQueued,
 ) -> i32
-    ensures { Asks (λ v. answer_of_refusable (λ q. Ok (queued_in_c q))
+    ensures answer { Asks (λ v. answer_of_refusable (λ q. Ok (queued_in_c q))
         (looks.queued_at (capped_number queue) place (queued_blocks_of v.pool)))
         pool.old.at.named pool.new.at.named result queued.old queued.new }
+    ensures same { pool.new ≡ pool.old }
 {
-    let Some(named) = pool.named_mut() else {
+    let Some(view) = pool.view() else {
         return Code::NotOpen.number();
     };
-    let answer = named.pool().queued_at(capped_number(queue), place);
+    let answer = view.named().pool().queued_at(capped_number(queue), place);
     put(coded_refusal(answer).map(StrmQueued::of), queued)
 }
 
@@ -37,7 +38,7 @@ pub extern "C" fn strm_c_queued_at(
 /// [`Pool::read_queued`] of strm_pool.
 #[unsafe(no_mangle)]
 pub extern "C" fn strm_c_read_queued(
-    pool: &mut StrmPool,
+    pool: &mut StrmReader,
     queue: u32,
     place: u32,
     at: u32,
@@ -48,11 +49,13 @@ pub extern "C" fn strm_c_read_queued(
         (looks.queued_message (capped_number queue) place (queued_blocks_of v.pool))))
         pool.old.at.named pool.new.at.named result count.old count.new }
     ensures bytes { into.new ≡ queued_bytes_read pool.old.at.named (capped_number queue) place at into.old }
+    ensures same { pool.new ≡ pool.old }
 {
-    let Some(named) = pool.named_mut() else {
+    let Some(view) = pool.view() else {
         return Code::NotOpen.number();
     };
-    let answer = named
+    let answer = view
+        .named()
         .pool()
         .read_queued(capped_number(queue), place, at, into);
     put(coded_refusal(answer), count)
@@ -61,46 +64,49 @@ pub extern "C" fn strm_c_read_queued(
 /// Stores the number of the first block of the first message on a queue in `head`. As [`Pool::first_queued`] of strm_pool.
 /// Returns `Nothing` if the queue is empty.
 #[unsafe(no_mangle)]
-pub extern "C" fn strm_c_first_queued(pool: &mut StrmPool, queue: u32, head: &mut u32) -> i32
-    ensures { Asks (λ v. answer_of_refusable any_or_nothing
+pub extern "C" fn strm_c_first_queued(pool: &mut StrmReader, queue: u32, head: &mut u32) -> i32
+    ensures answer { Asks (λ v. answer_of_refusable any_or_nothing
         (looks.first_queued (capped_number queue) (queued_blocks_of v.pool)))
         pool.old.at.named pool.new.at.named result head.old head.new }
+    ensures same { pool.new ≡ pool.old }
 {
-    let Some(named) = pool.named_mut() else {
+    let Some(view) = pool.view() else {
         return Code::NotOpen.number();
     };
-    let answer = named.pool().first_queued(capped_number(queue));
+    let answer = view.named().pool().first_queued(capped_number(queue));
     put(coded_any_refusal(answer), head)
 }
 
 /// Stores the number of the first block of the message after the one that begins with a block, on the same queue, in `after`.
 /// As [`Pool::queued_after`] of strm_pool. Returns `Nothing` if there is none after it.
 #[unsafe(no_mangle)]
-pub extern "C" fn strm_c_queued_after(pool: &mut StrmPool, head: u32, after: &mut u32) -> i32
-    ensures { Asks (λ v. answer_of_refusable any_or_nothing (looks.queued_after head (queued_blocks_of v.pool)))
+pub extern "C" fn strm_c_queued_after(pool: &mut StrmReader, head: u32, after: &mut u32) -> i32
+    ensures answer { Asks (λ v. answer_of_refusable any_or_nothing (looks.queued_after head (queued_blocks_of v.pool)))
         pool.old.at.named pool.new.at.named result after.old after.new }
+    ensures same { pool.new ≡ pool.old }
 {
-    let Some(named) = pool.named_mut() else {
+    let Some(view) = pool.view() else {
         return Code::NotOpen.number();
     };
-    let answer = named.pool().queued_after(head);
+    let answer = view.named().pool().queued_after(head);
     put(coded_any_refusal(answer), after)
 }
 
 /// Stores the configuration of a queue in `spec`. As [`Pool::queue_spec`] of strm_pool.
 #[unsafe(no_mangle)]
 pub extern "C" fn strm_c_queue_spec(
-    pool: &mut StrmPool,
+    pool: &mut StrmReader,
     queue: u32,
     spec: &mut StrmQueueSpec,
 ) -> i32
-    ensures { Asks (λ v. answer_of_refusable (λ s. Ok (spec_in_c s))
+    ensures answer { Asks (λ v. answer_of_refusable (λ s. Ok (spec_in_c s))
         (looks.queue_spec (capped_number queue) (queued_blocks_of v.pool)))
         pool.old.at.named pool.new.at.named result spec.old spec.new }
+    ensures same { pool.new ≡ pool.old }
 {
-    let Some(named) = pool.named_mut() else {
+    let Some(view) = pool.view() else {
         return Code::NotOpen.number();
     };
-    let answer = named.pool().queue_spec(capped_number(queue));
+    let answer = view.named().pool().queue_spec(capped_number(queue));
     put(coded_refusal(answer).map(StrmQueueSpec::of), spec)
 }

@@ -1,5 +1,5 @@
 //! Calls that make messages and store their names, and calls that free messages.
-ghost use Rattle.std.specs.Prelude.{[], ◌∷◌, Ok};
+ghost use Rattle.std.specs.Prelude.{◌≡◌, [], ◌∷◌, Ok};
 ghost use Rattle.strm_mblk.specs.BlockCalls as blocks;
 ghost use Rattle.strm_mblk.specs.Freeing as freeing;
 ghost use Rattle.strm_pool.specs.PoolValue.{on_arena, with_arena};
@@ -12,6 +12,7 @@ ghost use Rattle.strm_c.specs.InC.{flag};
 use crate::answer::{coded, coded_any, number, put};
 use crate::code::Code;
 use crate::handle::StrmPool;
+use crate::reader::StrmReader;
 use strm_named::Name;
 
 /// Makes a message for a size, and stores its name in `msg`. As [`NamedPool::allocb`] of strm_named.
@@ -29,14 +30,15 @@ pub extern "C" fn strm_c_allocb(pool: &mut StrmPool, size: u32, msg: &mut Name) 
 
 /// Stores 1 in `yes` if `allocb` would succeed now, otherwise 0. As [`Pool::testb`] of strm_pool.
 #[unsafe(no_mangle)]
-pub extern "C" fn strm_c_testb(pool: &mut StrmPool, size: u32, yes: &mut u32) -> i32
-    ensures { Asks (λ v. Ok (flag (blocks.testb size v.pool.arena)))
+pub extern "C" fn strm_c_testb(pool: &mut StrmReader, size: u32, yes: &mut u32) -> i32
+    ensures answer { Asks (λ v. Ok (flag (blocks.testb size v.pool.arena)))
         pool.old.at.named pool.new.at.named result yes.old yes.new }
+    ensures same { pool.new ≡ pool.old }
 {
-    let Some(named) = pool.named_mut() else {
+    let Some(view) = pool.view() else {
         return Code::NotOpen.number();
     };
-    let answer = named.pool().testb(size);
+    let answer = view.named().pool().testb(size);
     put(Ok(u32::from(answer)), yes)
 }
 

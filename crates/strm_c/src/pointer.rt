@@ -13,7 +13,7 @@ use strm_named::NamedPool;
 #[repr(C)]
 #[derive(Drop)]
 pub struct PoolPointer {
-    raw: *mut u8,
+    pub(crate) raw: *mut u8,
     pub ghost named: { Option NamedPool } by { coded },
 }
 

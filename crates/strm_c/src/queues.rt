@@ -1,5 +1,5 @@
 //! Calls that put messages on queues, take them off, count them and flush them.
-ghost use Rattle.std.specs.Prelude.{[], ◌∷◌, Ok};
+ghost use Rattle.std.specs.Prelude.{◌≡◌, [], ◌∷◌, Ok};
 ghost use Rattle.strm_mblk.specs.Given.{answer_of};
 ghost use Rattle.strm_queue.specs.QueueCalls as queues;
 ghost use Rattle.strm_pool.specs.PoolValue.{on_queues, queued_blocks_of};
@@ -12,6 +12,7 @@ use crate::answer::{coded, coded_any, coded_refusal, number, put};
 use crate::code::Code;
 use crate::handle::StrmPool;
 use crate::numbers::{band_of, capped_number, flush_of};
+use crate::reader::StrmReader;
 use strm_named::Name;
 
 /// Puts a message on a queue, after its equals. As [`NamedPool::putq`] of strm_named.
@@ -87,15 +88,16 @@ pub extern "C" fn strm_c_rmvq(pool: &mut StrmPool, queue: u32, place: u32, msg: 
 
 /// Stores the number of messages on a queue in `msgs`. As [`Pool::qsize`] of strm_pool.
 #[unsafe(no_mangle)]
-pub extern "C" fn strm_c_qsize(pool: &mut StrmPool, queue: u32, msgs: &mut u32) -> i32
-    ensures { Asks (λ v. answer_of_refusable Ok (answer_of
+pub extern "C" fn strm_c_qsize(pool: &mut StrmReader, queue: u32, msgs: &mut u32) -> i32
+    ensures answer { Asks (λ v. answer_of_refusable Ok (answer_of
         (queues.qsize (capped_number queue) (queued_blocks_of v.pool))))
         pool.old.at.named pool.new.at.named result msgs.old msgs.new }
+    ensures same { pool.new ≡ pool.old }
 {
-    let Some(named) = pool.named_mut() else {
+    let Some(view) = pool.view() else {
         return Code::NotOpen.number();
     };
-    let answer = named.pool().qsize(capped_number(queue));
+    let answer = view.named().pool().qsize(capped_number(queue));
     put(coded_refusal(answer), msgs)
 }
 

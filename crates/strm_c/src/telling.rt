@@ -1,5 +1,5 @@
 //! Calls that read counts and marks of a pool.
-ghost use Rattle.std.specs.Prelude.{Ok, option_map, slice_get};
+ghost use Rattle.std.specs.Prelude.{◌≡◌, Ok, option_map, slice_get};
 ghost use Rattle.strm_data.specs.DataStore.{class_infos};
 ghost use Rattle.strm_mblk.specs.Arena.{census_of};
 ghost use Rattle.strm_mblk.specs.Given.{answer_of};
@@ -11,20 +11,21 @@ ghost use Rattle.strm_c.specs.InC.{band_in_c, band_of, capped_number, census_in_
 
 use crate::answer::{coded_refusal, present, put};
 use crate::code::Code;
-use crate::handle::StrmPool;
 use crate::layout::{StrmBandInfo, StrmCensus, StrmClassInfo, StrmQueueInfo};
 use crate::numbers::{band_of, capped_number};
+use crate::reader::StrmReader;
 
 /// Stores the numbers of free, queued and held message blocks in `census`. As [`Pool::census`] of strm_pool.
 #[unsafe(no_mangle)]
-pub extern "C" fn strm_c_census(pool: &mut StrmPool, census: &mut StrmCensus) -> i32
-    ensures { Asks (λ v. Ok (census_in_c (census_of v.pool.arena)))
+pub extern "C" fn strm_c_census(pool: &mut StrmReader, census: &mut StrmCensus) -> i32
+    ensures answer { Asks (λ v. Ok (census_in_c (census_of v.pool.arena)))
         pool.old.at.named pool.new.at.named result census.old census.new }
+    ensures same { pool.new ≡ pool.old }
 {
-    let Some(named) = pool.named_mut() else {
+    let Some(view) = pool.view() else {
         return Code::NotOpen.number();
     };
-    let answer = named.pool().census();
+    let answer = view.named().pool().census();
     put(Ok(StrmCensus::of(answer)), census)
 }
 
@@ -32,36 +33,38 @@ pub extern "C" fn strm_c_census(pool: &mut StrmPool, census: &mut StrmCensus) ->
 /// such class.
 #[unsafe(no_mangle)]
 pub extern "C" fn strm_c_class_info(
-    pool: &mut StrmPool,
+    pool: &mut StrmReader,
     place: u32,
     info: &mut StrmClassInfo,
 ) -> i32
-    ensures { Asks (λ v. any_or_nothing (option_map class_in_c
+    ensures answer { Asks (λ v. any_or_nothing (option_map class_in_c
         (slice_get (class_infos v.pool.arena.store) (capped_number place))))
         pool.old.at.named pool.new.at.named result info.old info.new }
+    ensures same { pool.new ≡ pool.old }
 {
-    let Some(named) = pool.named_mut() else {
+    let Some(view) = pool.view() else {
         return Code::NotOpen.number();
     };
-    let answer = named.pool().class_info(capped_number(place));
+    let answer = view.named().pool().class_info(capped_number(place));
     put(present(answer.map(StrmClassInfo::of)), info)
 }
 
 /// Stores the counts and marks of a queue in `info`. As [`Pool::queue_info`] of strm_pool.
 #[unsafe(no_mangle)]
 pub extern "C" fn strm_c_queue_info(
-    pool: &mut StrmPool,
+    pool: &mut StrmReader,
     queue: u32,
     info: &mut StrmQueueInfo,
 ) -> i32
-    ensures { Asks (λ v. answer_of_refusable (λ i. Ok (queue_in_c i))
+    ensures answer { Asks (λ v. answer_of_refusable (λ i. Ok (queue_in_c i))
         (answer_of (queues.queue_info (capped_number queue) (queued_blocks_of v.pool))))
         pool.old.at.named pool.new.at.named result info.old info.new }
+    ensures same { pool.new ≡ pool.old }
 {
-    let Some(named) = pool.named_mut() else {
+    let Some(view) = pool.view() else {
         return Code::NotOpen.number();
     };
-    let answer = named.pool().queue_info(capped_number(queue));
+    let answer = view.named().pool().queue_info(capped_number(queue));
     put(coded_refusal(answer).map(StrmQueueInfo::of), info)
 }
 
@@ -69,22 +72,23 @@ pub extern "C" fn strm_c_queue_info(
 /// `BadArgument`.
 #[unsafe(no_mangle)]
 pub extern "C" fn strm_c_band_info(
-    pool: &mut StrmPool,
+    pool: &mut StrmReader,
     queue: u32,
     band: u32,
     info: &mut StrmBandInfo,
 ) -> i32
-    ensures { Ranged (band_of band) (λ b. Asks
+    ensures answer { Ranged (band_of band) (λ b. Asks
         (λ v. answer_of_refusable (λ i. Ok (band_in_c i))
         (answer_of (queues.band_info (capped_number queue) b (queued_blocks_of v.pool)))))
         pool.old.at.named pool.new.at.named result info.old info.new }
+    ensures same { pool.new ≡ pool.old }
 {
-    let Some(named) = pool.named_mut() else {
+    let Some(view) = pool.view() else {
         return Code::NotOpen.number();
     };
     let Some(band) = band_of(band) else {
         return Code::BadArgument.number();
     };
-    let answer = named.pool().band_info(capped_number(queue), band);
+    let answer = view.named().pool().band_info(capped_number(queue), band);
     put(coded_refusal(answer).map(StrmBandInfo::of), info)
 }

@@ -1,5 +1,5 @@
 //! Calls on wishes for message blocks.
-ghost use Rattle.std.specs.Prelude.{Ok, option_map};
+ghost use Rattle.std.specs.Prelude.{◌≡◌, Ok, option_map};
 ghost use Rattle.strm_pool.specs.Wishes as wishes;
 ghost use Rattle.strm_c.specs.Codes.{any_or_nothing};
 ghost use Rattle.strm_c.specs.Exports.{Asks, DoesOnPool, Takes};
@@ -9,6 +9,7 @@ use crate::answer::{coded_refusal, number, present, put};
 use crate::code::Code;
 use crate::handle::StrmPool;
 use crate::layout::StrmWish;
+use crate::reader::StrmReader;
 
 /// Records a wish for a size, and stores its id in `id`. As [`NamedPool::bufcall`] of strm_named.
 #[unsafe(no_mangle)]
@@ -50,13 +51,14 @@ pub extern "C" fn strm_c_take_ready(pool: &mut StrmPool, wish: &mut StrmWish) ->
 
 /// Stores the wish at a place in `wish`. As [`Pool::wish_at`] of strm_pool. Returns `Nothing` if there are fewer wishes.
 #[unsafe(no_mangle)]
-pub extern "C" fn strm_c_wish_at(pool: &mut StrmPool, place: u32, wish: &mut StrmWish) -> i32
-    ensures { Asks (λ v. any_or_nothing (option_map wish_in_c (wishes.wish_at place v.pool)))
+pub extern "C" fn strm_c_wish_at(pool: &mut StrmReader, place: u32, wish: &mut StrmWish) -> i32
+    ensures answer { Asks (λ v. any_or_nothing (option_map wish_in_c (wishes.wish_at place v.pool)))
         pool.old.at.named pool.new.at.named result wish.old wish.new }
+    ensures same { pool.new ≡ pool.old }
 {
-    let Some(named) = pool.named_mut() else {
+    let Some(view) = pool.view() else {
         return Code::NotOpen.number();
     };
-    let answer = named.pool().wish_at(place);
+    let answer = view.named().pool().wish_at(place);
     put(present(answer.map(StrmWish::of)), wish)
 }

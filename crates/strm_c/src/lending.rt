@@ -1,0 +1,64 @@
+//! Laws: the pool of a handle can be lent to readers, and comes back. strm.c does this by copies of words, which runs none of
+//! these functions.
+ghost use Rattle.std.specs.Prelude.{◌≡◌, ℕ, Some, IsSome};
+ghost use base.Fraction.{Frac, full_share, left, right};
+ghost use Rattle.strm_named.specs.declared.named_pool.NamedPool.{NamedPool};
+ghost use Rattle.strm_c.specs.Rights.{coded_one, lender_owns};
+ghost use Rattle.strm_c.specs.Viewing.{with_share};
+
+use crate::pointer::PoolPointer;
+use crate::view_pointer::ViewPointer;
+use std::marker::Model;
+
+/// What is left of a handle's pointer while the pool is lent: the pool again, once nobody can read it, and the right to free its
+/// box.
+#[derive(Drop)]
+pub struct Lender {
+    raw: *mut u8,
+    pub ghost named: { NamedPool } by { coded_one },
+    pub ghost life: { ℕ },
+}
+
+impl Model for Lender {
+    ghost also_owns = { λ l. lender_owns l.raw l.named l.life };
+}
+
+/// Law: a pool can be lent. A reader has the whole right to read it.
+pub fn lend(pool: PoolPointer) -> (ViewPointer, Lender)
+    requires { IsSome pool.named }
+    ensures { (result.0.named ≡ pool.named) × (Some result.1.named ≡ pool.named) × (result.0.life ≡ result.1.life)
+        × (result.0.share ≡ full_share) }
+{
+    let PoolPointer { raw } = pool;
+    (ViewPointer { raw }, Lender { raw })
+}
+
+/// Law: the right to read can be split, so that two readers have it at the same time, and so on.
+pub fn split(reader: ViewPointer) -> (ViewPointer, ViewPointer)
+    requires { IsSome reader.named }
+    ensures { (result.0 ≡ with_share reader (left reader.share)) × (result.1 ≡ with_share reader (right reader.share)) }
+{
+    let ViewPointer { raw } = reader;
+    (ViewPointer { raw }, ViewPointer { raw })
+}
+
+/// Law: the rights of two readers can be joined again.
+pub fn join(reader: ViewPointer, other: ViewPointer) -> ViewPointer
+    ghost whole: { Frac }
+    requires { IsSome reader.named × (other ≡ with_share reader (right whole)) × (reader.share ≡ left whole) }
+    ensures { result ≡ with_share reader whole }
+{
+    let ViewPointer { raw } = reader;
+    let ViewPointer { raw: _ } = other;
+    ViewPointer { raw }
+}
+
+/// Law: once a reader has the whole right to read again, the pool comes back as it was.
+pub fn end(lender: Lender, reader: ViewPointer) -> PoolPointer
+    requires { IsSome reader.named × (reader.life ≡ lender.life) × (reader.share ≡ full_share) }
+    ensures { result.named ≡ Some lender.named }
+{
+    let Lender { raw } = lender;
+    let ViewPointer { raw: _ } = reader;
+    PoolPointer { raw }
+}
