@@ -7,8 +7,8 @@
  */
 #include <strm.h>
 
+#include <err.h>
 #include <stdio.h>
-#include <stdlib.h>
 
 enum { SOURCE, WAY };
 
@@ -20,10 +20,8 @@ static const struct strm_queue_spec queues[] = {
 
 static void must(int code)
 {
-	if (!STRM_FAILED(code))
-		return;
-	fprintf(stderr, "bands: %s\n", strm_error(code));
-	exit(EXIT_FAILURE);
+	if (STRM_FAILED(code))
+		errx(1, "%s", strm_error(code));
 }
 
 /* Sends 4 bytes in a band if that has room, and returns whether it had. */
@@ -77,6 +75,5 @@ int main(void)
 	take(&pool);
 	take(&pool);
 	send_if_room(&pool, 0, *next);
-	must(strm_close(&pool));
-	return EXIT_SUCCESS;
+	return STRM_FAILED(strm_close(&pool));
 }

@@ -1,72 +1,52 @@
 /*
- * Sends a message of several blocks to three consumers without copying its bytes. strm_dupmsg makes a second message over the same data blocks.
- * Each consumer has message blocks of its own, so one may trim the header off while the other still reads it. A third consumer gets the same
- * bytes under a header of its own. A data block is free again once all have freed their messages.
+ * Sends a message of several blocks to three consumers without copying its bytes. Each has message blocks of its own over the same data blocks,
+ * so one may trim the header off, and another may have a header of its own. A data block is free again once all have freed their messages.
  *
  *     cc consumers.c $(pkg-config --cflags --libs strm) -o consumers
  */
 #include <strm.h>
 
+#include <err.h>
 #include <stdio.h>
-#include <stdlib.h>
 #include <string.h>
 
 enum { LOG, LINE, TAP };
-
+enum { HEADER = 5 }; /* bytes of "head:" */
 static const struct strm_class_spec classes[] = { { .size = 8, .count = 5 } };
-static const struct strm_queue_spec queues[] = {
-	[LOG] = { .hiwat = 64, .lowat = 16, .next = STRM_NO_QUEUE },
-	[LINE] = { .hiwat = 64, .lowat = 16, .next = STRM_NO_QUEUE },
-	[TAP] = { .hiwat = 64, .lowat = 16, .next = STRM_NO_QUEUE }
-};
+#define CONSUMER { .hiwat = 64, .lowat = 16, .next = STRM_NO_QUEUE }
+static const struct strm_queue_spec queues[] = { [LOG] = CONSUMER, [LINE] = CONSUMER, [TAP] = CONSUMER };
 
 static void must(int code)
 {
-	if (!STRM_FAILED(code))
-		return;
-	fprintf(stderr, "consumers: %s\n", strm_error(code));
-	exit(EXIT_FAILURE);
+	if (code != STRM_OK)
+		errx(1, "%s", strm_error(code));
 }
 
-/* Makes a message of one block. */
-static struct strm_msg block_of(struct strm_pool *pool, const char *bytes,
-	size_t length)
+static struct strm_msg block_of(struct strm_pool *pool, const char *bytes)
 {
 	struct strm_msg msg;
 
-	must(strm_allocb(pool, (uint32_t)length, &msg));
-	must(strm_write(pool, msg, 0, bytes, length));
+	must(strm_allocb(pool, (uint32_t)strlen(bytes), &msg));
+	must(strm_write(pool, msg, 0, bytes, strlen(bytes)));
 	return msg;
 }
 
-/* Makes a message of this header and of what `msg` has after the bytes that are
- * trimmed. */
-static struct strm_msg under(struct strm_pool *pool, const char *header,
-	struct strm_msg msg, int32_t trimmed)
-{
-	struct strm_msg payload, whole = block_of(pool, header, strlen(header));
-
-	must(strm_dupmsg(pool, msg, &payload));
-	must(strm_adjmsg(pool, payload, trimmed));
-	must(strm_linkb(pool, whole, payload));
-	return whole;
-}
-
-/* Sends a message of three blocks to two queues, and its payload to a third. */
 static void send_to_all(struct strm_pool *pool)
 {
-	struct strm_msg msg, copy;
+	struct strm_msg msg = block_of(pool, "head:"), copy;
+	struct strm_msg whole = block_of(pool, "tap:"), payload;
 
-	msg = block_of(pool, "head:", 5);
-	must(strm_linkb(pool, msg, block_of(pool, "lion, ", 6)));
-	must(strm_linkb(pool, msg, block_of(pool, "wolf", 4)));
+	must(strm_linkb(pool, msg, block_of(pool, "lion, ")));
+	must(strm_linkb(pool, msg, block_of(pool, "wolf")));
 	must(strm_dupmsg(pool, msg, &copy));
-	must(strm_putq(pool, TAP, under(pool, "tap:", msg, 5)));
-	must(strm_putq(pool, LOG, copy));
+	must(strm_dupmsg(pool, msg, &payload));
+	must(strm_adjmsg(pool, payload, HEADER));
+	must(strm_linkb(pool, whole, payload));
 	must(strm_putq(pool, LINE, msg));
+	must(strm_putq(pool, LOG, copy));
+	must(strm_putq(pool, TAP, whole));
 }
 
-/* Takes the message off a queue, trims bytes from its head, and prints and frees the rest. */
 static void consume(struct strm_pool *pool, uint32_t queue, int32_t trimmed)
 {
 	struct strm_msg msg;
@@ -75,8 +55,7 @@ static void consume(struct strm_pool *pool, uint32_t queue, int32_t trimmed)
 	char bytes[32];
 	size_t count;
 
-	if (strm_getq(pool, queue, &msg) != STRM_OK)
-		return;
+	must(strm_getq(pool, queue, &msg));
 	must(strm_adjmsg(pool, msg, trimmed));
 	must(strm_read(pool, msg, 0, bytes, sizeof bytes, &count));
 	must(strm_block(pool, msg, 2, &last));
@@ -88,16 +67,13 @@ static void consume(struct strm_pool *pool, uint32_t queue, int32_t trimmed)
 
 int main(void)
 {
+	struct strm_config config = { .id = 1, .mblks = 10, .classes = classes, .class_count = 1, .queues = queues, .queue_count = 3, .first_id = 1 };
 	struct strm_pool pool = STRM_POOL_INIT;
-	struct strm_config config = {
-		.id = 1, .mblks = 10, .classes = classes, .class_count = 1, .queues = queues, .queue_count = 3, .first_id = 1
-	};
 
 	must(strm_open(&pool, &config));
 	send_to_all(&pool);
-	consume(&pool, LINE, 5);
+	consume(&pool, LINE, HEADER);
 	consume(&pool, LOG, 0);
 	consume(&pool, TAP, 0);
-	must(strm_close(&pool));
-	return EXIT_SUCCESS;
+	return STRM_FAILED(strm_close(&pool));
 }

@@ -2,13 +2,15 @@
  * Posts two messages. The first goes on the queue. The second is larger than the largest size class, so it is refused.
  *
  *     cc post.c $(pkg-config --cflags --libs strm) -o post
+ *
+ * It is in C99, which names the fields of a struct. C++20 has such names too.
  */
 #include <stdio.h>
 #include <stdlib.h>
 #include <strm.h>
 
-static const struct strm_class_spec classes[] = { { 16, 32 }, { 256, 8 } };
-static const struct strm_queue_spec queues[] = { { 64, 16, 1, STRM_NO_QUEUE } };
+static const struct strm_class_spec classes[] = { { .size = 16, .count = 32 }, { .size = 256, .count = 8 } };
+static const struct strm_queue_spec queues[] = { { .hiwat = 64, .lowat = 16, .service = 1, .next = STRM_NO_QUEUE } };
 
 /* Puts a message with these bytes on queue 0. If a call is refused, frees the message and returns the code. */
 int post(struct strm_pool *pool, const void *bytes, size_t length)
@@ -42,11 +44,11 @@ int main(void)
 {
 	static const char bytes[300] = "lion";
 	struct strm_pool pool = STRM_POOL_INIT;
-	struct strm_config config = { 1, 40, NULL, 2, NULL, 1, 0, 1 };
+	const struct strm_config config = {
+		.id = 1, .mblks = 40, .classes = classes, .class_count = 2, .queues = queues, .queue_count = 1, .bufcalls = 0, .first_id = 1,
+	};
 	int code;
 
-	config.classes = classes;
-	config.queues = queues;
 	code = strm_open(&pool, &config);
 	if (code != STRM_OK) {
 		fprintf(stderr, "post: %s\n", strm_error(code));
