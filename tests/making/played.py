@@ -64,7 +64,7 @@ BY_RULE = {
     ),
     "no_waker": (
         "allocb a 16; write a 0 00000000000000000000; putq 0 a; bcanput 0 0; rmvq 0 0 a",
-        "Band 0 of queue 0 is wanted no longer, but no queue is its waker.",
+        "Band 0 of queue 0 is wanted no longer; no queue before it has a service procedure.",
     ),
     "waker_runs": (
         "qenable 0; allocb a 16; write a 0 00000000000000000000; putq 1 a; bcanput 1 0; getq 1 a",
@@ -246,7 +246,7 @@ SHOWN = {
         "number: Q is a queue, 0 to 255; here it is 300; the greatest number here is 255\n"
         "register: R is a register, a to z; here it is A; a register is a small letter: write a\n"
         "hex: HEX is two digits, 0 to 9 or a to f, for each of 1 to 64 bytes, or - for none; here it is 6G; 'G', at place 2 of the word, is no digit\n"
-        "word: TYPE is a type, such as M_DATA; here it is DATA; the type's name is M_DATA\n"
+        "word: TYPE is a type, such as M_DATA, or M_PCPROTO of high priority; here it is DATA; the type's name is M_DATA\n"
         "word: WHAT is all or data; here it is some\n",
     ),
     "faults with notes of strm-check": (

@@ -4,7 +4,7 @@ import io
 import re
 from typing import NamedTuple
 
-from strm_tools.beside import beside
+from strm_tools.beside import as_word, beside
 from strm_tools.limits import CLASSES, COMMAND_LINES, DATA_BLOCK_BYTES, DATA_BLOCKS, MESSAGE_BLOCKS, QUEUES, WISHES, WORKERS
 from strm_tools.model import HIGH_PRIORITY, ORDINARY, WORDS
 from strm_tools.script import Wrong
@@ -126,9 +126,9 @@ class LineFault(NamedTuple):
 
     told = reported
 
-    def explained(self):
-        """The fault as strm reports it, and which tool says what was expected."""
-        return f"{self.reported()}; {beside('strm-check')} FILE says more"
+    def explained(self, path):
+        """The fault as strm reports it, and which tool says of the script's file what was expected."""
+        return f"{self.reported()}; {beside('strm-check')} {as_word(path)} says more"
 
 
 class Reading:
@@ -200,9 +200,9 @@ class ConfigFault(NamedTuple):
         """The fault as strm reports it, with its line and what is wrong."""
         return f"line {self.number}: {self.reported()}: {self.why}"
 
-    def explained(self):
-        """The fault with what is wrong, and which tool lists all others."""
-        return f"{self.told()}; {beside('strm-check')} --all FILE lists all faults"
+    def explained(self, path):
+        """The fault with what is wrong, and which tool lists all others of the script's file."""
+        return f"{self.told()}; {beside('strm-check')} --all {as_word(path)} lists all faults"
 
 
 class Header:
@@ -324,8 +324,8 @@ def fault_of(script):
     return fault and fault.reported()
 
 
-def require_right(script):
-    """Raises `Wrong` with the first fault of a script and its line, if strm refuses the script."""
+def require_right(script, path="-"):
+    """Raises `Wrong` with the first fault of a script and its line, if strm refuses the script, which is in the file of this path."""
     fault = first_fault(script)
     if fault:
-        raise Wrong(fault.explained(), "script")
+        raise Wrong(fault.explained(path), "script")

@@ -42,7 +42,7 @@ def read_files(words):
     text = None if words.text is None else read(words.text)
     script = script_of_bytes(octets, "replace")
     try:
-        require_right(script)
+        require_right(script, words.script)
     except Wrong:
         if text is not None and REPLY.match(script):
             raise Wrong(f"{fault_of(script)}; it begins as a text of strm does: are SCRIPT and TEXT swapped?", "script")

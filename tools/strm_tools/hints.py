@@ -14,6 +14,8 @@ from strm_tools.streams import ADVICE_ON_TYPES, FLUSHES, NO_TYPE, hint_for
 # How a file in UTF-16 begins.
 UTF_16 = ("\xff\xfe", "\xfe\xff")
 TYPES = (*ORDINARY, *HIGH_PRIORITY)
+# Words for high priority, where a type is expected.
+FOR_HIGH_PRIORITY = re.compile("(?:STRM_|M_|RS_)*(?:(?:HIGH|HI|HP|H)?_?(?:PRI|PRIO|PRIORITY)|HIGH|HI|URGENT|EXPEDITED|QPCTL)", re.IGNORECASE)
 # Longer words are none that somebody mistyped.
 LONGEST_WORD = 16
 
@@ -274,6 +276,8 @@ def named_word(faulty):
     elif item == "kind" and {word.upper(), f"M_{word.upper()}", word.upper()[5:]} & set(TYPES):
         right = next(kind for kind in (word.upper(), f"M_{word.upper()}", word.upper()[5:]) if kind in TYPES)
         yield f"the type's name is {right}"
+    elif item == "kind" and FOR_HIGH_PRIORITY.fullmatch(word):
+        yield f"of high priority are: {', '.join(HIGH_PRIORITY)}"
     elif item != "kind" and word.lower() in ("all", "data", "s", "n"):
         yield f"words are in small letters: write {word.lower()}"
     else:

@@ -9,7 +9,8 @@ WIDEST = 40
 
 class Listed(Replay):
     """A replay that keeps a row for each line, in the order in which they were executed. If they are explained, a line
-    that was refused, or has the reply `no`, has the reason too, and a line that enabled a queue has which one, and why."""
+    that was refused, or has the reply `no`, has the reason too, and a line that enabled a queue has which one, and why. One after which
+    a band is wanted no longer, which enabled none, has why not."""
 
     def __init__(self, script, is_explained=False):
         super().__init__(script)
@@ -29,7 +30,7 @@ class Listed(Replay):
         return told
 
     def reason_of(self, word, items, values, reply, before):
-        """Why a line was refused, or has the reply `no`, or which queue it enabled, and why."""
+        """Why a line was refused, or has the reply `no`, or which queue it enabled, and why, or why a band's drain enabled none."""
         if denies(reply):
             return why_not(self.model, word, items, values, reply).text(self.labels)
         return enabled(self.model, word, values, before, self.labels)

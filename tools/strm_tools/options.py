@@ -17,11 +17,19 @@ def version():
 
 
 class Parser(argparse.ArgumentParser):
-    """A parser that says how to name standard input if a file is missing."""
+    """A parser that says how to name standard input if a file is missing, and rather names an unknown option if there is one."""
 
     def error(self, message):
-        is_missing = message.startswith("the following arguments are required: ")
-        super().error(message + ("; write - for standard input" if is_missing else ""))
+        if not message.startswith("the following arguments are required: "):
+            super().error(message)
+        unknown = self.unknown_words()
+        super().error(f"unrecognized arguments: {' '.join(unknown)}" if unknown else f"{message}; write - for standard input")
+
+    def unknown_words(self):
+        """The words of the command line that are neither options nor files."""
+        for action in self._actions:
+            action.required = False
+        return self.parse_known_args()[1]
 
 
 def parser_of(name, text):

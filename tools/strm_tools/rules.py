@@ -69,7 +69,11 @@ RULES = {
         "Band {B} of queue {Q} was wanted and its bytes, {N}, are at most its low water mark, {L}, so its waker, queue {W}, is enabled.",
         FLOW,
     ),
-    "no_waker": Rule("not enabled", "Band {B} of queue {Q} is wanted no longer, but no queue is its waker.", FLOW),
+    "no_waker": Rule(
+        "not enabled",
+        "Band {B} of queue {Q} is wanted no longer; no queue before it has a service procedure.",
+        FLOW,
+    ),
     "waker_runs": Rule(
         "not enabled",
         "Band {B} is wanted no longer; the waker, queue {W}, is on the run list already.",
@@ -89,6 +93,8 @@ EFFECTS = ("enabled", "not enabled")
 PUTS = ("putq", "putbq", "insq")
 SETTLES = ("getq", "rmvq", "flushq", "flushband", "strqset")
 SWITCHES = ("noenable", "enableok")
+# The rules of a band that is wanted no longer, where this enables no queue.
+WAKE_NONE = ("no_waker", "waker_runs")
 
 
 class Found(NamedTuple):
@@ -321,13 +327,13 @@ def before_line(model, word, values):
 
 
 def enabled(model, word, values, before, labels=()):
-    """Which queue a line enabled, and why, or nothing. The model has answered the line since `before`."""
+    """Which queue a line enabled, and why, or why none was although a band is wanted no longer, or nothing. The model has answered the line
+    since `before`."""
+    number = values[0] if values else None
+    why_now = why_settled(model, number, before.wanted, before.run) if word in SETTLES and before.wanted else None
     if len(model.run) <= len(before.run):
-        return ""
-    number = values[0]
-    if word in SETTLES:
-        why_now = why_settled(model, number, before.wanted, before.run)
-    else:
+        return why_now.text(labels) if why_now and why_now.name in WAKE_NONE else ""
+    if not why_now:
         why_now = by_message(model.queues[number], word, number, before.own) if word in PUTS else found("by_call", Q=number)
     verb = "back-enables" if word in SETTLES else "enables"
     return f"{verb} queue {labelled(model.run[-1], labels)}: {why_now.text(labels)}"

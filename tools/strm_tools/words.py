@@ -3,6 +3,7 @@ import textwrap
 from typing import NamedTuple
 
 from strm_tools.faults import AFTER, GREATEST
+from strm_tools.model import HIGH_PRIORITY, ORDINARY
 from strm_tools.shown import shown
 
 
@@ -77,6 +78,8 @@ COMMANDS = {
     },
 }
 WORDS = {**HEADER, **{word: entry for group in COMMANDS.values() for word, entry in group.items()}}
+# The types, by the priority that a message has with them.
+TYPES = {"Types of ordinary priority": ORDINARY, "Types of high priority": HIGH_PRIORITY}
 # What each word after the first has to be, by its item in strm_tools.model and strm_tools.faults.
 MEANINGS = {
     **{item: f"a number, 0 to {greatest}" for item, greatest in GREATEST.items()},
@@ -86,7 +89,7 @@ MEANINGS = {
     "next": "a queue, 0 to 255, or - for none",
     **dict.fromkeys(["from", "to"], "a register, a to z"),
     "octets": "two digits, 0 to 9 or a to f, for each of 1 to 64 bytes, or - for none",
-    "kind": "a type, such as M_DATA",
+    "kind": "a type, such as M_DATA, or M_PCPROTO of high priority",
     "flag": "all or data",
     "service": "s for a service procedure, or n for none",
 }
@@ -114,12 +117,20 @@ def whole_form(word):
 
 
 def table():
-    """Each line that a script may have, in groups: its form, and what it does."""
+    """Each line that a script may have, in groups: its form, and what it does. Then the types, by priority."""
     for group, words in {"The header and sections": HEADER, **COMMANDS}.items():
         yield f"{group}\n"
         for word, entry in words.items():
             yield f"  {whole_form(word)}\n"
-            yield textwrap.fill(entry.does, 79, initial_indent=" " * 6, subsequent_indent=" " * 6, break_on_hyphens=False) + "\n"
+            yield filled(entry.does)
+    for priority, types in TYPES.items():
+        yield f"{priority}\n"
+        yield filled(" ".join(types))
+
+
+def filled(text):
+    """A paragraph of the table."""
+    return textwrap.fill(text, 79, initial_indent=" " * 6, subsequent_indent=" " * 6, break_on_hyphens=False) + "\n"
 
 
 def counted(number, what):

@@ -29,7 +29,7 @@ def program_of(named, session, face):
 def begin(words, face):
     """The session that a script, or without one a small pool, begins."""
     try:
-        return Session(changes_of(DEFAULT if words.script is None else face.read(words.script)))
+        return Session(changes_of(DEFAULT) if words.script is None else changes_of(face.read(words.script), words.script))
     except Unreadable as why:
         end(2, f"{name_of(words.script)}: {why}")
     except Wrong as why:

@@ -3,7 +3,7 @@ import difflib
 from collections import Counter
 
 from strm_tools.faults import FITS, FORMS, MOST, LineFault, fault_in, line_kind
-from strm_tools.hints import hints
+from strm_tools.hints import FOR_HIGH_PRIORITY, TYPES, hints
 from strm_tools.play.session import is_command
 from strm_tools.script import Wrong
 from strm_tools.streams import hint_for
@@ -32,6 +32,11 @@ OWN = {
 }
 # What people type for commands of the session.
 MEANT = {"exit": "quit", "q": "quit", "?": "help", "show": "state", "open": "new", "load": "new", "step": "next", "goto": "until", "break": "until", "continue": "run"}
+
+
+def is_on_types(word):
+    """Whether help on this word is on types: one of them, or a word for all or for those of high priority."""
+    return word.upper() in (*TYPES, "TYPE", "TYPES") or FOR_HIGH_PRIORITY.fullmatch(word) is not None
 
 
 def number_of(word, least=0):

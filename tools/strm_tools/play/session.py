@@ -245,9 +245,9 @@ def opening(header):
     return Change("open", (header,), "another pool")
 
 
-def changes_of(script):
-    """The changes that open the pool of a script and execute its lines, section by section. Raises `Wrong` for a fault."""
-    require_right(script)
+def changes_of(script, path="-"):
+    """The changes that open the pool of a script, which is in the file of this path, and execute its lines, section by section. Raises `Wrong` for a fault."""
+    require_right(script, path)
     lines = script[:-1].split("\n")
     begin = lines.index("worker")
     worker = 0

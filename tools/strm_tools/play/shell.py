@@ -8,13 +8,13 @@ from strm_tools.listing import listing
 from strm_tools.play import proved
 from strm_tools.play.completion import completed
 from strm_tools.play.face import named
-from strm_tools.play.own import OWN, HeaderFault, TypedHeader, explained, number_of, wrong_form
+from strm_tools.play.own import OWN, HeaderFault, TypedHeader, explained, is_on_types, number_of, wrong_form
 from strm_tools.play.session import changes_of, is_command, opening, parted, text_of
 from strm_tools.play.state import drawn, is_changed
 from strm_tools.play.turns import Turns
 from strm_tools.rules import EFFECTS, FLOW, explains, labelled, why
 from strm_tools.script import Wrong
-from strm_tools.words import COMMANDS, HEADER, WORDS, counted, whole_form
+from strm_tools.words import COMMANDS, HEADER, TYPES, WORDS, counted, whole_form
 
 DEFAULT = """pool 1 8
 class 16 4
@@ -251,8 +251,17 @@ class Shell(Turns):
         elif word in WORDS:
             self.say(whole_form(word) + (" (in the header)" if word in HEADER and word != "worker" else ""))
             self.face.paragraph("  ", WORDS[word].does)
+            if "TYPE" in WORDS[word].form.split():
+                self.say_types()
+        elif is_on_types(word):
+            self.say_types()
         else:
             raise Wrong(explained("unknown", word, []))
+
+    def say_types(self):
+        for priority, types in TYPES.items():
+            self.say(f"{priority}:")
+            self.face.paragraph("  ", " ".join(types))
 
     def on_header(self):
         for line in self.play.header:
@@ -266,7 +275,7 @@ class Shell(Turns):
                 self.say(f"  {whole_form(word)}")
             return
         try:
-            changes = list(changes_of(self.face.read(path)))
+            changes = list(changes_of(self.face.read(path), path))
         except Wrong as reason:
             raise Wrong(f"{named(path)}: {reason}")
         self.open(changes[:1], path)
