@@ -41,7 +41,7 @@ Example:
 Exit status:
   0   done, or help was asked for
   1   reading or writing failed, or SCRIPT has more than N bytes
-  2   SCRIPT has a fault: standard error names its line and kind
+  2   SCRIPT has a fault; strm-check SCRIPT says where, and why
   3   out of memory, or of threads for workers
   4   the shared pool refused a command; this never happens
   64  the options are wrong
