@@ -50,6 +50,42 @@ impl Queues {
         ensures state { self.new.state ≡ self.old.state }
         ensures in_order { AreInOrder self.new blocks.new }
     {
+        // Most messages go last. Each call is inlined, and the first one is then shorter.
+        match before {
+            None => self.shelve_at(blocks, queue, None, rank, token),
+            Some(_) => self.shelve_at(blocks, queue, before, rank, token),
+        }
+    }
+
+    // Does what `shelve` does.
+    #[inline(always)]
+    fn shelve_at(
+        &mut self,
+        blocks: &mut Blocks,
+        queue: u8,
+        before: Option<BlockNo>,
+        rank: u16,
+        token: Token,
+    )
+        requires queue { queue < length self.old.state.specs }
+        requires in_order { AreInOrder self.old blocks.old }
+        requires had { IsTrue (has blocks.old token) }
+        requires rank { rank ≡ rank_of blocks.old.store (message_at blocks.old token.head) }
+        requires few { rank < ranks }
+        requires high { let m = message_at blocks.old token.head in rank ≡ high_rank
+            → as_queued blocks.old.store m ≡ with_band 0 m }
+        requires before { ForSome before (λ head. IsTrue (is_on blocks.old queue head)) }
+        requires ordered { let m = as_queued blocks.old.store (message_at blocks.old token.head) in
+            IsTrue (is_ordered (rank_of blocks.old.store) (put_before_head head_of before m
+            (shelf_at blocks.old queue))) }
+        ensures after { blocks.new ≡ with_shelf queue (put_before_head head_of before
+            (as_queued blocks.old.store (message_at blocks.old token.head)) (shelf_at blocks.old queue))
+            (without_held token.head blocks.old) }
+        ensures gone { held_at blocks.new token.head ≡ None }
+        ensures others { LeavesOthers (token.head ∷ []) blocks.old blocks.new }
+        ensures state { self.new.state ≡ self.old.state }
+        ensures in_order { AreInOrder self.new blocks.new }
+    {
         blocks.lawful();
         let placed = Placed {
             head: token.head(),
