@@ -1,3 +1,4 @@
 -- Sets of bands, stored as the bits of four words.
 pub mod Bits
 pub mod Bands
+pub mod Used

@@ -72,6 +72,10 @@ pub record IsNumbered (p : Placed) : Type 0 where
   pub ahead : ForSome p.ahead (λ k. k < 2 ^ 32 - 1)
   pub behind : ForSome p.behind (λ k. k < 2 ^ 32 - 1)
 
+-- the stored full mark of a band says whether its stored bytes reach this high water mark
+abbrev pub IsMarkTrue : ℕ → ℕ → Tally → Type 0
+IsMarkTrue hiwat band t = has_band t.full band ≡ fills hiwat (count_of t band)
+
 -- a band is stored with n bytes, and with its full mark by this high water mark
 abbrev pub with_count : ℕ → ℕ → ℕ → Tally → Tally
 with_count hiwat band n t = record t { counts = slice_set t.counts band n; full = slice_set t.full band (fills hiwat n) }

@@ -4,6 +4,7 @@ ghost use Rattle.std.specs.Int.{bit_at};
 ghost use Rattle.std.specs.Option.{IfNone, IfSome};
 ghost use Rattle.strm_queue.specs.BandSets.{IsFirstFrom, IsHighestTo, IsLastTo, IsLowestFrom};
 ghost use Rattle.strm_queue.specs.Flow.{bands_where, every_band, has_band, no_marks, some_relieved, still_wanted};
+ghost use Rattle.strm_queue.specs.Limits.{bands};
 
 use crate::limits::BANDS;
 use crate::marks::Marks;
@@ -162,6 +163,14 @@ impl BandSet {
         ensures { length self.now ≡ length every_band }
     {
         let _ = &self.words;
+    }
+
+    // Law: a set has as many marks as there are bands. Does nothing.
+    #[tactic(auto, using(crate::proofs::bands::Bands::length_every_band))]
+    pub(crate) fn marks_each(&self)
+        ensures { length self.now ≡ bands }
+    {
+        self.lawful();
     }
 }
 

@@ -1,9 +1,9 @@
 //! What is stored of a queue's messages, so that `qsize`, `bcanput` and `putq` walk along no list.
-ghost use Rattle.std.specs.Prelude.{◌≡◌, ◌+◌, ◌-◌, ◌<◌, ◌≤◌, ◌^◌, ℕ, false, is_some};
+ghost use Rattle.std.specs.Prelude.{◌≡◌, ◌+◌, ◌-◌, ◌<◌, ◌≤◌, ◌^◌, ℕ, false, None, Some, is_some};
 ghost use Rattle.std.specs.Option.{ForSome, IfNone, IfSome};
 ghost use Rattle.strm_queue.specs.Flow.{band_of_rank, has_band};
 ghost use Rattle.strm_queue.specs.Limits.{ranks};
-ghost use Rattle.strm_queue.specs.Tallies.{IsNumbered, IsRankFrom, IsRankTo, count_of, end_after_joining, end_after_leaving, first_in, has_rank, last_in, no_tally, one_less, one_more, with_full_mark, with_count, with_ends};
+ghost use Rattle.strm_queue.specs.Tallies.{IsMarkTrue, IsNumbered, IsRankFrom, IsRankTo, count_of, end_after_joining, end_after_leaving, first_in, has_rank, last_in, no_tally, one_less, one_more, with_full_mark, with_count, with_ends};
 
 use crate::band_set::BandSet;
 use crate::limits::{BANDS, HIGH_RANK, RANKS};
@@ -23,7 +23,8 @@ pub(crate) struct Placed {
 }
 
 // What is stored of a queue's messages: their number and bytes, the bytes of each band, and the bands that are full. For
-// each rank it has the heads of the first and last message. `used` is the bands that, as ranks, have messages.
+// each rank it has the heads of the first and last message. `used` is the bands above 0 that, as ranks, have messages. Band
+// 0, which most messages have, is left out: its first head says whether it has messages.
 #[derive(Debug, Drop)]
 pub(crate) struct Tally {
     len: u32,
@@ -38,11 +39,12 @@ pub(crate) struct Tally {
 const _: () = prove!(size_of::<Tally>() == 3152);
 
 impl Model for Tally {
+    ghost use Rattle.std.specs.Prelude.{None, is_some, slice_index_or, slice_set};
     ghost use Rattle.strm_queue.specs.Tallies.{Tally};
 
     ghost Value = { Tally };
 
-    ghost view = { λ t. record { len = t.len; bytes = t.bytes; counts = t.counts; full = t.full; firsts = t.firsts; lasts = t.lasts; used = t.used } };
+    ghost view = { λ t. record { len = t.len; bytes = t.bytes; counts = t.counts; full = t.full; firsts = t.firsts; lasts = t.lasts; used = slice_set t.used 0 (is_some (slice_index_or t.firsts 0 None)) } };
 }
 
 impl Tally {
@@ -118,8 +120,12 @@ impl Tally {
         ensures some { IfSome result (λ found. IsRankFrom self.now rank found) }
         ensures none { IfNone result ((x : ℕ) → rank ≤ x → x < ranks → has_rank self.now x ≡ false) }
     {
+        self.used.marks_each();
+        if rank == 0 && self.first(0).is_some() {
+            return Some(0);
+        }
         if rank < HIGH_RANK {
-            if let Some(band) = self.used.at_least(rank as u8) {
+            if let Some(band) = self.used.at_least(rank.max(1) as u8) {
                 return Some(u16::from(band));
             }
         }
@@ -133,11 +139,18 @@ impl Tally {
         ensures some { IfSome result (λ found. IsRankTo self.now rank found) }
         ensures none { IfNone result ((x : ℕ) → x ≤ rank → has_rank self.now x ≡ false) }
     {
+        self.used.marks_each();
         if rank == HIGH_RANK && self.first(HIGH_RANK).is_some() {
             return Some(HIGH_RANK);
         }
-        let band = self.used.at_most(rank.min(HIGH_RANK - 1) as u8)?;
-        Some(u16::from(band))
+        if rank > 0 {
+            match self.used.at_most(rank.min(HIGH_RANK - 1) as u8) {
+                Some(band) if band > 0 => return Some(u16::from(band)),
+                _ => {}
+            }
+        }
+        self.first(0)?;
+        Some(0)
     }
 
     // Counts a message that has joined the queue; `hiwat` is the high water mark of its band.
@@ -148,6 +161,9 @@ impl Tally {
         requires len { self.old.len + 1 < 2 ^ 32 }
         requires bytes { self.old.bytes + placed.size < 2 ^ 32 }
         requires count { count_of self.old (band_of_rank placed.rank) + placed.size < 2 ^ 32 }
+        requires marked { IsMarkTrue hiwat (band_of_rank placed.rank) self.old }
+        requires last { placed.behind ≡ None
+            → end_after_joining (last_in self.old placed.rank) placed.ahead placed.head ≡ Some placed.head }
         ensures { self.new ≡ one_more hiwat placed self.old }
     {
         let Placed {
@@ -159,10 +175,10 @@ impl Tally {
         } = placed;
         let band = band_of(rank);
         let first = end_after_joining(self.firsts[usize::from(rank)], behind, head);
-        let last = end_after_joining(self.lasts[usize::from(rank)], ahead, head);
+        let last = last_after_joining(self.lasts[usize::from(rank)], ahead, behind, head);
         self.len += 1;
         self.bytes += size;
-        self.set_count(hiwat, band, self.count(band) + size);
+        self.grow(hiwat, band, size);
         self.set_ends(rank, first, last, true);
     }
 
@@ -174,6 +190,8 @@ impl Tally {
         requires len { 1 ≤ self.old.len }
         requires bytes { placed.size ≤ self.old.bytes }
         requires count { placed.size ≤ count_of self.old (band_of_rank placed.rank) }
+        requires marked { IsMarkTrue hiwat (band_of_rank placed.rank) self.old }
+        requires first { placed.ahead ≡ None → first_in self.old placed.rank ≡ Some placed.head }
         ensures { self.new ≡ one_less hiwat placed self.old }
     {
         let Placed {
@@ -184,14 +202,44 @@ impl Tally {
             behind,
         } = placed;
         let band = band_of(rank);
-        let first = self.firsts[usize::from(rank)];
+        let first = first_before_leaving(self.firsts[usize::from(rank)], ahead, head);
         let last = self.lasts[usize::from(rank)];
         let next_first = end_after_leaving(first, last, behind, head);
         let next_last = end_after_leaving(last, first, ahead, head);
         self.len -= 1;
         self.bytes -= size;
-        self.set_count(hiwat, band, self.count(band) - size);
+        self.shrink(hiwat, band, size);
         self.set_ends(rank, next_first, next_last, next_first.get().is_some());
+    }
+
+    // Adds bytes to a band. Writes its full mark only if that changes: if the band becomes full.
+    #[inline(always)]
+    fn grow(&mut self, hiwat: u32, band: u8, size: u32)
+        requires count { count_of self.old band + size < 2 ^ 32 }
+        requires marked { IsMarkTrue hiwat band self.old }
+        ensures { self.new ≡ with_count hiwat band (count_of self.old band + size) self.old }
+    {
+        let before = self.count(band);
+        let count = before + size;
+        self.counts[usize::from(band)] = count;
+        if hiwat <= count && before < hiwat {
+            self.full.insert(band);
+        }
+    }
+
+    // Takes bytes from a band. Writes its full mark only if that changes: if the band was full and no longer is.
+    #[inline(always)]
+    fn shrink(&mut self, hiwat: u32, band: u8, size: u32)
+        requires count { size ≤ count_of self.old band }
+        requires marked { IsMarkTrue hiwat band self.old }
+        ensures { self.new ≡ with_count hiwat band (count_of self.old band - size) self.old }
+    {
+        let before = self.count(band);
+        let count = before - size;
+        self.counts[usize::from(band)] = count;
+        if hiwat <= before && count < hiwat {
+            self.full.remove(band);
+        }
     }
 
     // Sets or clears the full mark of a band whose high water mark is now `hiwat`.
@@ -211,16 +259,15 @@ impl Tally {
 
     // Stores the heads of the first and the last message of a rank, and whether it has messages.
     #[inline(always)]
-    #[tactic(auto, using(std::proofs::lemmas::List::set_past, crate::proofs::bands::Bands::length_every_band))]
     fn set_ends(&mut self, rank: u16, first: Slot, last: Slot, used: bool)
         requires rank { rank < ranks }
         requires used { used ≡ is_some first }
         ensures { self.new ≡ with_ends rank first last self.old }
     {
-        self.used.lawful();
+        self.used.marks_each();
         self.firsts[usize::from(rank)] = first;
         self.lasts[usize::from(rank)] = last;
-        if rank < HIGH_RANK {
+        if 0 < rank && rank < HIGH_RANK {
             self.used.set(rank as u8, used);
         }
     }
@@ -242,6 +289,37 @@ fn end_after_joining(end: Slot, beside: Option<BlockNo>, head: BlockNo) -> Slot
     match end.get() {
         Some(at) if beside != Some(at) => end,
         _ => Slot::some(head),
+    }
+}
+
+// The last message of a rank after a message joined it. If that message went last on the queue, it is this one.
+#[inline(always)]
+fn last_after_joining(
+    end: Slot,
+    ahead: Option<BlockNo>,
+    behind: Option<BlockNo>,
+    head: BlockNo,
+) -> Slot
+    requires head { head < 2 ^ 32 - 1 }
+    requires last { behind ≡ None → end_after_joining end ahead head ≡ Some head }
+    ensures { result ≡ end_after_joining end ahead head }
+{
+    match behind {
+        Some(_) => end_after_joining(end, ahead, head),
+        None => Slot::some(head),
+    }
+}
+
+// The first message of a rank before a message leaves it: `end`. If that message is the queue's first, it is this one.
+#[inline(always)]
+fn first_before_leaving(end: Slot, ahead: Option<BlockNo>, head: BlockNo) -> Slot
+    requires head { head < 2 ^ 32 - 1 }
+    requires first { ahead ≡ None → end ≡ Some head }
+    ensures { result ≡ end }
+{
+    match ahead {
+        Some(_) => end,
+        None => Slot::some(head),
     }
 }
 

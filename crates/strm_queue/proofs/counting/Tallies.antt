@@ -1,5 +1,5 @@
 -- The tally of a queue stays true when a message joins or leaves.
-use Rattle.std.proofs.Common.{◌≡◌, ◌≢◌, ℕ, ◌+◌, ◌-◌, ◌<◌, ◌≤◌, ◌^◌, false, List, [], ◌∷◌, ◌++◌, length, get_or, set, Option, refl, sym, ap, ◌∙◌, arith, length-append, length-set, None, subst, true}
+use Rattle.std.proofs.Common.{◌≡◌, ◌≢◌, ℕ, ◌+◌, ◌-◌, ◌<◌, ◌≤◌, ◌^◌, false, List, [], ◌∷◌, ◌++◌, length, get_or, set, Option, refl, sym, ap, ◌∙◌, arith, length-append, length-set, None, Some, subst, true}
 use Rattle.std.specs.Prelude.{is_some}
 use Rattle.std.proofs.lemmas.Bool.{cond-false, cond-true, eq-eqb, lt-leb, ne_eqb}
 use Rattle.std.proofs.lemmas.List.{get_or-replicate, length-replicate}
@@ -10,7 +10,7 @@ use Rattle.strm_queue.specs.Flow.{band_count, band_of_rank, bytes_on, fills}
 use Rattle.strm_queue.specs.Limits.{bands, ranks}
 use Rattle.strm_queue.specs.declared.tally.Placed.{Placed}
 use Rattle.strm_queue.specs.Ends.{first_of_rank, last_of_rank, of_rank}
-use Rattle.strm_queue.specs.Tallies.{IsNumbered, IsTallyOf, Tally, count_of, end_after_joining, end_after_leaving, first_in, last_in, no_tally, one_less, one_more, with_full_mark, with_count, with_ends}
+use Rattle.strm_queue.specs.Tallies.{IsMarkTrue, IsNumbered, IsTallyOf, Tally, count_of, end_after_joining, end_after_leaving, first_in, last_in, no_tally, one_less, one_more, with_full_mark, with_count, with_ends}
 use Rattle.strm_queue.specs.Rank.{rank_of, is_ordered}
 use Rattle.strm_queue.proofs.Lists.{get_or-replicate_same}
 use Rattle.strm_queue.proofs.bands.Bands.{has_band_where, length-bands_where, length_every_band}
@@ -21,7 +21,7 @@ use Rattle.strm_mblk.specs.Arena.{Arena, IsParted, shelf_at}
 use Rattle.strm_mblk.specs.Limits.{most_message_blocks}
 use Rattle.strm_mblk.proofs.arena.Stands.{heads_room}
 use Rattle.std.proofs.lemmas.List.{append_assoc}
-use Rattle.strm_queue.proofs.order.Ends.{first_joined, last_joined, first_left, last_left, of_rank-other}
+use Rattle.strm_queue.proofs.order.Ends.{first_joined, first_left, joins_last, last_joined, last_left, leaves_first, of_rank-other}
 
 -- no message
 abbrev none_given : Option ℕ
@@ -66,6 +66,10 @@ numbered a parted few q s pre post m p is placed = record {
   where
     low : (k : ℕ) → has k (heads (pre ++ m ∷ post)) ≡ true → k < 2 ^ 32 - 1
     low k there = omega (arith, few, heads_room a parted q k (ap (λ ms. has k (heads ms)) is ∙ there))
+
+-- the full mark of the band of a rank says whether its stored bytes reach the high water mark
+pub mark_true : (s : DataStore) (hiwat : ℕ → ℕ) (ms : List Message) (t : Tally) → IsTallyOf s hiwat ms t → (r : ℕ) → IsMarkTrue (hiwat (band_of_rank r)) (band_of_rank r) t
+mark_true s hiwat ms t is r = is.full (band_of_rank r) (band_of_rank_range r) ∙ ap (fills (hiwat (band_of_rank r))) (sym (is.counts (band_of_rank r) (band_of_rank_range r)))
 
 -- a list that agrees with f still does after f's value is set at one place
 at_set : {X : Type 0} (f : ℕ → X) (xs : List X) (k : ℕ) (v d : X) (x : ℕ) → (x ≡ k → k < length xs) → v ≡ f k → (x ≢ k → get_or xs x d ≡ f x) → get_or (set xs k v) x d ≡ f x
@@ -149,6 +153,13 @@ module _ (s : DataStore) (m : Message) where
       pub joins_few : bytes_on (pre ++ m ∷ post) < 2 ^ 32 → count_of t (band_of_rank p.rank) + p.size < 2 ^ 32
       joins_few few = grind (arith, common_steps, bytes_on-left, band_of_rank_range, count_in)
 
+      -- one that goes last is then the last of its rank
+      pub joins_last_of_rank : is_ordered (rank_of s) (pre ++ m ∷ post) ≡ true → IsApart (heads (pre ++ m ∷ post)) → p.behind ≡ None → end_after_joining (last_in t p.rank) p.ahead p.head ≡ Some p.head
+      joins_last_of_rank ordered apart none =
+          (λ i. end_after_joining (last_in t (placed.rank i)) (placed.ahead i) (placed.head i))
+          ∙ ap (λ o. end_after_joining o (last (heads pre)) (head_of m)) (is.ends.lasts (rank_of s m)) ∙ joins_last (rank_of s) pre post m ordered apart (sym placed.behind ∙ none)
+          ∙ ap Some (sym placed.head)
+
     -- a message leaves
     module _ (is : IsTallyOf s hiwat (pre ++ m ∷ post) t) where
       pub tally_left : is_ordered (rank_of s) (pre ++ m ∷ post) ≡ true → IsApart (heads (pre ++ m ∷ post)) → IsTallyOf s hiwat (pre ++ post) (one_less (hiwat (band_of_rank p.rank)) p t)
@@ -162,6 +173,11 @@ module _ (s : DataStore) (m : Message) where
           ((λ i. end_after_leaving (is.ends.firsts (rank_of s m) i) (is.ends.lasts (rank_of s m) i) (first (heads post)) (head_of m)) ∙ first_left (rank_of s) pre post m ordered apart)
           ((λ i. end_after_leaving (is.ends.lasts (rank_of s m) i) (is.ends.firsts (rank_of s m) i) (last (heads pre)) (head_of m)) ∙ last_left (rank_of s) pre post m ordered apart)
           (λ x other. sym (of_rank-other (rank_of s) x pre post m other)))
+
+      -- one that is first is the first of its rank
+      pub leaves_first_of_rank : is_ordered (rank_of s) (pre ++ m ∷ post) ≡ true → IsApart (heads (pre ++ m ∷ post)) → p.ahead ≡ None → first_in t p.rank ≡ Some p.head
+      leaves_first_of_rank ordered apart none =
+          ap (first_in t) placed.rank ∙ is.ends.firsts (rank_of s m) ∙ leaves_first (rank_of s) pre post m ordered apart (sym placed.ahead ∙ none) ∙ ap Some (sym placed.head)
 
       -- its bytes are among those of all
       pub leaves_all : p.size ≤ t.bytes

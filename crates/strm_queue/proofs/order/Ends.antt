@@ -250,6 +250,14 @@ module _ (rank : Message → ℕ) where
     pub last_joined : end_after_joining (last_of_rank rank (rank m) (pre ++ post)) (last (heads pre)) (head_of m) ≡ last_of_rank rank (rank m) (pre ++ m ∷ post)
     last_joined = joined_is (head_of m) _ _ _ _ _ last_end
 
+    -- a message that goes last is the last of its rank
+    pub joins_last : first (heads post) ≡ None → end_after_joining (last_of_rank rank (rank m) (pre ++ post)) (last (heads pre)) (head_of m) ≡ Some (head_of m)
+    joins_last none = last_joined ∙ last_end.whole_is ∙ ap (λ ms. option_or (last_of_rank rank (rank m) ms) (Some (head_of m))) (first_none post none)
+
+    -- and one that is first is the first of its rank
+    pub leaves_first : last (heads pre) ≡ None → first_of_rank rank (rank m) (pre ++ m ∷ post) ≡ Some (head_of m)
+    leaves_first none = first_end.whole_is ∙ ap (λ ms. option_or (first_of_rank rank (rank m) ms) (Some (head_of m))) (last_none pre none)
+
     -- and once it has left
     pub first_left : end_after_leaving (first_of_rank rank (rank m) (pre ++ m ∷ post)) (last_of_rank rank (rank m) (pre ++ m ∷ post)) (first (heads post)) (head_of m) ≡ first_of_rank rank (rank m) (pre ++ post)
     first_left = grind (arith, common_steps, first_end, last_end, last_of_rank-none, first_of_rank-none)

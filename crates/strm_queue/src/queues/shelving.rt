@@ -1,13 +1,14 @@
 //! Messages join and leave a queue's shelf, and what is stored of the queue stays true.
 ghost use Rattle.std.specs.Prelude.{Ok, ◌≡◌, ◌<◌, [], ◌∷◌, IsTrue, None, length};
 ghost use Rattle.std.specs.Option.{ForSome};
+ghost use Rattle.strm_links.specs.Rows as rows;
 ghost use Rattle.strm_mblk.specs.Arena.{has, held_at, message_at, shelf_at, with_shelf, without_held};
 ghost use Rattle.strm_mblk.specs.Block.{head_of};
 ghost use Rattle.strm_mblk.specs.BlockCalls.{with_band};
 ghost use Rattle.strm_mblk.specs.Frame.{LeavesOthers};
 ghost use Rattle.strm_mblk.specs.Messages.{put_before_head};
 ghost use Rattle.strm_mblk.specs.Shelves as model;
-ghost use Rattle.strm_mblk.specs.Shelves.{is_on};
+ghost use Rattle.strm_mblk.specs.Shelves.{heads_at, is_on};
 ghost use Rattle.strm_mblk.specs.Calls.{Takes, itself};
 ghost use Rattle.strm_queue.specs.Limits.{high_rank, ranks};
 ghost use Rattle.strm_queue.specs.QueuedBlocks.{AreInOrder};
@@ -113,15 +114,42 @@ impl Queues {
         ensures state { self.new.state ≡ self.old.state }
         ensures in_order { AreInOrder self.new blocks.new }
     {
+        // Most messages are first. Each call is inlined, and the first one is then shorter.
+        let ahead = blocks.before(head);
+        match ahead {
+            None => self.unshelve_behind(blocks, queue, None, head),
+            Some(_) => self.unshelve_behind(blocks, queue, ahead, head),
+        }
+    }
+
+    // Does what `unshelve` does, for the message after `ahead`, or the first one.
+    #[inline(always)]
+    fn unshelve_behind(
+        &mut self,
+        blocks: &mut Blocks,
+        queue: u8,
+        ahead: Option<BlockNo>,
+        head: BlockNo,
+    ) -> Token
+        requires queue { queue < length self.old.state.specs }
+        requires in_order { AreInOrder self.old blocks.old }
+        requires there { IsTrue (is_on blocks.old queue head) }
+        requires ahead { ahead ≡ rows.before head (heads_at blocks.old queue) }
+        ensures takes { Takes itself (Ok (head, model.unshelve queue head blocks.old))
+            blocks.old blocks.new (Ok result) }
+        ensures state { self.new.state ≡ self.old.state }
+        ensures in_order { AreInOrder self.new blocks.new }
+    {
         blocks.lawful();
         let placed = Placed {
             head,
             rank: queued_rank(blocks, head),
             size: blocks.head_size(head),
-            ahead: blocks.before(head),
+            ahead,
             behind: blocks.after(head),
         };
+        let token = blocks.unshelve(queue, head);
         self.leave(queue, placed);
-        blocks.unshelve(queue, head)
+        token
     }
 }

@@ -1,4 +1,4 @@
-use Rattle.std.proofs.Common.{◌≡◌, ◌<◌, ◌^◌, ap, arith, subst, sym, ◌∙◌, get_or-set_same, [], ◌++◌, ◌∷◌, set}
+use Rattle.std.proofs.Common.{◌≡◌, ◌<◌, ◌^◌, ap, arith, subst, sym, ◌∙◌, get_or-set_same, [], ◌++◌, ◌∷◌, set, true}
 use Rattle.std.proofs.lemmas.Grind.{common_steps}
 use Rattle.strm_mblk.specs.Arena.{Arena, message_at, shelf_at, with_shelf, without_held}
 use Rattle.strm_mblk.specs.Block.{Message, head_of}
@@ -13,7 +13,7 @@ use Rattle.strm_queue.proofs.agreeing.Agreeing.{in_order_put}
 use Rattle.strm_queue.proofs.counting.Counts.{bytes_fit}
 use Rattle.strm_queue.proofs.order.Ranks.{rank_of-queued, size_of-queued, head_of-queued}
 use Rattle.strm_queue.proofs.moving.Puts.{few_on_shelf, shelve_high, shelve_low}
-use Rattle.strm_queue.proofs.counting.Tallies.{joins_all, joins_few, numbered, IsPlaced}
+use Rattle.strm_queue.proofs.counting.Tallies.{joins_all, joins_few, joins_last_of_rank, mark_true, numbered, IsPlaced}
 use Rattle.strm_queue.proofs.queues.Queues.shelve_at.Goals as goal
 use Rattle.strm_queue.proofs.queues.Queues.shelve_at.Goals.{After-lawful-2, then-rank-eq-HIGH_RANK, else-rank-eq-HIGH_RANK}
 use Rattle.strm_links.specs.Rows.{IsApart}
@@ -99,6 +99,23 @@ join-requires-clause-count c =
     let at = (goal.at.join-requires-clause-count c).After-lawful-2 in
     joins_few c.args.blocks.now.store (m at) (hiwat_of c.args.self.now.state c.args.queue) (tally_at c.args.self.now c.args.queue) (sides at).pre (sides at).post (own at) (placed at) (true_of at) (few_bytes at)
 
+pub join-requires-clause-marked : goal.join-requires-clause-marked
+join-requires-clause-marked c =
+    mark_true c.args.blocks.now.store (hiwat_of c.args.self.now.state c.args.queue) (shelf_at c.args.blocks.now c.args.queue) (tally_at c.args.self.now c.args.queue) (c.requires.in_order.true_of c.args.queue c.requires.queue) c.args.rank
+
+-- no two messages of the queue have the same head
+apart : (c : After-lawful-2) → IsApart (heads ((sides c).pre ++ m c ∷ (sides c).post))
+apart c = subst (λ ms. IsApart (heads ms)) (here c) (heads_apart c.shelve.new.self c.lawful-2.ensures.parted c.args.queue)
+
+-- and they are in order
+ordered : (c : After-lawful-2) → is_ordered (rank_of c.args.blocks.now.store) ((sides c).pre ++ m c ∷ (sides c).post) ≡ true
+ordered c = sym (ap (is_ordered (rank_of c.args.blocks.now.store)) (between c)) ∙ c.requires.ordered
+
+pub join-requires-clause-last : goal.join-requires-clause-last
+join-requires-clause-last c =
+    let at = (goal.at.join-requires-clause-last c).After-lawful-2 in
+    joins_last_of_rank c.args.blocks.now.store (m at) (hiwat_of c.args.self.now.state c.args.queue) (tally_at c.args.self.now c.args.queue) (sides at).pre (sides at).post (own at) (placed at) (true_of at) (ordered at) (apart at)
+
 pub returns-clause-after : goal.returns-clause-after
 returns-clause-after c = after (goal.at.returns-clause-after c).After-lawful-2
 
@@ -107,6 +124,5 @@ returns-clause-in_order c =
     let at = (goal.at.returns-clause-in_order c).After-lawful-2 in
     subst (λ v. AreInOrder v c.shelve.new.self) (sym c.join.ensures)
     (in_order_put c.args.self.now c.args.blocks.now c.requires.in_order c.args.queue c.requires.queue (m at) c.shelve.new.self (ap (λ (b : Arena). b.store) (after at)) (sides at).pre (sides at).post (own at) (placed at)
-    (subst (λ ms. IsApart (heads ms)) (here at) (heads_apart c.shelve.new.self c.lawful-2.ensures.parted c.args.queue)) (sides at).is
-    (ap (λ (b : Arena). b.shelves) (after at) ∙ ap (set c.args.blocks.now.shelves c.args.queue) (between at))
-    (sym (ap (is_ordered (rank_of c.args.blocks.now.store)) (between at)) ∙ c.requires.ordered))
+    (apart at) (sides at).is
+    (ap (λ (b : Arena). b.shelves) (after at) ∙ ap (set c.args.blocks.now.shelves c.args.queue) (between at)) (ordered at))

@@ -1,86 +1,9 @@
-use Rattle.std.proofs.Common.{◌≡◌, ◌++◌, ◌∷◌, ap, subst, sym, ◌∙◌}
-use Rattle.strm_mblk.specs.Arena.{Arena, shelf_at, with_held, with_shelf}
-use Rattle.strm_mblk.specs.Block.{size_of}
-use Rattle.strm_mblk.specs.Shelves.{unshelve, shelved_message}
-use Rattle.strm_mblk.proofs.arena.Stands.{heads_apart, shelf_of-there}
-use Rattle.strm_queue.specs.Flow.{hiwat_of}
-use Rattle.strm_queue.specs.QueuedBlocks.{AreInOrder, tally_at}
-use Rattle.strm_queue.specs.Tallies.{IsTallyOf}
-use Rattle.strm_queue.proofs.shelf.Across.{shelved_message_at}
-use Rattle.strm_queue.proofs.agreeing.Agreeing.{in_order_got}
-use Rattle.strm_queue.proofs.shelf.OnShelf.{Parts, parts_of, unshelved, heads, after-head, before-head}
-use Rattle.strm_queue.proofs.counting.Tallies.{leaves_all, leaves_enough, numbered, IsPlaced}
+use Rattle.std.proofs.Common.{sym, ◌∙◌}
+use Rattle.strm_mblk.proofs.arena.Stands.{shelf_of-there}
 use Rattle.strm_queue.proofs.queues.Queues.unshelve.Goals as goal
-use Rattle.strm_queue.proofs.queues.Queues.unshelve.Goals.{After-after}
-use Rattle.strm_links.specs.Rows.{IsApart, after, before}
-use Rattle.strm_queue.specs.declared.tally.Placed.{Placed}
 
--- the message, and those before and after it
-abbrev parts : (c : After-after) → Parts c.args.head (shelf_at c.args.blocks.now c.args.queue)
-parts c = parts_of c.args.head (shelf_at c.args.blocks.now c.args.queue) c.requires.there
+pub before-ahead-requires : goal.before-ahead-requires
+before-ahead-requires c = shelf_of-there c.args.blocks.now c.args.queue c.args.head c.requires.there
 
-abbrev true_of : (c : After-after) → IsTallyOf c.args.blocks.now.store (hiwat_of c.args.self.now.state c.args.queue) ((parts c).pre ++ (parts c).at ∷ (parts c).post) (tally_at c.args.self.now c.args.queue)
-true_of c =
-    subst (λ ms. IsTallyOf c.args.blocks.now.store (hiwat_of c.args.self.now.state c.args.queue) ms (tally_at c.args.self.now c.args.queue)) (parts c).is
-    (c.requires.in_order.true_of c.args.queue c.requires.queue)
-
--- no two messages of the queue have the same head
-apart : (c : After-after) → IsApart (heads ((parts c).pre ++ (parts c).at ∷ (parts c).post))
-apart c = subst (λ ms. IsApart (heads ms)) (parts c).is (heads_apart c.args.blocks.now c.lawful.ensures.parted c.args.queue)
-
--- its entry for the tally
-abbrev own : After-after → Placed
-own c = record { head = c.args.head; rank = c.queued_rank.result; size = c.head_size.result; ahead = c.before-2.result; behind = c.after.result }
-
-placed : (c : After-after) → IsPlaced c.args.blocks.now.store (parts c).pre (parts c).post (parts c).at (own c)
-placed c = record {
-  head = sym (parts c).head;
-  rank = c.queued_rank.ensures.value c.args.queue (parts c).pre (parts c).post (parts c).at (parts c).is (parts c).head;
-  size =
-      c.head_size.ensures
-      ∙ ap size_of (ap (shelved_message c.args.blocks.now) (sym (parts c).head) ∙ shelved_message_at c.args.blocks.now c.lawful.ensures.parted c.args.queue (parts c).pre (parts c).post (parts c).at (parts c).is);
-  ahead =
-      c.before-2.ensures c.args.queue c.requires.there ∙ (λ i. before (sym (parts c).head i) (heads ((parts c).is i)))
-      ∙ before-head (parts c).pre (parts c).post (parts c).at (apart c);
-  behind =
-      c.after.ensures c.args.queue c.requires.there ∙ (λ i. after (sym (parts c).head i) (heads ((parts c).is i)))
-      ∙ after-head (parts c).pre (parts c).post (parts c).at (apart c);
-  few = c.queued_rank.ensures.few;
-}
-
-pub queued_rank-requires : goal.queued_rank-requires
-queued_rank-requires c = shelf_of-there c.args.blocks.now c.args.queue c.args.head c.requires.there
-
-pub head_size-requires : goal.head_size-requires
-head_size-requires c = shelf_of-there c.args.blocks.now c.args.queue c.args.head c.requires.there
-
-pub before-requires : goal.before-requires
-before-requires c = shelf_of-there c.args.blocks.now c.args.queue c.args.head c.requires.there
-
-pub after-requires : goal.after-requires
-after-requires c = shelf_of-there c.args.blocks.now c.args.queue c.args.head c.requires.there
-
-pub leave-requires-clause-numbered : goal.leave-requires-clause-numbered
-leave-requires-clause-numbered c =
-    let at = (goal.at.leave-requires-clause-numbered c).After-after in
-    numbered c.args.blocks.now c.lawful.ensures.parted c.lawful.ensures.few c.args.queue c.args.blocks.now.store (parts at).pre (parts at).post (parts at).at (own at) (parts at).is (placed at)
-
-pub leave-requires-clause-bytes : goal.leave-requires-clause-bytes
-leave-requires-clause-bytes c =
-    let at = (goal.at.leave-requires-clause-bytes c).After-after in
-    leaves_all c.args.blocks.now.store (parts at).at (hiwat_of c.args.self.now.state c.args.queue) (tally_at c.args.self.now c.args.queue) (parts at).pre (parts at).post (own at) (placed at) (true_of at)
-
-pub leave-requires-clause-count : goal.leave-requires-clause-count
-leave-requires-clause-count c =
-    let at = (goal.at.leave-requires-clause-count c).After-after in
-    leaves_enough c.args.blocks.now.store (parts at).at (hiwat_of c.args.self.now.state c.args.queue) (tally_at c.args.self.now c.args.queue) (parts at).pre (parts at).post (own at) (placed at) (true_of at)
-
-pub returns-clause-in_order : goal.returns-clause-in_order
-returns-clause-in_order c =
-    let at = (goal.at.returns-clause-in_order c).After-after in
-    let left : c.unshelve.new.self ≡ with_held (parts at).at (with_shelf c.args.queue ((parts at).pre ++ (parts at).post) c.args.blocks.now) =
-    c.unshelve.ensures.after ∙ ap (λ n. unshelve c.args.queue n c.args.blocks.now) (sym (parts at).head)
-    ∙ unshelved c.args.blocks.now c.args.queue (parts at).pre (parts at).post (parts at).at (parts at).is (heads_apart c.args.blocks.now c.lawful.ensures.parted c.args.queue) in
-    subst (λ v. AreInOrder v c.unshelve.new.self) (sym c.leave.ensures)
-    (in_order_got c.args.self.now c.args.blocks.now c.requires.in_order c.args.queue c.requires.queue (parts at).at c.unshelve.new.self (ap (λ (b : Arena). b.store) left) (parts at).pre (parts at).post (own at) (placed at) (apart at) (parts at).is
-    (ap (λ (b : Arena). b.shelves) left))
+pub unshelve_behind-requires-clause-ahead : goal.unshelve_behind-requires-clause-ahead
+unshelve_behind-requires-clause-ahead c = sym c.in-None.is ∙ c.before-ahead.ensures c.args.queue c.requires.there
