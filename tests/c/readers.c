@@ -200,7 +200,7 @@ static void change(int round)
 	shared.sight = seen_of(pool, shared.msg);
 }
 
-/* Looks in several threads, while this one makes so many changes. */
+/* Looks in several threads, while this one makes this number of changes. */
 static void look_together(int changes)
 {
 	pthread_t readers[READERS];
