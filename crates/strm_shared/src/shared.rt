@@ -96,7 +96,7 @@ impl<N: Name> Shared<N> {
     /// There must be as many replies as lines. It takes the lock once for up to `MOST_BATCH` lines, and no other call is served
     /// between these. After `MOST_BATCH` lines it lets the lock go and takes it again, so other calls may be served there. Each
     /// line raises the stamp by 1, stores the word, and has its own entry in a trace that is kept. Waits for the lock, also if
-    /// it then refuses; allocates nothing.
+    /// it then refuses; with no lines it does not take it. Allocates nothing.
     ///
     /// Refused as `Worn`, then as `TraceFull`, at the first line that [`Shared::serve`] would refuse; later lines are not tried.
     /// Returns why, and the number of lines that were served: their replies are written, and the others stay unchanged. The desk
