@@ -147,7 +147,7 @@ impl Queues {
             blocks.reads_alike();
             at = self.onward(blocks, queue, band, blocks.after(head));
             if takes(blocks, head, flush) {
-                let token = self.unshelve(blocks, queue, head);
+                let token = self.unshelve_apart(blocks, queue, head);
                 blocks.freemsg(token);
             }
         }

@@ -122,6 +122,20 @@ impl Queues {
         }
     }
 
+    // Does what `unshelve` does. It is not inlined, so that a flush goes faster over messages that it leaves.
+    #[inline(never)]
+    pub(super) fn unshelve_apart(&mut self, blocks: &mut Blocks, queue: u8, head: BlockNo) -> Token
+        requires queue { queue < length self.old.state.specs }
+        requires in_order { AreInOrder self.old blocks.old }
+        requires there { IsTrue (is_on blocks.old queue head) }
+        ensures takes { Takes itself (Ok (head, model.unshelve queue head blocks.old))
+            blocks.old blocks.new (Ok result) }
+        ensures state { self.new.state ≡ self.old.state }
+        ensures in_order { AreInOrder self.new blocks.new }
+    {
+        self.unshelve(blocks, queue, head)
+    }
+
     // Does what `unshelve` does, for the message after `ahead`, or the first one.
     #[inline(always)]
     fn unshelve_behind(

@@ -77,8 +77,8 @@ onward-at-requires-in-loop-message-clause-at c x some =
 pub takes-requires : goal.takes-requires
 takes-requires c = shelf_of-there c.loop-message.blocks c.args.queue c.in-Some.head (there (goal.at.takes-requires c).After-reads_alike)
 
-pub unshelve-token-requires-clause-there : goal.unshelve-token-requires-clause-there
-unshelve-token-requires-clause-there c = there (goal.at.unshelve-token-requires-clause-there c).After-reads_alike
+pub unshelve_apart-token-requires-clause-there : goal.unshelve_apart-token-requires-clause-there
+unshelve_apart-token-requires-clause-there c = there (goal.at.unshelve_apart-token-requires-clause-there c).After-reads_alike
 
 -- `takes` says whether it is picked
 asked : (c : After-takes) → c.takes.result ≡ picked c.before.before.before (one c.before.before.before).at
@@ -106,15 +106,15 @@ loop-message-preserved c =
         flushing_freed (picked at) (taken at) c.args.blocks.now c.args.queue (within at) c.loop-message._message c.loop-message.at c.loop-message.blocks (so_far at) c.in-Some.head c.in-Some.is (c.reads_alike.ensures.apart c.args.queue)
             c.onward-at-in-loop-message.result (rest at) (passed at) (gone_on end) (is ∙ w.if-takes.true) c.if-takes.blocks
             (record {
-              taken = w.unshelve-token.new.blocks;
-              token = w.unshelve-token.result;
-              takes = w.unshelve-token.ensures.takes;
+              taken = w.unshelve_apart-token.new.blocks;
+              token = w.unshelve_apart-token.result;
+              takes = w.unshelve_apart-token.ensures.takes;
               spent_is = w.blocks-is ∙ w.freemsg.ensures.after;
             }),
-        ap (λ (v : QueuesValue). v.state) w.self-is ∙ w.unshelve-token.ensures.state ∙ c.loop-message.invariant.1,
+        ap (λ (v : QueuesValue). v.state) w.self-is ∙ w.unshelve_apart-token.ensures.state ∙ c.loop-message.invariant.1,
         subst (λ v. AreInOrder v c.if-takes.blocks) (sym w.self-is)
-            (subst (AreInOrder w.unshelve-token.new.self) (sym w.blocks-is)
-            (in_order_left w.unshelve-token.new.self w.unshelve-token.new.blocks w.freemsg.new.self w.freemsg.ensures.shelves.shelves w.freemsg.ensures.shelves.shelved_data w.unshelve-token.ensures.in_order)),
+            (subst (AreInOrder w.unshelve_apart-token.new.self) (sym w.blocks-is)
+            (in_order_left w.unshelve_apart-token.new.self w.unshelve_apart-token.new.blocks w.freemsg.new.self w.freemsg.ensures.shelves.shelves w.freemsg.ensures.shelves.shelved_data w.unshelve_apart-token.ensures.in_order)),
       )
       | else-takes w ↦ (
         subst (λ b. IsFlushing (picked at) (taken at) c.args.blocks.now c.args.queue (c.loop-message._message + 1) c.onward-at-in-loop-message.result b) (sym w.blocks-is)
