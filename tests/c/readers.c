@@ -1,7 +1,7 @@
 /*
  * Looks in several threads at once. First the handle and all memory of the pool are read-only, so that a look that writes there ends the
  * program by SIGSEGV. Then a thread changes the pool under the write lock of a pthread_rwlock_t, while others look under its read lock: each
- * look answers as it does alone. The linker puts the three functions below in place of malloc, realloc and free. The last line is as in each.c.
+ * look answers as it does alone. At last the pool is closed. The linker puts the three functions below in place of malloc, realloc and free. The last line is as in each.c.
  */
 #ifndef _GNU_SOURCE
 #define _GNU_SOURCE
@@ -61,7 +61,7 @@ struct sight {
 	int codes[CODES];
 	int count;
 	int open;
-	uint32_t yes[3], numbers[5];
+	uint32_t yes[3], numbers[6];
 	size_t lengths[6];
 	char copied[8], queued_bytes[8], in_place[8];
 	const uint8_t *bytes;
@@ -140,8 +140,8 @@ static struct sight seen_of_queues(const struct strm_pool *pool, struct sight s)
 	SEE(strm_queue_info(pool, QUEUES, &s.queue_info));
 	SEE(strm_band_info(pool, FIRST, 0, &s.band));
 	SEE(strm_band_info(pool, QUEUES, 0, &s.band));
-	SEE(strm_run_at(pool, 0, &s.numbers[4]));
-	SEE(strm_run_at(pool, 9, &s.numbers[4]));
+	SEE(strm_run_at(pool, 0, &s.numbers[5]));
+	SEE(strm_run_at(pool, 9, &s.numbers[5]));
 	return s;
 }
 
@@ -269,6 +269,8 @@ int main(void)
 	ANSWERS(mprotect(pages, ROOM, PROT_READ | PROT_WRITE), 0);
 	look_together(CHANGES);
 	ANSWERS(strm_close(shared.pool), STRM_OK);
+	look_together(0);
+	CHECK(shared.sight.open == 0 && codes_are(0, 0, 45));
 	pthread_rwlock_destroy(&shared.lock);
 	munmap(pages, ROOM);
 	return summary();

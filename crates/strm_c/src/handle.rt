@@ -6,8 +6,8 @@ ghost use Rattle.strm_c.specs.Holding.{is_open};
 
 use crate::parts::Parts;
 use crate::pointer::PoolPointer;
+use crate::sendable::Sendable;
 use std::alloc::Global;
-use std::marker::Send;
 use std::mem::replace;
 use strm_named::NamedPool;
 
@@ -21,9 +21,11 @@ pub(crate) const OPEN: usize = 0x5354_524D;
 pub struct StrmPool {
     /// Owns the pool if the handle is open, otherwise nothing.
     pub at: PoolPointer,
-    state: usize,
+    pub(crate) state: usize,
     ghost opened: { is_open state ≡ is_some at.named },
 }
+
+impl Sendable for StrmPool {}
 
 impl StrmPool {
     ghost use Rattle.strm_c.specs.Lending.{LendsFromHandle};
@@ -50,13 +52,6 @@ impl StrmPool {
         }
     }
 
-    /// Law: a handle can go to another thread. Returns it.
-    pub fn can_be_sent(self) -> StrmPool
-        ensures { result ≡ self }
-    {
-        sendable(self)
-    }
-
     /// Takes the pool out and closes the handle, if it is open.
     pub fn take(&mut self, alloc: Global) -> Option<Box<NamedPool>>
         ensures taken { option_map (λ b. b.value) result ≡ self.old.at.named }
@@ -79,11 +74,4 @@ impl StrmPool {
             state: OPEN,
         };
     }
-}
-
-// A value that can go to another thread.
-pub(crate) fn sendable<T: Send>(value: T) -> T
-    ensures { result ≡ value }
-{
-    value
 }

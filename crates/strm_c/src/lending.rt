@@ -1,12 +1,19 @@
 //! Laws: the pool of a handle can be lent to readers, and comes back. strm.c does this by copies of words, which runs none of
 //! these functions.
-ghost use Rattle.std.specs.Prelude.{◌≡◌, ℕ, Some, IsSome};
+ghost use Rattle.std.specs.Prelude.{◌≡◌, ℕ, Some, IsSome, Ok};
 ghost use base.Fraction.{Frac, full_share, left, right};
+ghost use Rattle.strm_mblk.specs.Arena.{census_of};
 ghost use Rattle.strm_named.specs.declared.named_pool.NamedPool.{NamedPool};
+ghost use Rattle.strm_c.specs.Exports.{Asks};
+ghost use Rattle.strm_c.specs.InC.{census_in_c};
 ghost use Rattle.strm_c.specs.Rights.{coded_one, lender_owns};
 ghost use Rattle.strm_c.specs.Viewing.{with_share};
 
+use crate::handle::StrmPool;
+use crate::layout::StrmCensus;
 use crate::pointer::PoolPointer;
+use crate::reader::StrmReader;
+use crate::telling::strm_c_census;
 use crate::view_pointer::ViewPointer;
 use std::marker::Model;
 
@@ -27,13 +34,14 @@ impl Model for Lender {
 pub fn lend(pool: PoolPointer) -> (ViewPointer, Lender)
     requires { IsSome pool.named }
     ensures { (result.0.named ≡ pool.named) × (Some result.1.named ≡ pool.named) × (result.0.life ≡ result.1.life)
-        × (result.0.share ≡ full_share) }
+        × (result.0.share ≡ full_share) × (result.0.raw ≡ pool.raw) × (result.1.raw ≡ pool.raw) }
 {
     let PoolPointer { raw } = pool;
     (ViewPointer { raw }, Lender { raw })
 }
 
-/// Law: the right to read can be split, so that two readers have it at the same time, and so on.
+/// Law: the right to read can be split, so that two readers have it at the same time, and so on. Both have half of it, and the
+/// same address; nobody can copy either.
 pub fn split(reader: ViewPointer) -> (ViewPointer, ViewPointer)
     requires { IsSome reader.named }
     ensures { (result.0 ≡ with_share reader (left reader.share)) × (result.1 ≡ with_share reader (right reader.share)) }
@@ -56,9 +64,39 @@ pub fn join(reader: ViewPointer, other: ViewPointer) -> ViewPointer
 /// Law: once a reader has the whole right to read again, the pool comes back as it was.
 pub fn end(lender: Lender, reader: ViewPointer) -> PoolPointer
     requires { IsSome reader.named × (reader.life ≡ lender.life) × (reader.share ≡ full_share) }
-    ensures { result.named ≡ Some lender.named }
+    ensures { (result.named ≡ Some lender.named) × (result.raw ≡ lender.raw) }
 {
     let Lender { raw } = lender;
     let ViewPointer { raw: _ } = reader;
     PoolPointer { raw }
+}
+
+/// Law: while two readers have the pool of a handle, each look answers as if there was no other reader. Then the handle has the
+/// same pool at the same address. Returns the handle, and the codes of both looks.
+pub fn look_together(
+    handle: StrmPool,
+    first: &mut StrmCensus,
+    second: &mut StrmCensus,
+) -> (StrmPool, i32, i32)
+    requires { IsSome handle.at.named }
+    ensures back { result.0.at ≡ handle.at }
+    ensures first { Asks (λ v. Ok (census_in_c (census_of v.pool.arena)))
+        handle.at.named handle.at.named result.1 first.old first.new }
+    ensures second { Asks (λ v. Ok (census_in_c (census_of v.pool.arena)))
+        handle.at.named handle.at.named result.2 second.old second.new }
+{
+    let StrmPool { at, state } = handle;
+    let (reader, lender) = lend(at);
+    let (at, other) = split(reader);
+    let mut one = StrmReader { at, state };
+    let mut two = StrmReader { at: other, state };
+    let code = strm_c_census(&mut one, first);
+    let other_code = strm_c_census(&mut two, second);
+    let StrmReader { at, state: _ } = one;
+    let StrmReader {
+        at: other,
+        state: _,
+    } = two;
+    let at = end(lender, join(at, other));
+    (StrmPool { at, state }, code, other_code)
 }

@@ -4,7 +4,8 @@ ghost use Rattle.std.specs.Borrow.{sem};
 ghost use Rattle.std.specs.Option.{option_copied_mut};
 ghost use Rattle.strm_c.specs.Holding.{is_open};
 
-use crate::handle::{OPEN, sendable};
+use crate::handle::OPEN;
+use crate::sendable::Sendable;
 use crate::view::PoolView;
 use crate::view_pointer::ViewPointer;
 
@@ -15,9 +16,11 @@ use crate::view_pointer::ViewPointer;
 pub struct StrmReader {
     /// May read the pool if the handle is open, otherwise nothing.
     pub at: ViewPointer,
-    state: usize,
+    pub(crate) state: usize,
     ghost opened: { is_open state ≡ is_some at.named },
 }
+
+impl Sendable for StrmReader {}
 
 impl StrmReader {
     ghost use Rattle.strm_c.specs.Viewing.{IsViewOf, LendsFromReader};
@@ -32,12 +35,5 @@ impl StrmReader {
         } else {
             None
         }
-    }
-
-    /// Law: a reader can go to another thread. Returns it.
-    pub fn can_be_sent(self) -> StrmReader
-        ensures { result ≡ self }
-    {
-        sendable(self)
     }
 }

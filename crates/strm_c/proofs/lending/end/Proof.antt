@@ -54,6 +54,6 @@ end_spec 𝓤 𝓛 𝓜 𝓡 wired =
     use0 𝓛 (‵ (pointer_own l.raw (pointer_val l.raw ∷ []))) (pointer_made 𝓛 l.raw) $ fjoin ! $
     use1 𝓛 (‵ (Pointer.own_val pool (pointer_val l.raw ∷ []))) (id⊢ 𝓤 _) $
     rewrite ! 0 (λ (p : Ptr). ‵ (Pointer.own_val pool (pointer_val p ∷ []))) e refl $
-    use0 𝓛 (raw (fact 𝓤 (Some l.named ≡ Some l.named))) (fact_i 𝓤 _ (emp 𝓤) refl) $
+    use0 𝓛 (raw (fact 𝓤 ((Some l.named ≡ Some l.named) × (l.raw ≡ l.raw)))) (fact_i 𝓤 _ (emp 𝓤) (refl, refl)) $
     nothing ! $ nothing ! $ nothing ! $ fjoin ! $ move ! (1 ∷ 0 ∷ []) $ fjoin ! $ keep ! (4 ∷ 0 ∷ 2 ∷ 1 ∷ []) $
     by ! (leaves 𝓛 ended stays c z word pool (tt, (tt, tt)) (tt, (tt, tt))))))))

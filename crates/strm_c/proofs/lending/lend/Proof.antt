@@ -71,6 +71,6 @@ lend_spec 𝓤 𝓛 𝓜 𝓡 wired =
     -- [the reader; the lender; nothing; the tokens]
     nothing ! $ move ! (2 ∷ 0 ∷ []) $ fjoin ! $ move ! (1 ∷ 0 ∷ []) $ fjoin ! $ feq_i ! (List Val) (both ∷ []) (both ∷ []) refl $ fjoin ! $
     fpack ! (Valss (Reader ∷ Lender ∷ [])) (within (shape (tuple_type (Reader ∷ Lender ∷ []))) (reader, (lender, tt)) (both ∷ [])) (word ∷ [], (word ∷ [], tt)) $
-    use0 𝓛 (raw (fact 𝓤 ((Some y ≡ x.named) × (Some y ≡ x.named) × (life ≡ life) × (full_share ≡ full_share)))) (fact_i 𝓤 _ (emp 𝓤) (sym there.1, sym there.1, refl, refl)) $
+    use0 𝓛 (raw (fact 𝓤 ((Some y ≡ x.named) × (Some y ≡ x.named) × (life ≡ life) × (full_share ≡ full_share) × (p ≡ x.raw) × (p ≡ x.raw)))) (fact_i 𝓤 _ (emp 𝓤) (sym there.1, sym there.1, refl, refl, sym e, sym e)) $
     nothing ! $ nothing ! $ fjoin ! $ keep ! (4 ∷ 0 ∷ 2 ∷ 1 ∷ []) $
     by ! (leaves 𝓛 ended stays c z both (reader, lender) (tt, tt) (tt, tt)))))))
