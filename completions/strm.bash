@@ -14,7 +14,7 @@ _strm() {
         # A number is for the user to say, so no file is offered.
         compopt +o default 2>/dev/null
     else
-        mapfile -t COMPREPLY < <(compgen -W '--serial --max --help' -- "$word")
+        mapfile -t COMPREPLY < <(compgen -W '--serial --max --help --version' -- "$word")
     fi
 }
 

@@ -41,7 +41,7 @@ INPUTS = [
     Input("input_too_long"),
     Input("help", reads=False),
     # An unknown word is compared with those that there are, whose letters are vectors too.
-    Input("unknown_option", reads=False, made_good=11),
+    Input("unknown_option", reads=False, made_good=15),
 ]
 
 

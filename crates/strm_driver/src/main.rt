@@ -29,7 +29,7 @@ fn failed(rt: &impl Eprint, fault: RunFault) -> ExitCode
     ExitCode::from(fault.status())
 }
 
-// Shows the help, or what is wrong with the command line.
+// Shows the help, the version, or what is wrong with the command line.
 fn answered(rt: &(impl Print + Eprint), error: &clap::Error) -> ExitCode {
     if error.kind() == ErrorKind::OutOfMemory {
         return failed(rt, RunFault::Memory);

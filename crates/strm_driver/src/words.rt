@@ -16,6 +16,9 @@ strm [OPTIONS] <SCRIPT
 
 The script comes from standard input: strm <mine.strm";
 
+// The version, as the file VERSION has it.
+const VERSION: &str = "0.1.0";
+
 // What the help says after the options.
 const AFTER_OPTIONS: &str = "\
 SCRIPT has these lines, in this order:
@@ -39,7 +42,7 @@ Example:
   wishes -
 
 Exit status:
-  0   done, or help was asked for
+  0   done, or help or the version was asked for
   1   reading or writing failed, or SCRIPT has more than N bytes
   2   SCRIPT has a fault; strm-check SCRIPT says where, and why
   3   out of memory, or of threads for workers
@@ -58,7 +61,7 @@ pub struct Options {
 }
 
 /// Returns the options of a command line, whose first word is the program's name. The error is a mistake in the words, a
-/// request for help, or out of memory.
+/// request for help or the version, or out of memory.
 pub fn options_of(alloc: Global, words: &[String]) -> Result<Options, Error>
     ensures { IfOk result (λ options. (1 ≤ options.max) × (options.max ≤ most_script_bytes)) }
 {
@@ -73,6 +76,7 @@ pub fn options_of(alloc: Global, words: &[String]) -> Result<Options, Error>
         .value_parser(value_parser!(u32).range(1..=i64::from(MOST_SCRIPT_BYTES)));
     let command = Command::new(alloc, "strm")
         .bin_name("strm")?
+        .version(VERSION)
         .about("Executes a script of STREAMS calls from standard input, and prints each reply")
         .override_usage(USAGE_TEXT)
         .after_help(AFTER_OPTIONS)
