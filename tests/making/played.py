@@ -243,7 +243,7 @@ SHOWN = {
         "shape: putq Q R: 3 words, here 2\n"
         "shape: census: 1 word, here 2\n"
         "number: Q is a queue, 0 to 255; here it is q\n"
-        "number: Q is a queue, 0 to 255; here it is 300; the greatest number here is 255\n"
+        "number: Q is a queue, 0 to 255; here it is 300\n"
         "register: R is a register, a to z; here it is A; a register is a small letter: write a\n"
         "hex: HEX is two digits, 0 to 9 or a to f, for each of 1 to 64 bytes, or - for none; here it is 6G; 'G', at place 2 of the word, is no digit\n"
         "word: TYPE is a type, such as M_DATA, or M_PCPROTO of high priority; here it is DATA; the type's name is M_DATA\n"

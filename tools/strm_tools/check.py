@@ -11,7 +11,7 @@ from strm_tools.limits import SCRIPT_BYTES
 from strm_tools.refused import refusals
 from strm_tools.script import TOO_LONG
 from strm_tools.shown import shown
-from strm_tools.words import MEANINGS, PLACES, WORDS, allowed, misplaced, whole_form, wrong_count
+from strm_tools.words import MEANINGS, PLACES, WORDS, allowed, counted, misplaced, whole_form, wrong_count
 
 # How many bytes of a script strm reads if `--max` does not say otherwise.
 BYTES_BY_DEFAULT = 1_048_576
@@ -157,13 +157,17 @@ class Checked:
         self.every = every
         self.reading = Reading()
         self.is_right = True
+        # The faults that were not asked for.
+        self.rest = iter(())
 
     def faults(self):
         """Each fault, with the notes on its causes."""
-        for found in self.all_faults():
+        faults = self.all_faults()
+        for found in faults:
             self.is_right = False
             yield from found
             if not self.every:
+                self.rest = faults
                 return
 
     def all_faults(self):
@@ -173,8 +177,11 @@ class Checked:
             yield of_config(fault)
 
     def notes(self):
-        """Notes that belong to no fault: on labels, unless there is a fault of which only the first was asked for, and on commands, if there
-        is none."""
+        """Notes that belong to no fault: how many faults there are beyond the first, if only this was asked for; or else on labels, and on
+        commands, if there is no fault."""
+        more = sum(1 for _ in self.rest)
+        if more:
+            yield Finding(0, "note", f"--all reports {counted(more, 'more fault')}")
         if self.is_right or self.every:
             yield from of_labels(self.script, self.reading.queues())
         if self.is_right:

@@ -6,7 +6,7 @@ import unicodedata
 from typing import NamedTuple
 
 from strm_tools.beside import beside
-from strm_tools.faults import AFTER, BYTE_ORDER_MARK, FITS, FORMS, GREATEST, MOST, STAGE, bare_of, has_form, line_kind, misfit
+from strm_tools.faults import AFTER, BYTE_ORDER_MARK, FITS, FORMS, MOST, STAGE, bare_of, has_form, line_kind, misfit
 from strm_tools.model import HIGH_PRIORITY, ORDINARY
 from strm_tools.shown import CARRIAGE_RETURN, octets, shown
 from strm_tools.streams import ADVICE_ON_TYPES, FLUSHES, NO_TYPE, hint_for
@@ -243,13 +243,8 @@ def number(faulty):
             yield "a number has no +"
         elif sign == "-" and (value == "0" or not signed):
             yield "0 has no sign" if value == "0" else "a negative number can't be here"
-        is_long = len(value) > 10
         if digits != value:
-            yield "a number has no leading zeros" + ("" if is_long else f": write {sign if signed and value != '0' else ''}{value}")
-        if signed and (is_long or int(value) > 2**31):
-            yield "the least number here is -2147483648"
-        elif sign != "-" and (is_long or int(value) > GREATEST[item]):
-            yield f"the greatest number here is {GREATEST[item]}"
+            yield "a number has no leading zeros" + ("" if len(value) > 10 else f": write {sign if signed and value != '0' else ''}{value}")
     elif re.fullmatch("0[xX][0-9a-fA-F]{1,8}", word):
         yield f"a number is decimal: write {int(word, 16)}"
     elif re.fullmatch("[0-9]{1,3}([,._'][0-9]{3}){1,3}", word):
