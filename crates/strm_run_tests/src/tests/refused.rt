@@ -1,4 +1,5 @@
-//! Makes each call of the libraries that allocates, and `run`, and makes it again if memory or a thread is refused.
+//! Makes each call of the libraries that allocates, `run`, and `serve_all`, which must not allocate. Makes a call again if memory
+//! or a thread is refused.
 //! tests/faults/calls refuses each growth and each thread in turn; without refusals these tests pass too.
 ghost use Rattle.std.specs.Prelude.{◌≡◌};
 ghost use Rattle.strm_mblk.specs.Arena.{census_of};
@@ -10,12 +11,12 @@ use std::sync::Wait;
 use std::thread::Threads;
 use strm_data::Data;
 use strm_links::{Links, Stacks, Strands};
-use strm_pool::{Blocks, ClassSpec, Config, NewFault, Pool, QueueSpec, Queues};
+use strm_pool::{Blocks, ClassSpec, Config, NewFault, Pool, QueueSpec, Queues, Reply};
 use strm_run::{Mode, RunFault, Watched, run};
 use strm_script::{ParseFault, Script, parse, reply_text, report_text};
 use strm_shared::{
-    BareOutcome, Brand, Desks, End, Ends, Entry, Gathered, Name, OpenGate, Outcome, Parts, Setup,
-    Shared, Start, Trace, run_workers, run_workers_without_replies,
+    BareOutcome, Brand, Desks, End, Ends, Entry, Gathered, Line, Name, OpenGate, Outcome, Parts,
+    Setup, Shared, Start, Trace, run_workers, run_workers_without_replies,
 };
 
 // Two sections, of which the second has no lines: so the text is the same in every order. The text grows within the reply to
@@ -256,6 +257,26 @@ fn text_of(rt: &(impl Abort + Print), alloc: Global, pool: &Pool, entries: &[Ent
     text
 }
 
+// Ends the sharing, and compares the text of the trace.
+fn assert_text<N: Name>(
+    rt: &(impl Abort + Print + Wait),
+    alloc: Global,
+    shared: Shared<N>,
+    desks: Desks<N>,
+    wanted: &[u8],
+) {
+    match shared.gather(desks) {
+        Ok(Gathered { pool, trace, desks }) => {
+            desks.forget();
+            assert!(rt; text_of(rt, alloc, &pool, trace.items()).as_slice() == wanted);
+        }
+        Err((_, _, desks)) => {
+            desks.forget();
+            panic!(rt; "a desk is missing")
+        }
+    }
+}
+
 // Runs workers on the sections, with or without replies, and compares the text of their trace.
 fn serve<N: Name + Send + Sync, R: Abort + Print + Threads + Wait + Sync>(
     rt: &R,
@@ -272,17 +293,7 @@ fn serve<N: Name + Send + Sync, R: Abort + Print + Threads + Wait + Sync>(
     } else {
         worked_without_replies(rt, alloc, &shared, desks, parts)
     };
-    let wanted = text_behind(rt, ends.items());
-    match shared.gather(desks) {
-        Ok(Gathered { pool, trace, desks }) => {
-            desks.forget();
-            assert!(rt; text_of(rt, alloc, &pool, trace.items()).as_slice() == wanted);
-        }
-        Err((_, _, desks)) => {
-            desks.forget();
-            panic!(rt; "a desk is missing")
-        }
-    }
+    assert_text(rt, alloc, shared, desks, text_behind(rt, ends.items()));
 }
 
 #[test]
@@ -297,6 +308,50 @@ fn a_script_whose_replies_nobody_gets(rt: HostRuntime) {
     let start = start(&rt, rt.alloc());
     let Script { config: _, parts } = script(&rt, rt.alloc());
     serve::<Brand, _>(&rt, rt.alloc(), start, &parts, false);
+}
+
+// Serves lines at once on the first desk. This takes no memory, so no refusal of it is told.
+fn serve_at_once<N: Name>(
+    rt: &(impl Abort + Wait),
+    shared: &Shared<N>,
+    desks: &mut Desks<N>,
+    lines: &[Line],
+    replies: &mut [Reply],
+) {
+    assert!(rt; !desks.is_empty() && lines.len() == replies.len());
+    let served = shared.serve_all(rt, desks.desk_mut(0), lines, replies);
+    assert!(rt; served == Ok(()));
+}
+
+// Serves the first section at once, and compares the text of its trace.
+fn serve_first<N: Name>(
+    rt: &(impl Abort + Print + Wait),
+    alloc: Global,
+    start: Start,
+    parts: &Parts,
+)
+    requires { IsNameOf N.Name start }
+{
+    let (shared, mut desks) = start.open::<N>();
+    let mut replies = [Reply::Nothing, Reply::Nothing, Reply::Nothing];
+    match parts.items() {
+        [lines, ..] => serve_at_once(
+            rt,
+            &shared,
+            &mut desks,
+            lines.items(),
+            replies.as_mut_slice(),
+        ),
+        [] => panic!(rt; "no section"),
+    }
+    assert_text(rt, alloc, shared, desks, TEXT);
+}
+
+#[test]
+fn a_section_that_is_served_at_once(rt: HostRuntime) {
+    let start = start(&rt, rt.alloc());
+    let Script { config: _, parts } = script(&rt, rt.alloc());
+    serve_first::<Brand>(&rt, rt.alloc(), start, &parts);
 }
 
 // Runs the script once.
