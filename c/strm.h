@@ -130,9 +130,10 @@
  *     pools may be used at the same time.
  *   - Nothing is written through a pointer that strm_bytes or strm_iov returns. Nothing is read
  *     through it from the beginning of the next call with that pool that is no look; a look leaves
- *     it good. So a thread keeps its lock until it has read there; a read lock is enough. The
- *     pointer is passed to no call with the same pool, such as strm_write: copy the bytes by
- *     strm_read first. A call with another pool may get it.
+ *     it good. So a thread that shares the pool holds its lock from before the call until it has
+ *     read there, without a gap; a read lock is enough. The pointer is passed to no call with the
+ *     same pool, such as strm_write: copy the bytes by strm_read first. A call with another pool
+ *     may get it.
  *   - No call is made from a signal handler. An interrupt handler makes calls only while no other
  *     call runs.
  *   - Calls use SSE registers. Code that may not, as in most kernels, saves these before a call and

@@ -6,7 +6,6 @@ ghost use Rattle.strm_c.specs.Holding.{is_open};
 
 use crate::parts::Parts;
 use crate::pointer::PoolPointer;
-use crate::sendable::Sendable;
 use std::alloc::Global;
 use std::mem::replace;
 use strm_named::NamedPool;
@@ -24,8 +23,6 @@ pub struct StrmPool {
     pub(crate) state: usize,
     ghost opened: { is_open state ≡ is_some at.named },
 }
-
-impl Sendable for StrmPool {}
 
 impl StrmPool {
     ghost use Rattle.strm_c.specs.Lending.{LendsFromHandle};

@@ -71,9 +71,42 @@ pub fn end(lender: Lender, reader: ViewPointer) -> PoolPointer
     PoolPointer { raw }
 }
 
-/// Law: while two readers have the pool of a handle, each look answers as if there was no other reader. Then the handle has the
-/// same pool at the same address. Returns the handle, and the codes of both looks.
-pub fn look_together(
+/// Law: the pool of an open handle can be lent to two readers at the same time. They have halves of the right to read it.
+pub fn lend_to_two(handle: StrmPool) -> (StrmReader, StrmReader, Lender)
+    requires { IsSome handle.at.named }
+    ensures one { (result.0.at.raw ≡ handle.at.raw) × (result.0.at.named ≡ handle.at.named) × (result.0.at.life ≡ result.2.life)
+        × (result.0.at.share ≡ left full_share) }
+    ensures other { result.1.at ≡ with_share result.0.at (right full_share) }
+    ensures lender { (result.2.raw ≡ handle.at.raw) × (Some result.2.named ≡ handle.at.named) }
+{
+    let StrmPool { at, state } = handle;
+    let (reader, lender) = lend(at);
+    let (at, other) = split(reader);
+    (
+        StrmReader { at, state },
+        StrmReader { at: other, state },
+        lender,
+    )
+}
+
+/// Law: once both readers are given back, so is the handle.
+pub fn take_back(lender: Lender, one: StrmReader, other: StrmReader) -> StrmPool
+    requires one { IsSome one.at.named × (one.at.life ≡ lender.life) × (one.at.share ≡ left full_share) }
+    requires other { other.at ≡ with_share one.at (right full_share) }
+    ensures { (result.at.raw ≡ lender.raw) × (result.at.named ≡ Some lender.named) }
+{
+    let StrmReader { at, state } = one;
+    let StrmReader {
+        at: other,
+        state: _,
+    } = other;
+    let at = end(lender, join(at, other));
+    StrmPool { at, state }
+}
+
+/// Law: looks of two readers answer as if there was no other reader, and leave the readers as they were. So both can be given
+/// back, and the handle has the same pool at the same address. Returns it, and the codes of both looks.
+pub fn look_by_two(
     handle: StrmPool,
     first: &mut StrmCensus,
     second: &mut StrmCensus,
@@ -85,18 +118,8 @@ pub fn look_together(
     ensures second { Asks (λ v. Ok (census_in_c (census_of v.pool.arena)))
         handle.at.named handle.at.named result.2 second.old second.new }
 {
-    let StrmPool { at, state } = handle;
-    let (reader, lender) = lend(at);
-    let (at, other) = split(reader);
-    let mut one = StrmReader { at, state };
-    let mut two = StrmReader { at: other, state };
+    let (mut one, mut other, lender) = lend_to_two(handle);
     let code = strm_c_census(&mut one, first);
-    let other_code = strm_c_census(&mut two, second);
-    let StrmReader { at, state: _ } = one;
-    let StrmReader {
-        at: other,
-        state: _,
-    } = two;
-    let at = end(lender, join(at, other));
-    (StrmPool { at, state }, code, other_code)
+    let other_code = strm_c_census(&mut other, second);
+    (take_back(lender, one, other), code, other_code)
 }

@@ -26,7 +26,7 @@ mod parts;
 mod pointer;
 mod queues;
 mod reader;
-mod sendable;
+mod sending;
 mod several;
 mod telling;
 mod texts;
@@ -41,10 +41,10 @@ pub use layout::{
     StrmBandInfo, StrmBlockInfo, StrmBlockPlace, StrmCensus, StrmClassInfo, StrmClassSpec, StrmIov,
     StrmMarks, StrmQueueInfo, StrmQueueSpec, StrmQueued, StrmWish,
 };
-pub use lending::{Lender, end, join, lend, look_together, split};
+pub use lending::{Lender, end, join, lend, lend_to_two, look_by_two, split, take_back};
 pub use parts::Parts;
 pub use pointer::PoolPointer;
 pub use reader::StrmReader;
-pub use sendable::Sendable;
+pub use sending::can_be_sent;
 pub use view::PoolView;
 pub use view_pointer::ViewPointer;

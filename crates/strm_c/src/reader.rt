@@ -5,7 +5,6 @@ ghost use Rattle.std.specs.Option.{option_copied_mut};
 ghost use Rattle.strm_c.specs.Holding.{is_open};
 
 use crate::handle::OPEN;
-use crate::sendable::Sendable;
 use crate::view::PoolView;
 use crate::view_pointer::ViewPointer;
 
@@ -19,8 +18,6 @@ pub struct StrmReader {
     pub(crate) state: usize,
     ghost opened: { is_open state ≡ is_some at.named },
 }
-
-impl Sendable for StrmReader {}
 
 impl StrmReader {
     ghost use Rattle.strm_c.specs.Viewing.{IsViewOf, LendsFromReader};
