@@ -310,7 +310,7 @@ fn a_script_whose_replies_nobody_gets(rt: HostRuntime) {
     serve::<Brand, _>(&rt, rt.alloc(), start, &parts, false);
 }
 
-// Serves lines at once on the first desk. This takes no memory, so no refusal of it is told.
+// Serves lines at once on the first desk. This takes no memory, so it reports no refusal.
 fn serve_at_once<N: Name>(
     rt: &(impl Abort + Wait),
     shared: &Shared<N>,
