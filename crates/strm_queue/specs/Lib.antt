@@ -10,4 +10,5 @@ pub mod Tallies
 pub mod QueuedBlocks
 pub mod QueueCalls
 pub mod QueueLooks
+pub mod Joining
 pub mod QueuesLayout

@@ -3,14 +3,14 @@ ghost use Rattle.std.specs.Prelude.{◌≡◌, ◌<◌, ℕ, true, List, ◌∷�
 ghost use Rattle.std.specs.Option.{ForSome};
 ghost use Rattle.strm_data.specs.MsgType.{is_high_priority};
 ghost use Rattle.strm_links.specs.Rows as rows;
-ghost use Rattle.strm_mblk.specs.Arena.{has, message_at, shelf_at};
+ghost use Rattle.strm_mblk.specs.Arena.{has, shelf_at};
 ghost use Rattle.strm_mblk.specs.Block.{Message, head_of};
-ghost use Rattle.strm_mblk.specs.BlockCalls.{with_band};
 ghost use Rattle.strm_mblk.specs.Messages.{put_before_head};
 ghost use Rattle.strm_mblk.specs.Shelves.{heads_at, shelf_of, is_on};
+ghost use Rattle.strm_queue.specs.Joining.{IsRank};
 ghost use Rattle.strm_queue.specs.Limits.{high_rank, ranks};
 ghost use Rattle.strm_queue.specs.QueuedBlocks.{AreInOrder};
-ghost use Rattle.strm_queue.specs.Rank.{as_queued, is_ordered, put_ahead, put_behind, rank_of};
+ghost use Rattle.strm_queue.specs.Rank.{is_ordered, put_ahead, put_behind, rank_of};
 
 use super::Queues;
 use crate::limits::HIGH_RANK;
@@ -34,10 +34,7 @@ fn rank(kind: MsgType, band: u8) -> u16
 // The rank of a held message, by its first block.
 pub(super) fn held_rank(blocks: &Blocks, token: &Token) -> u16
     requires { IsTrue (has blocks.now token.now) }
-    ensures value { result ≡ rank_of blocks.now.store (message_at blocks.now token.now.head) }
-    ensures few { result < ranks }
-    ensures high { let m = message_at blocks.now token.now.head in result ≡ high_rank
-        → as_queued blocks.now.store m ≡ with_band 0 m }
+    ensures { IsRank blocks.now token.now result }
 {
     match blocks.block(token, 0) {
         Ok(first) => rank(first.kind, first.band),

@@ -1,18 +1,15 @@
 //! `putq`, `putbq` and `insq`: held messages join a queue.
-ghost use Rattle.std.specs.Prelude.{◌≡◌, ◌<◌, [], ◌∷◌, IsTrue, None, length};
+ghost use Rattle.std.specs.Prelude.{Ok, ◌<◌, IsTrue, length};
 ghost use Rattle.std.specs.Option.{ForSome};
-ghost use Rattle.strm_mblk.specs.Arena.{has, held_at, message_at, shelf_at};
-ghost use Rattle.strm_mblk.specs.Block.{head_of};
-ghost use Rattle.strm_mblk.specs.BlockCalls.{with_band};
-ghost use Rattle.strm_mblk.specs.Frame.{LeavesOthers};
-ghost use Rattle.strm_mblk.specs.Messages.{put_before_head};
+ghost use Rattle.strm_mblk.specs.Arena.{has};
+ghost use Rattle.strm_mblk.specs.Given.{given_nothing};
 ghost use Rattle.strm_mblk.specs.Shelves.{is_on};
 ghost use Rattle.strm_mblk.specs.Calls.{Puts};
 ghost use Rattle.strm_queue.specs.Flow.{enabled_where};
-ghost use Rattle.strm_queue.specs.Limits.{high_rank, ranks};
+ghost use Rattle.strm_queue.specs.Joining.{IsRank, shelf_with};
 ghost use Rattle.strm_queue.specs.QueueCalls as model;
 ghost use Rattle.strm_queue.specs.QueuedBlocks.{Agrees, queued_blocks, arena};
-ghost use Rattle.strm_queue.specs.Rank.{as_queued, is_ordered, rank_of};
+ghost use Rattle.strm_queue.specs.Rank.{is_ordered, rank_of};
 
 use super::Queues;
 use super::places::{fits_before, head_at, held_rank};
@@ -34,23 +31,21 @@ impl Queues {
         requires queue { queue < length self.old.state.specs }
         requires agrees { Agrees self.old blocks.old }
         requires had { IsTrue (has blocks.old token) }
-        requires rank { rank ≡ rank_of blocks.old.store (message_at blocks.old token.head) }
-        requires few { rank < ranks }
-        requires high { let m = message_at blocks.old token.head in rank ≡ high_rank
-            → as_queued blocks.old.store m ≡ with_band 0 m }
+        requires rank { IsRank blocks.old token rank }
         requires before { ForSome before (λ head. IsTrue (is_on blocks.old queue head)) }
-        requires ordered { let m = as_queued blocks.old.store (message_at blocks.old token.head) in
-            IsTrue (is_ordered (rank_of blocks.old.store) (put_before_head head_of before m
-            (shelf_at blocks.old queue))) }
-        ensures after { let m = as_queued blocks.old.store (message_at blocks.old token.head) in
-            queued_blocks self.new blocks.new ≡ model.with_state (enabled_where enables queue)
-            (model.with_put queue token.head (put_before_head head_of before m (shelf_at blocks.old queue))
-            (queued_blocks self.old blocks.old)) }
-        ensures gone { held_at blocks.new token.head ≡ None }
-        ensures others { LeavesOthers (token.head ∷ []) blocks.old blocks.new }
+        requires ordered { IsTrue (is_ordered (rank_of blocks.old.store)
+            (shelf_with blocks.old queue before token.head)) }
+        ensures puts { Puts arena token (given_nothing (model.with_state (enabled_where enables queue)
+            (model.with_put queue token.head (shelf_with blocks.old queue before token.head)
+            (queued_blocks self.old blocks.old)))) (queued_blocks self.old blocks.old)
+            (queued_blocks self.new blocks.new) (Ok tt) }
         ensures agrees { Agrees self.new blocks.new }
     {
-        self.shelve(blocks, queue, before, rank, token);
+        // Most messages go last. Each call is inlined, and the first one is then shorter.
+        match before {
+            None => self.shelve(blocks, queue, None, rank, token),
+            Some(_) => self.shelve(blocks, queue, before, rank, token),
+        }
         self.enable_where(enables, queue);
     }
 

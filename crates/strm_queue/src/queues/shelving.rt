@@ -1,18 +1,15 @@
 //! Messages join and leave a queue's shelf, and what is stored of the queue stays true.
-ghost use Rattle.std.specs.Prelude.{Ok, ◌≡◌, ◌<◌, [], ◌∷◌, IsTrue, None, length};
+ghost use Rattle.std.specs.Prelude.{Ok, ◌≡◌, ◌<◌, IsTrue, length};
 ghost use Rattle.std.specs.Option.{ForSome};
 ghost use Rattle.strm_links.specs.Rows as rows;
-ghost use Rattle.strm_mblk.specs.Arena.{has, held_at, message_at, shelf_at, with_shelf, without_held};
-ghost use Rattle.strm_mblk.specs.Block.{head_of};
-ghost use Rattle.strm_mblk.specs.BlockCalls.{with_band};
-ghost use Rattle.strm_mblk.specs.Frame.{LeavesOthers};
-ghost use Rattle.strm_mblk.specs.Messages.{put_before_head};
+ghost use Rattle.strm_mblk.specs.Arena.{has, with_shelf, without_held};
+ghost use Rattle.strm_mblk.specs.Given.{given_nothing};
 ghost use Rattle.strm_mblk.specs.Shelves as model;
 ghost use Rattle.strm_mblk.specs.Shelves.{heads_at, is_on};
-ghost use Rattle.strm_mblk.specs.Calls.{Takes, itself};
-ghost use Rattle.strm_queue.specs.Limits.{high_rank, ranks};
+ghost use Rattle.strm_mblk.specs.Calls.{Puts, Takes, itself};
+ghost use Rattle.strm_queue.specs.Joining.{IsRank, shelf_with};
 ghost use Rattle.strm_queue.specs.QueuedBlocks.{AreInOrder};
-ghost use Rattle.strm_queue.specs.Rank.{as_queued, is_ordered, rank_of};
+ghost use Rattle.strm_queue.specs.Rank.{is_ordered, rank_of};
 
 use super::Queues;
 use super::places::{ahead_of, queued_rank};
@@ -35,55 +32,13 @@ impl Queues {
         requires queue { queue < length self.old.state.specs }
         requires in_order { AreInOrder self.old blocks.old }
         requires had { IsTrue (has blocks.old token) }
-        requires rank { rank ≡ rank_of blocks.old.store (message_at blocks.old token.head) }
-        requires few { rank < ranks }
-        requires high { let m = message_at blocks.old token.head in rank ≡ high_rank
-            → as_queued blocks.old.store m ≡ with_band 0 m }
+        requires rank { IsRank blocks.old token rank }
         requires before { ForSome before (λ head. IsTrue (is_on blocks.old queue head)) }
-        requires ordered { let m = as_queued blocks.old.store (message_at blocks.old token.head) in
-            IsTrue (is_ordered (rank_of blocks.old.store) (put_before_head head_of before m
-            (shelf_at blocks.old queue))) }
-        ensures after { blocks.new ≡ with_shelf queue (put_before_head head_of before
-            (as_queued blocks.old.store (message_at blocks.old token.head)) (shelf_at blocks.old queue))
-            (without_held token.head blocks.old) }
-        ensures gone { held_at blocks.new token.head ≡ None }
-        ensures others { LeavesOthers (token.head ∷ []) blocks.old blocks.new }
-        ensures state { self.new.state ≡ self.old.state }
-        ensures in_order { AreInOrder self.new blocks.new }
-    {
-        // Most messages go last. Each call is inlined, and the first one is then shorter.
-        match before {
-            None => self.shelve_at(blocks, queue, None, rank, token),
-            Some(_) => self.shelve_at(blocks, queue, before, rank, token),
-        }
-    }
-
-    // Does what `shelve` does.
-    #[inline(always)]
-    fn shelve_at(
-        &mut self,
-        blocks: &mut Blocks,
-        queue: u8,
-        before: Option<BlockNo>,
-        rank: u16,
-        token: Token,
-    )
-        requires queue { queue < length self.old.state.specs }
-        requires in_order { AreInOrder self.old blocks.old }
-        requires had { IsTrue (has blocks.old token) }
-        requires rank { rank ≡ rank_of blocks.old.store (message_at blocks.old token.head) }
-        requires few { rank < ranks }
-        requires high { let m = message_at blocks.old token.head in rank ≡ high_rank
-            → as_queued blocks.old.store m ≡ with_band 0 m }
-        requires before { ForSome before (λ head. IsTrue (is_on blocks.old queue head)) }
-        requires ordered { let m = as_queued blocks.old.store (message_at blocks.old token.head) in
-            IsTrue (is_ordered (rank_of blocks.old.store) (put_before_head head_of before m
-            (shelf_at blocks.old queue))) }
-        ensures after { blocks.new ≡ with_shelf queue (put_before_head head_of before
-            (as_queued blocks.old.store (message_at blocks.old token.head)) (shelf_at blocks.old queue))
-            (without_held token.head blocks.old) }
-        ensures gone { held_at blocks.new token.head ≡ None }
-        ensures others { LeavesOthers (token.head ∷ []) blocks.old blocks.new }
+        requires ordered { IsTrue (is_ordered (rank_of blocks.old.store)
+            (shelf_with blocks.old queue before token.head)) }
+        ensures puts { Puts itself token (given_nothing
+            (with_shelf queue (shelf_with blocks.old queue before token.head) (without_held token.head blocks.old)))
+            blocks.old blocks.new (Ok tt) }
         ensures state { self.new.state ≡ self.old.state }
         ensures in_order { AreInOrder self.new blocks.new }
     {

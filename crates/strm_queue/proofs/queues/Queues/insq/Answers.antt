@@ -39,13 +39,13 @@ returns-clause-does c =
     let here = (goal.at.returns-clause-does c).After-fits_before in
     record {
       after =
-          c.put.ensures.after
+          c.put.ensures.puts.after
           ∙ insq_after c.args.self.now c.args.blocks.now c.args.queue c.args.token.head (there here) c.args.place (few here) c.lawful.ensures.parted c.head_at-before.result
           c.head_at-before.ensures.value (sym (fits here) ∙ c.if-not-fits_before.false) c.enables_inserted-enables.result c.enables_inserted-enables.ensures;
       answer =
           sym (ap (λ g. or_rejected c.args.token (answer_of g))
           (insq_given c.args.self.now c.args.blocks.now c.args.queue c.args.token.head (there here) c.args.place (few here) c.lawful.ensures.parted c.head_at-before.result
           c.head_at-before.ensures.value (sym (fits here) ∙ c.if-not-fits_before.false)));
-      gone = c.put.ensures.gone;
-      others = c.put.ensures.others;
+      gone = c.put.ensures.puts.gone;
+      others = c.put.ensures.puts.others;
     }

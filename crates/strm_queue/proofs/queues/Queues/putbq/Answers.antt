@@ -29,10 +29,10 @@ returns-clause-does c =
     let here = (goal.at.returns-clause-does c).After-place_ahead-before in
     record {
       after =
-          c.put.ensures.after
+          c.put.ensures.puts.after
           ∙ putbq_after c.args.self.now c.args.blocks.now c.args.queue c.args.token.head (sym c.has_queue.ensures ∙ c.if-not-has_queue.false) c.enables_put_back-enables.result _
           (c.enables_put_back-enables.ensures ∙ ap (enables_put_back (flags_at c.args.self.now.state c.args.queue)) c.held_rank-rank.ensures.value) (place here);
       answer = grind (arith, common_steps);
-      gone = c.put.ensures.gone;
-      others = c.put.ensures.others;
+      gone = c.put.ensures.puts.gone;
+      others = c.put.ensures.puts.others;
     }
