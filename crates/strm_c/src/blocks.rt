@@ -155,7 +155,8 @@ pub extern "C" fn strm_c_has(pool: &mut StrmReader, msg: Name, yes: &mut u32) ->
 /// no message is held there.
 #[unsafe(no_mangle)]
 pub extern "C" fn strm_c_name_at(pool: &mut StrmReader, head: u32, msg: &mut Name) -> i32
-    ensures answer { Asks (λ v. any_or_nothing (name_at v head)) pool.old.at.named pool.new.at.named result msg.old msg.new }
+    ensures answer { Asks (λ v. any_or_nothing (name_at v head)) pool.old.at.named pool.new.at.named result
+        msg.old msg.new }
     ensures same { pool.new ≡ pool.old }
 {
     let Some(view) = pool.view() else {

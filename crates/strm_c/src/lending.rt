@@ -74,8 +74,8 @@ pub fn end(lender: Lender, reader: ViewPointer) -> PoolPointer
 /// Law: the pool of an open handle can be lent to two readers at the same time. They have halves of the right to read it.
 pub fn lend_to_two(handle: StrmPool) -> (StrmReader, StrmReader, Lender)
     requires { IsSome handle.at.named }
-    ensures one { (result.0.at.raw ≡ handle.at.raw) × (result.0.at.named ≡ handle.at.named) × (result.0.at.life ≡ result.2.life)
-        × (result.0.at.share ≡ left full_share) }
+    ensures one { (result.0.at.raw ≡ handle.at.raw) × (result.0.at.named ≡ handle.at.named)
+        × (result.0.at.life ≡ result.2.life) × (result.0.at.share ≡ left full_share) }
     ensures other { result.1.at ≡ with_share result.0.at (right full_share) }
     ensures lender { (result.2.raw ≡ handle.at.raw) × (Some result.2.named ≡ handle.at.named) }
 {

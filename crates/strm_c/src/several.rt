@@ -20,8 +20,8 @@ fn stopped(done: usize, code: Code) -> Result<usize, Code>
 // Makes messages, and stores their names in an array. Returns their number, or why the first is not made.
 fn allocb_each(named: &mut NamedPool, size: u32, msgs: &mut [Name]) -> Result<usize, Code>
     ensures makes { MakesEach (replicate (length msgs.old) (series.allocb size)) named.old named.new result }
-    ensures names { msgs.new ≡ array_with_stored (series_of (replicate (length msgs.old) (series.allocb size)) named.old)
-        msgs.old }
+    ensures names { msgs.new ≡ array_with_stored
+        (series_of (replicate (length msgs.old) (series.allocb size)) named.old) msgs.old }
 {
     for place in 0..msgs.len() {
         match coded(named.allocb(size)) {
@@ -61,7 +61,8 @@ fn putq_each(named: &mut NamedPool, number: u32, msgs: &[Name]) -> Result<usize,
 
 // Takes messages off a queue, and stores their names in an array. Returns their number, or why none is taken.
 fn getq_each(named: &mut NamedPool, number: u32, msgs: &mut [Name]) -> Result<usize, Code>
-    ensures makes { MakesEach (replicate (length msgs.old) (series.getq (capped_number number))) named.old named.new result }
+    ensures makes { MakesEach (replicate (length msgs.old) (series.getq (capped_number number)))
+        named.old named.new result }
     ensures names { msgs.new ≡ array_with_stored
         (series_of (replicate (length msgs.old) (series.getq (capped_number number))) named.old) msgs.old }
 {
@@ -85,7 +86,8 @@ pub extern "C" fn strm_c_allocb_n(
 ) -> i32
     ensures count { DoesEach (replicate (length msgs.old) (series.allocb size))
         pool.old.at.named pool.new.at.named result count.old count.new }
-    ensures names { msgs.new ≡ array_after (replicate (length msgs.old) (series.allocb size)) pool.old.at.named msgs.old }
+    ensures names { msgs.new ≡ array_after (replicate (length msgs.old) (series.allocb size))
+        pool.old.at.named msgs.old }
 {
     let Some(named) = pool.named_mut() else {
         return Code::NotOpen.number();

@@ -33,8 +33,8 @@ impl ViewPointer {
     pub(crate) fn view(&mut self) -> &mut PoolView
         requires { IsSome self.old.named }
         ensures* writes_back { sem 𝓛 (LendsFromViewPointer self.entry result) }
-        ensures value { (Some result.now.named ≡ self.old.named) × (result.now.at ≡ self.old.raw) × (result.now.life ≡ self.old.life)
-            × (result.now.share ≡ self.old.share) }
+        ensures value { (Some result.now.named ≡ self.old.named) × (result.now.at ≡ self.old.raw)
+            × (result.now.life ≡ self.old.life) × (result.now.share ≡ self.old.share) }
     {
         unsafe { &mut *(self as *mut ViewPointer as *mut PoolView) }
     }

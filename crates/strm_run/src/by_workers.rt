@@ -96,8 +96,8 @@ fn text_of_outcome<N: Name>(
     outcome: BareOutcome<N>,
 ) -> (Result<Vec<u8>, AllocError>, Pool)
     requires under { IsServedUnder N.Name parts.now }
-    requires worked { (all : List (List Reply))
-        × AllWorked N.Name parts.now (fresh_desks N.desks (pair_at N.first N.opened ∷ [])) outcome.ends all outcome.desks }
+    requires worked { (all : List (List Reply)) × AllWorked N.Name parts.now
+        (fresh_desks N.desks (pair_at N.first N.opened ∷ [])) outcome.ends all outcome.desks }
     ensures text { IfOk result.0 (λ text. (script : ScriptValue) → script.parts ≡ parts.now
         → N.opened ≡ opening_pool script.config → IsTextOf Workers script text.items) }
     ensures ordered { IfOk result.0 (λ text. (script : ScriptValue) → script.parts ≡ parts.now

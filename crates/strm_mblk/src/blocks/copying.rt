@@ -139,8 +139,8 @@ fn copy_blocks(
     requires kept { IsKept stored.old }
     requires fit { IsTrue (is_ok (model.blocks_copied None
         (take count (message_of blocks.old (nodes_at chains.now from))) stored.old.store)) }
-    ensures after { AreCopied None (take count (message_of blocks.old (nodes_at chains.now from))) (nodes_at chains.now into)
-        blocks.old blocks.new stored.old stored.new }
+    ensures after { AreCopied None (take count (message_of blocks.old (nodes_at chains.now from)))
+        (nodes_at chains.now into) blocks.old blocks.new stored.old stored.new }
     ensures kept { IsKept stored.new }
 {
     let mut read = from;

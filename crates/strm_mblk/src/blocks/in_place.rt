@@ -83,7 +83,8 @@ impl Blocks {
         change: F,
     ) -> Result<R, Refusal>
         requires had { IsTrue (has self.old token.now) }
-        requires callable { IfOk (model.bytes_to_edit token.now.head place self.old) (FnOnceTakesAtMut F.FnOnce change) }
+        requires callable { IfOk (model.bytes_to_edit token.now.head place self.old)
+            (FnOnceTakesAtMut F.FnOnce change) }
         ensures { Lends itself token.now (FnOnceReturnsAtMut F.FnOnce change)
             (model.bytes_to_edit token.now.head place self.old)
             (λ r left. model.edit token.now.head place r left self.old) self.old self.new result }

@@ -133,8 +133,8 @@ impl Blocks {
     /// over the classes more for each block. Each byte is copied once.
     pub fn transfer(&mut self, other: &mut Blocks, token: Token) -> Result<Token, Rejected>
         requires { IsTrue (has self.old token) }
-        ensures { Transfers itself token (model.transfer self.old token.head other.old) (with_token_spent self.old token)
-            self.old self.new other.old other.new result }
+        ensures { Transfers itself token (model.transfer self.old token.head other.old)
+            (with_token_spent self.old token) self.old self.new other.old other.new result }
     {
         match other.take_over(self, &token) {
             Ok(made) => {

@@ -29,7 +29,8 @@ impl NamedPool {
     /// `Invalid`, then `NoSuchQueue`. As [`Queues::putbq`] of strm_queue.
     pub fn putbq(&mut self, queue: u8, name: Name) -> Result<(), Fault>
         ensures { Does no_message (on_name self.old name (on_queues self.old.pool
-            (queues.putbq queue name.head (queued_blocks_of self.old.pool)))) (name.head ∷ []) self.old self.new result }
+            (queues.putbq queue name.head (queued_blocks_of self.old.pool)))) (name.head ∷ [])
+            self.old self.new result }
     {
         if !self.has(name) {
             return Err(Fault::Invalid);
@@ -43,7 +44,8 @@ impl NamedPool {
     /// `NoSuchPlace`, then `BadOrder`. As [`Queues::insq`] of strm_queue.
     pub fn insq(&mut self, queue: u8, place: u32, name: Name) -> Result<(), Fault>
         ensures { Does no_message (on_name self.old name (on_queues self.old.pool
-            (queues.insq queue place name.head (queued_blocks_of self.old.pool)))) (name.head ∷ []) self.old self.new result }
+            (queues.insq queue place name.head (queued_blocks_of self.old.pool)))) (name.head ∷ [])
+            self.old self.new result }
     {
         if !self.has(name) {
             return Err(Fault::Invalid);

@@ -110,7 +110,8 @@ impl Queues {
         requires { Agrees self.now blocks.now }
         ensures count { result ≡ answer_map (λ m. min (length into.old) (size_of m - at))
             (model.queued_message queue place (queued_blocks self.now blocks.now)) }
-        ensures bytes { (m : Message) (n : ℕ) → model.queued_message queue place (queued_blocks self.now blocks.now) ≡ Ok m
+        ensures bytes { (m : Message) (n : ℕ)
+            → model.queued_message queue place (queued_blocks self.now blocks.now) ≡ Ok m
             → result ≡ Ok n → into.new ≡ take n (drop at (bytes_of blocks.now.store m)) ++ drop n into.old }
         ensures kept { IfErr result (λ why. into.new ≡ into.old) }
     {
