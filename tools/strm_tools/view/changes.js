@@ -12,7 +12,7 @@ function placeName(home) {
     return run.workers > 1 ? `register ${letter} of worker ${number}` : `register ${letter}`;
 }
 
-const NAMES_QUEUE = /^(?:putq|putbq|insq|getq|rmvq|flushq|flushband|bcanput|strqset|strqget|qsize|qenable|noenable|enableok) (\d+)/;
+const NAMES_QUEUE = new RegExp(`^(?:${run.queueWords.join("|")}) (\\d+)`);
 
 // The label of the queue that a line names, or that `service` returned, if it has one.
 function labelIn({command, reply}) {

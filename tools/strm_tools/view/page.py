@@ -9,6 +9,7 @@ from strm_tools.model import ORDINARY
 from strm_tools.rules import RULES
 from strm_tools.view.chunks import Chunks, compact
 from strm_tools.view.film import KINDS, Film
+from strm_tools.words import WORDS
 
 FOLDER = os.path.dirname(os.path.abspath(__file__))
 # The page's program, in the order of its parts.
@@ -23,7 +24,8 @@ def source(name):
 
 
 def summary(labels, film, chunks):
-    """What the page's program needs of a whole run: how the pool was made, labels, rules, chunks, and what to keep room for."""
+    """What the page's program needs of a whole run: how the pool was made, labels, rules, chunks, and what to keep room for. With
+    the words whose lines name a queue."""
     pool = film.model.pool
     names = labels.names_of_callers()
     return {
@@ -40,6 +42,7 @@ def summary(labels, film, chunks):
         "callers": [[number, names.index(label)] for number, label in labels.callers],
         "callerNames": names,
         "rules": {name: rule.sentence for name, rule in RULES.items() if name in film.rules},
+        "queueWords": [word for word, entry in WORDS.items() if entry.form.startswith("Q")],
         "bands": [sorted(queue.bands, reverse=True) for queue in film.queues],
         "registers": ["".join(sorted(film.used_registers[worker])) for worker in range(len(film.sections))],
         "most": {
