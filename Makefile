@@ -41,7 +41,7 @@ MODULES := $(shell cd tools && find strm_tools -name __pycache__ -prune -o -type
 # Stops make with one line if there is no `rt`.
 NEEDS_RT = $(if $(shell command -v rt 2>/dev/null),,$(error no rt on PATH, so nothing is proved or built; the archive of a release has strm and libstrm.a, and make install-tools installs the tools that need Python alone (README.md, "Without rt")))
 
-.PHONY: run try test cases planted edits lint soak field view-test pictures bench bench-lines bench-library bench-batches bench-census bench-header bench-lock bench-c bench-peers strm install install-pages install-tools install-docs lib install-lib dist vendor
+.PHONY: run try test check gate-times cases planted edits lint soak field view-test pictures bench bench-lines bench-library bench-batches bench-census bench-header bench-lock bench-c bench-peers strm install install-pages install-tools install-docs lib install-lib dist vendor
 
 # Runs examples/first_run.strm on the proved program.
 run: $(BUILT)
@@ -57,6 +57,16 @@ try:
 test:
 	$(NEEDS_RT)
 	@.ci/run
+
+# What of the gate needs no proof, in a few minutes.
+check:
+	$(NEEDS_RT)
+	@.ci/check
+
+# Runs the gate, and puts the processor time of each part into docs/GATE.md.
+gate-times:
+	$(NEEDS_RT)
+	@.ci/run && .ci/times put build/gate-times.md docs/GATE.md
 
 # Runs cases of tests/cases on the proved program: all, or those that CASES names. Trying a new case takes seconds.
 cases: $(BUILT)

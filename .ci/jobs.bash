@@ -30,13 +30,15 @@ add_report() {
     [ "$lost" -eq 0 ] || { echo "$command FAILED (status $status):"; sed 's/^/  /' "$report"; }
 }
 
-# Runs the job with the number $1, which is the command behind it, and leaves its report, its status and how long it took.
+# Runs the job with the number $1, which is the command behind it, and leaves its report, its status, how long it took, and the processor
+# seconds that it used.
 run_job() {
-    local report=$room/report$1 from=$SECONDS
+    local report=$room/report$1 from=$SECONDS TIMEFORMAT='%U %S'
     shift
-    "$@" >"$report" 2>&1 </dev/null
+    { time "$@" >"$report" 2>&1 </dev/null; } 2>"$report.used"
     echo $? >"$report.status"
     echo $((SECONDS - from)) >"$report.seconds"
+    awk -v job="${1##*/}${2:+ $2}" '{ print $1 + $2, job }' "$report.used" >"$report.times"
 }
 
 # Waits until fewer than `processors` jobs run.
@@ -53,12 +55,18 @@ begin() {
     run_job $((${#begun[@]} - 1)) "$@" &
 }
 
-# Starts a job as soon as the process $1, which need not be a job, has ended.
+# Starts jobs, one after another, as soon as the process $1, which need not be a job, has ended.
 begin_after() {
-    local process=$1
+    local process=$1 number words first=${#begun[@]}
     shift
-    begun+=("$*")
-    { tail --pid="$process" -f /dev/null; run_job $((${#begun[@]} - 1)) "$@"; } &
+    begun+=("$@")
+    {
+        tail --pid="$process" -f /dev/null
+        for ((number = first; number < first + $#; number++)); do
+            read -ra words <<<"${begun[$number]}"
+            run_job "$number" "${words[@]}"
+        done
+    } &
 }
 
 # Takes the job with the number $1 for whoever calls first, and sets `words` to its command.
