@@ -1,5 +1,5 @@
 //! Calls that open a pool in a handle, and close it.
-ghost use Rattle.std.specs.Prelude.{◌≡◌, ◌≤◌, None, length, map};
+ghost use Rattle.std.specs.Prelude.{◌≡◌, ◌≢◌, ◌≤◌, pos, None, length, map};
 ghost use Rattle.strm_data.specs.Limits.{most_classes};
 ghost use Rattle.strm_queue.specs.Limits.{most_queues};
 ghost use Rattle.strm_c.specs.Codes.{number_returned};
@@ -98,8 +98,9 @@ pub extern "C" fn strm_c_open(
     bufcalls: u32,
     first_id: u32,
 ) -> i32
-    ensures { OpensHandle (config_of id mblks classes.now queues.now bufcalls first_id)
+    ensures opens { OpensHandle (config_of id mblks classes.now queues.now bufcalls first_id)
         pool.old.at.named pool.new.at.named result }
+    ensures kept { result ≢ pos 0 → pool.new ≡ pool.old }
 {
     let None = pool.named_mut() else {
         return Code::IsOpen.number();
