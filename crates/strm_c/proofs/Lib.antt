@@ -5,6 +5,8 @@ pub mod AsBox
 pub mod Words
 pub mod Reading
 pub mod BlockArrays
+pub mod Unheld
+pub mod Renaming
 pub mod Serial
 pub mod Measuring
 pub mod Loans

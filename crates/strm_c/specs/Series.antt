@@ -1,5 +1,7 @@
 -- Calls on several messages: single calls, one after another, up to the first that does not return 0.
-use Rattle.std.specs.Prelude.{◌≡◌, ℕ, zero, suc, List, [], ◌∷◌, length, Option, None, Some, Ok, Err}
+use Rattle.std.specs.Prelude.{◌≡◌, ℕ, zero, suc, IsTrue, List, [], ◌∷◌, length, map, take, Option, None, Some, Ok, Err}
+use Rattle.std.specs.List.{All}
+use Rattle.strm_links.specs.Rows as rows
 use Rattle.strm_mblk.specs.BlockCalls as blocks
 use Rattle.strm_mblk.specs.Freeing as freeing
 use Rattle.strm_mblk.specs.Given.{given_nothing}
@@ -7,10 +9,10 @@ use Rattle.strm_queue.specs.QueueCalls as queues
 use Rattle.strm_pool.specs.PoolValue.{on_arena, on_queues, queued_blocks_of, with_arena}
 use Rattle.strm_named.specs.declared.name.Name.{Name}
 use Rattle.strm_named.specs.NamedCalls.{Outcome, Shape, answer_told, any_message, named_after, no_message, on_name, one_message, outcome_of}
-use Rattle.strm_named.specs.NamedValue.{NamedValue}
+use Rattle.strm_named.specs.NamedValue.{NamedValue, Renames, is_valid}
 use Rattle.strm_c.specs.declared.code.Code.{Code}
 use Rattle.strm_c.specs.Codes.{Answer, answer_of_result, any_or_nothing}
-use Rattle.strm_c.specs.Exports.{Held, Leaves, Seen, array_with}
+use Rattle.strm_c.specs.Exports.{Held, Leaves, Seen, WhileOpen, array_with}
 
 -- ---- single calls
 
@@ -71,6 +73,23 @@ pub record MakesEach {Z : Type 0} (calls : List (Single Z)) (old new : NamedValu
   pub after : new ≡ (series_of calls old).after
   pub answer : told ≡ count_of (series_of calls old).stored (series_of calls old).stop
 
+-- ---- which names are valid then
+
+-- the heads of these names
+abbrev pub heads_of : List Name → List ℕ
+heads_of names = map (λ n. n.head) names
+
+-- These names were given: they are valid, and were not before, and are of different messages. Names with other heads are valid if
+-- and only if they were before.
+pub record GivesAll (names : List Name) (old new : NamedValue) : Type 0 where
+  pub renames : Renames [] (heads_of names) old new
+  pub valid : All (λ n. IsTrue (is_valid new n)) names
+  pub apart : rows.IsApart (heads_of names)
+
+-- These names were spent: names with their heads are valid no more. All others are valid if and only if they were before.
+abbrev pub SpendsAll : List Name → NamedValue → NamedValue → Type 0
+SpendsAll names old new = Renames (heads_of names) [] old new
+
 -- ---- calls of strm.h
 
 -- A call on several messages: it leaves what these single calls leave, and answers as their series does.
@@ -81,3 +100,11 @@ DoesEach calls = Leaves (λ v. (series_of calls v).after) (λ v. count_of (serie
 abbrev pub array_after : {Z : Type 0} → List (Single Z) → Held → List Z → List Z
 array_after calls None array = array
 array_after calls (Some v) array = array_with_stored (series_of calls v) array
+
+-- which names are valid after calls that store names, if the handle is open
+abbrev pub GivesEach : List (Single Name) → Held → Held → Type 0
+GivesEach calls old new = WhileOpen (λ v w. GivesAll (series_of calls v).stored v w) old new
+
+-- Which names are valid after a call on each of these, if the handle is open. The calls that returned 0 spent theirs.
+abbrev pub SpendsEach : (Name → Single (Unit {0})) → List Name → Held → Held → Type 0
+SpendsEach call names old new = WhileOpen (λ v w. SpendsAll (take (length (series_of (map call names) v).stored) names) v w) old new

@@ -1,8 +1,8 @@
 //! Calls on several messages at once: single calls, one after another, up to the first that does not return 0.
-ghost use Rattle.std.specs.Prelude.{◌≡◌, length, map, replicate};
+ghost use Rattle.std.specs.Prelude.{◌≡◌, Some, length, map, replicate};
 ghost use Rattle.strm_c.specs.InC.{capped_number};
 ghost use Rattle.strm_c.specs.Series as series;
-ghost use Rattle.strm_c.specs.Series.{DoesEach, MakesEach, array_after, array_with_stored, series_of, stopped};
+ghost use Rattle.strm_c.specs.Series.{DoesEach, GivesEach, MakesEach, SpendsEach, array_after, array_with_stored, series_of, stopped};
 
 use crate::answer::{coded, coded_any, put};
 use crate::code::Code;
@@ -22,8 +22,10 @@ fn allocb_each(named: &mut NamedPool, size: u32, msgs: &mut [Name]) -> Result<us
     ensures makes { MakesEach (replicate (length msgs.old) (series.allocb size)) named.old named.new result }
     ensures names { msgs.new ≡ array_with_stored
         (series_of (replicate (length msgs.old) (series.allocb size)) named.old) msgs.old }
+    ensures valid { GivesEach (replicate (length msgs.old) (series.allocb size)) (Some named.old) (Some named.new) }
 {
     for place in 0..msgs.len() {
+        named.lawful();
         match coded(named.allocb(size)) {
             Ok(msg) => msgs[place] = msg,
             Err(code) => return stopped(place, code),
@@ -34,7 +36,8 @@ fn allocb_each(named: &mut NamedPool, size: u32, msgs: &mut [Name]) -> Result<us
 
 // Frees these messages. Returns their number, or why the first is not freed.
 fn freemsg_each(named: &mut NamedPool, msgs: &[Name]) -> Result<usize, Code>
-    ensures { MakesEach (map series.freemsg msgs.now) named.old named.new result }
+    ensures makes { MakesEach (map series.freemsg msgs.now) named.old named.new result }
+    ensures spent { SpendsEach series.freemsg msgs.now (Some named.old) (Some named.new) }
 {
     for place in 0..msgs.len() {
         match coded(named.freemsg(msgs[place])) {
@@ -47,7 +50,8 @@ fn freemsg_each(named: &mut NamedPool, msgs: &[Name]) -> Result<usize, Code>
 
 // Puts these messages on a queue. Returns their number, or why the first is not put.
 fn putq_each(named: &mut NamedPool, number: u32, msgs: &[Name]) -> Result<usize, Code>
-    ensures { MakesEach (map (series.putq (capped_number number)) msgs.now) named.old named.new result }
+    ensures makes { MakesEach (map (series.putq (capped_number number)) msgs.now) named.old named.new result }
+    ensures spent { SpendsEach (series.putq (capped_number number)) msgs.now (Some named.old) (Some named.new) }
 {
     let queue = capped_number(number);
     for place in 0..msgs.len() {
@@ -65,9 +69,12 @@ fn getq_each(named: &mut NamedPool, number: u32, msgs: &mut [Name]) -> Result<us
         named.old named.new result }
     ensures names { msgs.new ≡ array_with_stored
         (series_of (replicate (length msgs.old) (series.getq (capped_number number))) named.old) msgs.old }
+    ensures valid { GivesEach (replicate (length msgs.old) (series.getq (capped_number number)))
+        (Some named.old) (Some named.new) }
 {
     let queue = capped_number(number);
     for place in 0..msgs.len() {
+        named.lawful();
         match coded_any(named.getq(queue)) {
             Ok(msg) => msgs[place] = msg,
             Err(code) => return stopped(place, code),
@@ -88,6 +95,7 @@ pub extern "C" fn strm_c_allocb_n(
         pool.old.at.named pool.new.at.named result count.old count.new }
     ensures names { msgs.new ≡ array_after (replicate (length msgs.old) (series.allocb size))
         pool.old.at.named msgs.old }
+    ensures valid { GivesEach (replicate (length msgs.old) (series.allocb size)) pool.old.at.named pool.new.at.named }
 {
     let Some(named) = pool.named_mut() else {
         return Code::NotOpen.number();
@@ -99,7 +107,9 @@ pub extern "C" fn strm_c_allocb_n(
 /// Frees messages, and stores their number in `count`. Each as `strm_c_freemsg`.
 #[unsafe(no_mangle)]
 pub extern "C" fn strm_c_freemsg_n(pool: &mut StrmPool, msgs: &[Name], count: &mut usize) -> i32
-    ensures { DoesEach (map series.freemsg msgs.now) pool.old.at.named pool.new.at.named result count.old count.new }
+    ensures count { DoesEach (map series.freemsg msgs.now)
+        pool.old.at.named pool.new.at.named result count.old count.new }
+    ensures spent { SpendsEach series.freemsg msgs.now pool.old.at.named pool.new.at.named }
 {
     let Some(named) = pool.named_mut() else {
         return Code::NotOpen.number();
@@ -116,8 +126,9 @@ pub extern "C" fn strm_c_putq_n(
     msgs: &[Name],
     count: &mut usize,
 ) -> i32
-    ensures { DoesEach (map (series.putq (capped_number queue)) msgs.now)
+    ensures count { DoesEach (map (series.putq (capped_number queue)) msgs.now)
         pool.old.at.named pool.new.at.named result count.old count.new }
+    ensures spent { SpendsEach (series.putq (capped_number queue)) msgs.now pool.old.at.named pool.new.at.named }
 {
     let Some(named) = pool.named_mut() else {
         return Code::NotOpen.number();
@@ -138,6 +149,8 @@ pub extern "C" fn strm_c_getq_n(
         pool.old.at.named pool.new.at.named result count.old count.new }
     ensures names { msgs.new ≡ array_after (replicate (length msgs.old) (series.getq (capped_number queue)))
         pool.old.at.named msgs.old }
+    ensures valid { GivesEach (replicate (length msgs.old) (series.getq (capped_number queue)))
+        pool.old.at.named pool.new.at.named }
 {
     let Some(named) = pool.named_mut() else {
         return Code::NotOpen.number();

@@ -1,8 +1,7 @@
-use Rattle.std.proofs.Common.{map}
 use Rattle.strm_c.specs.Series.{putq}
-use Rattle.strm_c.proofs.Serial.{HasMade}
+use Rattle.strm_c.proofs.Serial.{HasSpent}
 use Rattle.strm_c.proofs.several.putq_each.Given as goal
 
 -- the calls that were made
 abbrev pub invariant-loop-place : goal.invariant-loop-place
-invariant-loop-place l = HasMade (map (putq l.queue) l.msgs) l.fn.named l.named l.place
+invariant-loop-place l = HasSpent (putq l.queue) l.msgs l.fn.named l.named l.place
