@@ -38,7 +38,7 @@ run_job() {
     { time "$@" >"$report" 2>&1 </dev/null; } 2>"$report.used"
     echo $? >"$report.status"
     echo $((SECONDS - from)) >"$report.seconds"
-    awk -v job="${1##*/}${2:+ $2}" '{ print $1 + $2, job }' "$report.used" >"$report.times"
+    awk -v job="${*#tests/}" '{ split(job, words); print $1 + $2, words[1], words[2] ~ /^--/ ? words[2] : "" }' "$report.used" >"$report.times"
 }
 
 # Waits until fewer than `processors` jobs run.
