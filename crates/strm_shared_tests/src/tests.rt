@@ -1,3 +1,4 @@
+ghost use Rattle.std.specs.Prelude.{◌≡◌, ◌∷◌};
 ghost use Rattle.strm_pool.specs.Registers.{CarryId};
 ghost use Rattle.strm_shared.specs.Starts.{IsNameOf};
 
@@ -24,8 +25,8 @@ use strm_pool::{
     Reg, Regs, Reply,
 };
 use strm_shared::{
-    Brand, Desk, Desks, Gathered, MOST_STAMP, MOST_TRACE, MOST_WORKERS, Name, Setup, Shared, Start,
-    Trace, TraceEntries,
+    Brand, Desk, Desks, Gathered, MOST_STAMP, MOST_TRACE, MOST_WORKERS, Name, Setup, Shared,
+    SpentDesks, Start, Trace, TraceEntries,
 };
 
 // The spec of a queue with these water marks and a service procedure.
@@ -453,6 +454,59 @@ fn spent<N: Name, R: Wait + Abort>(rt: &R, start: Start, other: Pool, steps: &[(
     let (shared, mut desks) = ungathered(rt, shared, desks, 1);
     take_steps(rt, &shared, &mut desks, steps);
     desks.forget();
+}
+
+#[test]
+fn desks_are_spent(rt: HostRuntime) {
+    let a = reg(&rt, b'a');
+    let steps = [
+        (0, Step::Serve(Call::Allocb(a, 1), Reply::Done)),
+        (1, Step::Serve(Call::Allocb(a, 1), Reply::Done)),
+    ];
+    let (pool, spent) = after_all_are_spent(&rt, start(&rt, rt.alloc(), 7, 2, 0), &steps);
+    assert!(rt; spent.len() == 2);
+    assert_census(&rt, &pool, (8, 0, 0));
+}
+
+// Pool and spent desks after these steps at two desks.
+fn after_all_are_spent(
+    rt: &(impl Wait + Abort),
+    start: Start,
+    steps: &[(u8, Step)],
+) -> (Pool, SpentDesks) {
+    all_spent::<Brand, _>(rt, start, steps)
+}
+
+// Spends a desk at the front of these.
+fn spend_next<N: Name>(rt: &impl Abort, spent: &mut SpentDesks, desk: Desk<N>) -> Regs
+    ensures { spent.new ≡ desk.served ∷ spent.old }
+{
+    assert!(rt; spent.len() < MOST_WORKERS);
+    spent.spend(desk)
+}
+
+// After these steps both desks come back and are spent, and the pool drains their registers.
+fn all_spent<N: Name, R: Wait + Abort>(
+    rt: &R,
+    start: Start,
+    steps: &[(u8, Step)],
+) -> (Pool, SpentDesks)
+    requires { IsNameOf N.Name start }
+{
+    let (shared, mut desks) = start.open::<N>();
+    take_steps(rt, &shared, &mut desks, steps);
+    let Gathered {
+        mut pool,
+        trace: _,
+        mut desks,
+    } = end(rt, shared, desks);
+    let mut spent = SpentDesks::new();
+    for number in [1, 0] {
+        let desk = last(rt, &mut desks, number);
+        pool.drain(spend_next(rt, &mut spent, desk));
+    }
+    desks.forget();
+    (pool, spent)
 }
 
 #[test]
