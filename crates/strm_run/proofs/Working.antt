@@ -4,9 +4,9 @@ use Rattle.std.specs.Prelude.{Contains, filter, max, sum_by, ◌==◌}
 use Rattle.std.specs.List.{All, flat_map, list_any}
 use Rattle.std.proofs.Math.ListN.{get_or-append}
 use Rattle.std.proofs.lemmas.Bool.{cases_eq, or_parts}
-use Rattle.std.proofs.lemmas.List.{get_or-map, get_or_default, get_or_push, length-map}
+use Rattle.std.proofs.lemmas.List.{ext_get_or, get_or-map, get_or_default, get_or_push, length-map}
 use Rattle.std.proofs.lemmas.List.Elements.{All-contains, Contains-append_left, Contains-push}
-use Rattle.std.proofs.lemmas.List.Sorted.{All-permutation, IsPermutation-sym}
+use Rattle.std.proofs.lemmas.List.Sorted.{All-permutation, IsPermutation-sym, length_permutation}
 use Rattle.strm_data.specs.declared.refusal.Refusal.{Refusal}
 use Rattle.strm_pool.specs.declared.reply.Reply.{Reply}
 use Rattle.strm_pool.specs.PoolValue.{PoolValue, opening_pool}
@@ -28,9 +28,9 @@ use Rattle.strm_script.specs.declared.script.Script.{Script}
 use Rattle.strm_script.specs.Merge.{IsMerge, merge_of}
 use Rattle.strm_script.specs.Text.{entry_text, report_text, text_from}
 use Rattle.strm_run.specs.declared.runs.Mode.TheVariants.{Workers}
-use Rattle.strm_run.specs.Outcome.{IsMergedText, IsTextOf}
+use Rattle.strm_run.specs.Outcome.{IsMergedText, IsTextAsServed, IsTextOf}
 use Rattle.strm_run.specs.Told.{is_not_started}
-use Rattle.strm_run.specs.Working.{IsServedUnder, IsTextAsServed}
+use Rattle.strm_run.specs.Working.{IsServedUnder}
 use Rattle.strm_run.proofs.Merges.{IsMerge-merge_of, entries_for, length-entries_for, line_of, lines_of-entries_for, served_from-entries}
 use Rattle.strm_run.proofs.Texts.{one_text, text_from-merge_of}
 use Rattle.strm_run.proofs.Totals.{fewer_entries}
@@ -112,6 +112,10 @@ at_fresh (suc m) k ps d below = elim (cases_eq k m) [
 
 -- ---- all workers
 
+-- what desks were served
+abbrev pub served_at_each : List DeskValue → List (List (ℕ × Entry))
+served_at_each ds = map (λ (d : DeskValue). d.served) ds
+
 -- a pair of a shared pool has no later stamp than the pool
 pair_before : (o : Pair) (stamp : ℕ) (v : PoolValue) (ps : List Pair) → ArePairs o stamp v ps → (p : Pair) → Contains ps p → p.0 ≤ stamp
 pair_before o stamp v ps are p has =
@@ -162,6 +166,21 @@ module _ {N : Type 0} (n : Ghosts N) (parts : List (List Line)) (ps : List Pair)
   served_at : (k : ℕ) → k < length parts → served_from (n.first + 1) k left.entries ≡ (get_or came k no_desk).served
   served_at k within = ap (λ (j : ℕ). served_from (n.first + 1) j left.entries) (sym (few k within).0) ∙ sym (known k within).0
 
+  -- gathered desks are those that came, in the same order
+  pub gathered_as_came : ((k : ℕ) → k < n.desks → (get_or gathered k no_desk).number ≡ k) → served_at_each gathered ≡ served_at_each came
+  gathered_as_came numbered =
+      let served_of : DeskValue → List (ℕ × Entry) = λ d. d.served in
+      let seen : DeskValue → DeskValue = with_pair_seen (pair_at left.stamp v) in
+      let as_many : length gathered ≡ length came = length_permutation (map seen came) gathered left.same ∙ length-map came seen in
+      ext_get_or [] (served_at_each gathered) (served_at_each came) (length-map gathered served_of ∙ as_many ∙ sym (length-map came served_of))
+      (λ k within.
+      let inside : k < length gathered = omega (arith, within, length-map gathered served_of) in
+      get_or-map served_of gathered k no_desk [] inside
+      ∙ left.served k no_desk inside
+      ∙ ap (λ (j : ℕ). served_from (n.first + 1) j left.entries) (numbered k (omega (arith, inside, as_many, worked.kept, under.desks)))
+      ∙ served_at k (omega (arith, inside, as_many, worked.kept))
+      ∙ sym (get_or-map served_of came k no_desk [] (omega (arith, inside, as_many))))
+
   below : All (λ (e : Entry). e.desk < length parts) left.entries
   below = subst (λ (m : ℕ). All (λ (e : Entry). e.desk < m) left.entries) under.desks left.told.below
 
@@ -195,7 +214,7 @@ module _ {N : Type 0} (n : Ghosts N) (parts : List (List Line)) (ps : List Pair)
         ap (map line_of) (sym (served_from-entries (n.first + 1) k left.entries) ∙ entries) ∙ lines_of-entries_for k lines replies was.0
 
     -- and the text of the trace is that of the script, in the order of serving
-    pub as_served : (script : Script) (text : List ℕ) → script.parts ≡ parts → n.opened ≡ opening_pool script.config → text ≡ flat_map entry_text trace ++ report_text v → IsTextAsServed script n.first came text
+    pub as_served : (script : Script) (text : List ℕ) → script.parts ≡ parts → n.opened ≡ opening_pool script.config → text ≡ flat_map entry_text trace ++ report_text v → IsTextAsServed script n.first (served_at_each came) text
     as_served script text same opens written =
         let es : List Entry = left.entries in
         let merge = merge_of es in
@@ -213,11 +232,14 @@ module _ {N : Type 0} (n : Ghosts N) (parts : List (List Line)) (ps : List Pair)
         record {
           entries = es;
           under = (merges, is);
-          served = λ k within. served_at k (omega (arith, within, ap length same));
+          each = length-map came (λ (d : DeskValue). d.served) ∙ worked.kept ∙ ap length (sym same);
+          served = λ k within.
+              served_at k (omega (arith, within, ap length same))
+              ∙ sym (get_or-map (λ (d : DeskValue). d.served) came k no_desk [] (omega (arith, within, ap length same, worked.kept)));
         }
 
 -- such a text is one of workers
-pub text_of_workers : (script : Script) (first : ℕ) (desks : List DeskValue) (text : List ℕ) → IsTextAsServed script first desks text → IsTextOf Workers script text
+pub text_of_workers : (script : Script) (first : ℕ) (desks : List (List (ℕ × Entry))) (text : List ℕ) → IsTextAsServed script first desks text → IsTextOf Workers script text
 text_of_workers script first desks text served =
     let merged : IsMergedText script text = (merge_of served.entries, served.under) in
     (merged, λ one. one_text script text one merged)

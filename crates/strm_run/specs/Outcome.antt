@@ -1,14 +1,16 @@
 -- What an input gives: its first fault, or a text of its script.
-use Rattle.std.specs.Prelude.{◌≡◌, ℕ, nat_lt, List, length, Option, None, Some, Result, Ok, Err, IsOkAnd, if◌then◌else◌}
+use Rattle.std.specs.Prelude.{◌≡◌, ℕ, ◌+◌, ◌<◌, nat_lt, List, [], length, slice_index_or, Option, None, Some, Result, Ok, Err, IsOkAnd, if◌then◌else◌}
 use Rattle.std.specs.Option.{option_map}
 use Rattle.strm_pool.specs.declared.config.Config.{Config as ConfigValue}
 use Rattle.strm_pool.specs.Config.{fault_of}
+use Rattle.strm_shared.specs.declared.entry.Entry.{Entry}
+use Rattle.strm_shared.specs.Chronicle.{served_from}
 use Rattle.strm_script.specs.declared.fault.Fault.{Fault}
 use Rattle.strm_run.specs.declared.fault.RunFault.{RunFault}
 use Rattle.strm_run.specs.declared.fault.RunFault.TheVariants.{TooLong, Script, Config}
 use Rattle.strm_run.specs.declared.runs.Mode.{Mode}
 use Rattle.strm_run.specs.declared.runs.Mode.TheVariants.{Serial, Workers}
-use Rattle.strm_script.specs.Merge.{Served, IsMerge, serial_merge}
+use Rattle.strm_script.specs.Merge.{Served, IsMerge, merge_of, serial_merge}
 use Rattle.strm_script.specs.declared.script.Script.{Script as ScriptValue}
 use Rattle.strm_script.specs.Script.{script_of}
 use Rattle.strm_script.specs.Text.{text_of}
@@ -47,6 +49,15 @@ IsMergedText script text = (served : List Served) × IsTextUnder script served t
 abbrev pub IsTextOf : Mode → ScriptValue → List ℕ → Type 0
 IsTextOf Serial script text = IsSerialText script text
 IsTextOf Workers script text = IsMergedText script text × (length script.parts ≡ 1 → IsSerialText script text)
+
+-- A text in the order of serving: that of the script under the merge of some entries. The first entry has stamp `first` + 1, and
+-- each next one has 1 more. There is a desk for each section, which was served exactly the entries of its number, with their
+-- stamps. So what desks were served shows which entries these are, and in which order.
+pub record IsTextAsServed (script : ScriptValue) (first : ℕ) (desks : List (List (ℕ × Entry))) (text : List ℕ) : Type 0 where
+  pub entries : List Entry
+  pub under : IsTextUnder script (merge_of entries) text
+  pub each : length desks ≡ length script.parts
+  pub served : (k : ℕ) → k < length script.parts → served_from (first + 1) k entries ≡ slice_index_or desks k []
 
 -- the input has no fault, and this is the text of its script
 abbrev pub IsTextOfInput : Mode → ℕ → List ℕ → List ℕ → Type 0

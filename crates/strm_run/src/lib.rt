@@ -9,6 +9,7 @@ mod runs;
 mod serial;
 mod watched;
 
+pub use by_workers::{ServedText, workers_text};
 pub use fault::RunFault;
 pub use input::{ReadFault, read_input};
 pub use output::{WriteFault, write_text};

@@ -49,7 +49,7 @@ fn text_of_script<E: Threads + Wait + Sync, G: Gate>(
     drop(bytes);
     let text = match mode {
         Mode::Serial => serial_text(alloc, script)?,
-        Mode::Workers => workers_text(rt, alloc, gate, script)?,
+        Mode::Workers => workers_text(rt, alloc, gate, script)?.text,
     };
     Ok(text)
 }

@@ -1,4 +1,4 @@
-ghost use Rattle.std.specs.Prelude.{◌≤◌};
+ghost use Rattle.std.specs.Prelude.{◌≤◌, length};
 ghost use Rattle.strm_script.specs.Limits.{most_script_bytes};
 
 use super::faulty::{Choppy, Slow, choppy_writer, slow_reader};
@@ -7,8 +7,8 @@ use std::sync::Wait;
 use std::sync::atomic::{AtomicU32, Ordering};
 use std::thread::Threads;
 use strm_pool::Which;
-use strm_run::{Mode, RunFault, Watched, run};
-use strm_script::{Fault, Kind};
+use strm_run::{Mode, RunFault, ServedText, Watched, run, workers_text};
+use strm_script::{Fault, Kind, parse};
 use strm_shared::{Gate, OpenGate};
 
 // The first run: seven lines of commands.
@@ -85,6 +85,27 @@ fn goes_byte_by_byte(rt: HostRuntime) {
 fn serves_one_section_after_the_other(rt: HostRuntime) {
     let text = written(&rt, Mode::Serial, &OpenGate, SECTIONS);
     expect_text(&rt, &text, SECTIONS_TEXT);
+}
+
+// The text of a script by workers, with their desks.
+fn served(rt: &(impl Abort + AllocGlobal + Threads + Wait + Sync), script: &[u8]) -> ServedText
+    requires { length script.now ≤ most_script_bytes }
+{
+    let Ok(script) = parse(rt.alloc(), script) else {
+        panic!(rt; "a fault")
+    };
+    match workers_text(rt, rt.alloc(), &OpenGate, script) {
+        Ok(served) => served,
+        Err(_) => panic!(rt; "no text"),
+    }
+}
+
+#[test]
+fn a_text_comes_with_the_desks(rt: HostRuntime) {
+    let one = served(&rt, SCRIPT);
+    expect_text(&rt, &one.text, TEXT);
+    assert_eq!(rt; one.desks.len(), 1);
+    assert_eq!(rt; served(&rt, SECTIONS).desks.len(), 2);
 }
 
 // Two sections of two lines each: lines 6 and 7, and lines 9 and 10.
