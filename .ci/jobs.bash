@@ -74,16 +74,19 @@ take_job() {
     mkdir "$room/taken$1" 2>/dev/null && read -ra words <<<"${begun[$1]}"
 }
 
-# Starts jobs that run one after another, beside all others.
+# Starts jobs that run one after another, beside all others, at a lower priority: chains of proofs decide when the gate ends.
 begin_in_turn() {
     local job number words
     for job in "$@"; do
         in_turn+=("${#begun[@]}")
         begun+=("$job")
     done
-    for number in "${in_turn[@]}"; do
-        take_job "$number" && (run_job "$number" "${words[@]}")
-    done &
+    {
+        renice -n 10 -p "$BASHPID" >/dev/null
+        for number in "${in_turn[@]}"; do
+            take_job "$number" && (run_job "$number" "${words[@]}")
+        done
+    } &
 }
 
 # Starts those of these jobs that have not begun beside each other.
