@@ -1,7 +1,10 @@
-//! The limits of this crate: registers, wishes, ids, and bytes in a call or reply.
+//! The limits of this crate: registers, workers, wishes, ids, and bytes in a call or reply.
 
 /// The number of registers, a to z.
 pub const MOST_REGISTERS: usize = 26;
+
+/// The greatest number of workers of a script, and so of desks at a shared pool.
+pub const MOST_WORKERS: usize = 16;
 
 /// The greatest number of `bufcall` wishes at one time.
 pub const MOST_WISHES: usize = 64;

@@ -10,7 +10,7 @@ use Rattle.strm_pool.specs.PoolValue.{PoolValue, opening_pool}
 use Rattle.strm_pool.specs.Registers.{RegisterTable, register, table_of, AreDistinct}
 use Rattle.strm_pool.specs.Limits.{most_registers}
 use Rattle.strm_pool.specs.Step.{step, Stepped, table_at, empty_tables}
-use Rattle.strm_shared.specs.declared.line.Line.{Line}
+use Rattle.strm_pool.specs.declared.line.Line.{Line}
 use Rattle.strm_script.specs.declared.script.Script.{Script}
 use Rattle.strm_script.specs.Merge.{Served, by_worker, serial_from}
 use Rattle.strm_script.specs.Text.{reply_line, report_text, text_from}

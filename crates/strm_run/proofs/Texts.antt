@@ -6,8 +6,8 @@ use Rattle.std.proofs.lemmas.List.{get_or_past}
 use Rattle.strm_pool.specs.PoolValue.{PoolValue}
 use Rattle.strm_pool.specs.Registers.{RegisterTable}
 use Rattle.strm_pool.specs.Step.{DeskCall, replay_from}
-use Rattle.strm_shared.specs.declared.entry.Entry.{Entry}
-use Rattle.strm_shared.specs.declared.line.Line.{Line}
+use Rattle.strm_pool.specs.declared.line.Entry.{Entry}
+use Rattle.strm_pool.specs.declared.line.Line.{Line}
 use Rattle.strm_shared.specs.Chronicle.{calls_of}
 use Rattle.strm_script.specs.declared.script.Script.{Script}
 use Rattle.strm_script.specs.Merge.{Served, IsMerge, by_worker, merge_of, part_of, serial_merge}

@@ -11,8 +11,8 @@ use Rattle.strm_data.specs.declared.refusal.Refusal.{Refusal}
 use Rattle.strm_pool.specs.declared.reply.Reply.{Reply}
 use Rattle.strm_pool.specs.PoolValue.{PoolValue, opening_pool}
 use Rattle.strm_pool.specs.Step.{Replay, empty_tables}
-use Rattle.strm_shared.specs.declared.entry.Entry.{Entry}
-use Rattle.strm_shared.specs.declared.line.Line.{Line}
+use Rattle.strm_pool.specs.declared.line.Entry.{Entry}
+use Rattle.strm_pool.specs.declared.line.Line.{Line}
 use Rattle.strm_shared.specs.declared.name.Name.{Ghosts}
 use Rattle.strm_shared.specs.declared.outcome.End.{End}
 use Rattle.strm_shared.specs.declared.outcome.End.TheVariants.{Done, Refused, NotStarted}

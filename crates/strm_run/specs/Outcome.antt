@@ -3,7 +3,7 @@ use Rattle.std.specs.Prelude.{◌≡◌, ℕ, ◌+◌, ◌<◌, nat_lt, List, []
 use Rattle.std.specs.Option.{option_map}
 use Rattle.strm_pool.specs.declared.config.Config.{Config as ConfigValue}
 use Rattle.strm_pool.specs.Config.{fault_of}
-use Rattle.strm_shared.specs.declared.entry.Entry.{Entry}
+use Rattle.strm_pool.specs.declared.line.Entry.{Entry}
 use Rattle.strm_shared.specs.Chronicle.{served_from}
 use Rattle.strm_script.specs.declared.fault.Fault.{Fault}
 use Rattle.strm_run.specs.declared.fault.RunFault.{RunFault}

@@ -1,6 +1,6 @@
 -- A shared pool that serves the sections of a script. No public clause cites this module.
 use Rattle.std.specs.Prelude.{◌≡◌, ◌≤◌, List, Some, length, max, sum_by}
-use Rattle.strm_shared.specs.declared.line.Line.{Line}
+use Rattle.strm_pool.specs.declared.line.Line.{Line}
 use Rattle.strm_shared.specs.declared.name.Name.{Ghosts}
 use Rattle.strm_script.specs.Limits.{most_command_lines}
 

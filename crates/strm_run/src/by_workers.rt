@@ -6,7 +6,7 @@ ghost use Rattle.strm_pool.specs.PoolValue.{opening_pool};
 ghost use Rattle.strm_pool.specs.Registers.{entries_of};
 ghost use Rattle.strm_pool.specs.declared.reply.Reply.{Reply};
 ghost use Rattle.strm_shared.specs.Desks.{DeskValue, fresh_desks};
-ghost use Rattle.strm_shared.specs.Limits.{most_workers};
+ghost use Rattle.strm_pool.specs.Limits.{most_workers};
 ghost use Rattle.strm_shared.specs.Pairs.{pair_at};
 ghost use Rattle.strm_shared.specs.Runs.{AllWorked};
 ghost use Rattle.strm_shared.specs.Starts.{IsNameOf};

@@ -4,7 +4,7 @@ ghost use Rattle.strm_pool.specs.Config.{fault_of};
 ghost use Rattle.strm_pool.specs.PoolValue.{owns};
 ghost use Rattle.strm_pool.specs.Registers.{RegisterTable, table_of, entries_of, AreDistinct};
 ghost use Rattle.strm_pool.specs.Step.{empty_tables};
-ghost use Rattle.strm_shared.specs.Limits.{most_workers};
+ghost use Rattle.strm_pool.specs.Limits.{most_workers};
 ghost use Rattle.strm_script.specs.Limits.{most_command_lines};
 ghost use Rattle.strm_script.specs.Merge.{Served, by_worker, serial_from};
 ghost use Rattle.strm_script.specs.Text.{text_from};

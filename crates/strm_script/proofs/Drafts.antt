@@ -11,7 +11,7 @@ use Rattle.strm_data.specs.declared.class_spec.ClassSpec.{ClassSpec}
 use Rattle.strm_queue.specs.declared.queue_spec.QueueSpec.{QueueSpec}
 use Rattle.strm_script.specs.declared.draft.Draft.{Draft}
 use Rattle.strm_script.specs.Entry.{Entry, Pool, Class, Queue, Bufcalls, Worker, Command}
-use Rattle.strm_shared.specs.declared.line.Line.{Line}
+use Rattle.strm_pool.specs.declared.line.Line.{Line}
 use Rattle.strm_script.specs.declared.stage.Stage.{Stage}
 use Rattle.strm_script.specs.declared.stage.Stage.TheVariants as stages
 use Rattle.strm_script.specs.declared.word.Word.{Word}

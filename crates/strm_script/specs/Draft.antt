@@ -2,8 +2,8 @@
 use Rattle.std.specs.Prelude.{◌≡◌, ℕ, ◌+◌, ◌<◌, sum_by, List, [], ◌∷◌, ◌++◌, length, Result, Ok, Err}
 use Rattle.strm_data.specs.Limits.{most_classes}
 use Rattle.strm_queue.specs.Limits.{most_queues}
-use Rattle.strm_shared.specs.declared.line.Line.{Line}
-use Rattle.strm_shared.specs.Limits.{most_workers}
+use Rattle.strm_pool.specs.declared.line.Line.{Line}
+use Rattle.strm_pool.specs.Limits.{most_workers}
 use Rattle.strm_script.specs.declared.draft.Draft.{Draft}
 use Rattle.strm_script.specs.declared.fault.Kind.{Kind}
 use Rattle.strm_script.specs.declared.fault.LineFault.{LineFault}

@@ -1,8 +1,8 @@
 -- Merges: orders of the lines of several workers.
 use Rattle.std.specs.Prelude.{◌≡◌, ℕ, ◌==◌, List, [], filter, map, slice_index_or}
 use Rattle.std.specs.List.{flat_map, enumerate_from}
-use Rattle.strm_shared.specs.declared.entry.Entry.{Entry}
-use Rattle.strm_shared.specs.declared.line.Line.{Line}
+use Rattle.strm_pool.specs.declared.line.Entry.{Entry}
+use Rattle.strm_pool.specs.declared.line.Line.{Line}
 
 -- a line, with its worker
 pub record Served : Type 0 where

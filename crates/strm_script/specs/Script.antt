@@ -12,7 +12,7 @@ use Rattle.strm_script.specs.declared.fault.Fault.{Fault}
 use Rattle.strm_script.specs.declared.fault.Kind.{Kind}
 use Rattle.strm_script.specs.declared.fault.Kind.TheVariants.{Cut, Unknown, Order, Toomany, Missing}
 use Rattle.strm_script.specs.Entry.{Entry, Pool, Class, Queue, Bufcalls, Worker, Command, entry_of}
-use Rattle.strm_shared.specs.declared.line.Line.{Line}
+use Rattle.strm_pool.specs.declared.line.Line.{Line}
 use Rattle.strm_script.specs.declared.script.Script.{Script}
 use Rattle.strm_script.specs.declared.stage.Stage.{Stage}
 use Rattle.strm_script.specs.declared.stage.Stage.TheVariants as stages
@@ -20,7 +20,7 @@ use Rattle.strm_script.specs.declared.word.Word.{Word}
 use Rattle.strm_script.specs.declared.word.Word.TheVariants as words
 use Rattle.strm_script.specs.Word.{word_of}
 use Rattle.strm_script.specs.Limits.{most_command_lines}
-use Rattle.strm_shared.specs.Limits.{most_workers}
+use Rattle.strm_pool.specs.Limits.{most_workers}
 
 -- what a line says, with its number
 pub record Numbered : Type 0 where

@@ -21,7 +21,7 @@ use Rattle.strm_queue.specs.QueuedBlocks.{QueuedBlocks}
 use Rattle.strm_data.specs.Refusal.{number_of, name_of}
 use Rattle.strm_pool.specs.Registers.{RegisterTable}
 use Rattle.strm_pool.specs.Step.{DeskCall, Replay, empty_tables, replay_from}
-use Rattle.strm_shared.specs.declared.entry.Entry.{Entry}
+use Rattle.strm_pool.specs.declared.line.Entry.{Entry}
 use Rattle.strm_script.specs.Merge.{Served}
 use Rattle.strm_script.specs.declared.script.Script.{Script}
 

@@ -1,7 +1,7 @@
 //! A draft: what has been read of a script so far.
 ghost use Rattle.std.specs.Prelude.{◌≡◌, ◌<◌, ◌≤◌, ◌++◌, ◌∷◌, [], List, ℕ, true, false, length, sum_by, Ok, IfOk, OnOk};
 ghost use Rattle.strm_script.specs.Cut.{words_behind};
-ghost use Rattle.strm_shared.specs.Limits.{most_workers};
+ghost use Rattle.strm_pool.specs.Limits.{most_workers};
 ghost use Rattle.strm_script.specs.Limits.{most_command_lines};
 ghost use Rattle.strm_script.specs.Entry.{Worker, Command, entry_of};
 ghost use Rattle.strm_script.specs.Script.{Numbered, is_full, may_stand, with_words, with_entry, is_skipped, with_line, script_or_fault};
@@ -20,8 +20,10 @@ use arrayvec::ArrayVec;
 use std::alloc::{AllocError, Global};
 use std::mem;
 use strm_data::MOST_CLASSES;
-use strm_pool::{Call, ClassSpec, ClassSpecs, Config, MOST_QUEUES, QueueSpec, QueueSpecs};
-use strm_shared::{Line, Lines, MOST_WORKERS, Parts};
+use strm_pool::{
+    Call, ClassSpec, ClassSpecs, Config, Line, Lines, MOST_QUEUES, MOST_WORKERS, Parts, QueueSpec,
+    QueueSpecs,
+};
 
 /// What the lines of a script said so far, as a configuration and sections.
 #[derive(Drop)]

@@ -19,5 +19,5 @@ pub use fault::{Fault, Kind, ParseFault};
 pub use limits::{MOST_COMMAND_LINES, MOST_SCRIPT_BYTES};
 pub use report::report_text;
 pub use script::{Script, parse};
-pub use strm_shared::{Line, Lines, MOST_WORKERS, Parts};
+pub use strm_pool::{Line, Lines, MOST_WORKERS, Parts};
 pub use transcript::reply_text;

@@ -1,6 +1,6 @@
 //! A script as data: the configuration of a pool, and the command lines of its workers.
 ghost use Rattle.std.specs.Prelude.{◌≤◌, IfOk, length, sum_by};
-ghost use Rattle.strm_shared.specs.Limits.{most_workers};
+ghost use Rattle.strm_pool.specs.Limits.{most_workers};
 ghost use Rattle.strm_script.specs.Limits.{most_command_lines, most_script_bytes};
 ghost use Rattle.strm_script.specs.Parsed.{Parses};
 ghost use Rattle.strm_script.specs.Script.{script_of};
@@ -9,8 +9,7 @@ use crate::cut::cut_line;
 use crate::draft::Draft;
 use crate::fault::{Fault, Kind, ParseFault};
 use std::alloc::Global;
-use strm_pool::Config;
-use strm_shared::Parts;
+use strm_pool::{Config, Parts};
 
 /// A script that was read without a fault.
 #[derive(Debug, Drop)]

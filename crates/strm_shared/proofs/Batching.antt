@@ -11,7 +11,7 @@ use borrow.Rule.Slice.PartMut.{post_of, put_mid, same_len_mid}
 use Rattle.strm_data.specs.declared.refusal.Refusal.{Refusal}
 use Rattle.strm_pool.specs.declared.call.Call.TheVariants.{Census}
 use Rattle.strm_pool.specs.declared.reply.Reply.{Reply}
-use Rattle.strm_shared.specs.declared.line.Line.{Line}
+use Rattle.strm_pool.specs.declared.line.Line.{Line}
 use Rattle.strm_shared.specs.declared.name.Name.{Ghosts}
 use Rattle.strm_shared.specs.Batches.{AreAfter, AreBatches, AreTurned, IsAfterBatch, IsAsAlone, batch_at}
 use Rattle.strm_shared.specs.Books.{BookValue, IsBookUnder, IsEnd, IsServed}

@@ -1,10 +1,7 @@
 -- The constants of the code are the numbers of the definitions.
 use Rattle.std.proofs.Common.{◌≡◌, refl}
-use Rattle.strm_shared.specs.declared.limits.TheConstants.{MOST_BATCH, MOST_STAMP, MOST_TRACE, MOST_WORKERS}
-use Rattle.strm_shared.specs.Limits.{most_batch, most_stamp, most_trace, most_workers}
-
-pub workers : MOST_WORKERS ≡ most_workers
-workers = refl
+use Rattle.strm_shared.specs.declared.limits.TheConstants.{MOST_BATCH, MOST_STAMP, MOST_TRACE}
+use Rattle.strm_shared.specs.Limits.{most_batch, most_stamp, most_trace}
 
 pub stamp : MOST_STAMP ≡ most_stamp
 stamp = refl

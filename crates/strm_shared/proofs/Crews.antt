@@ -5,7 +5,7 @@ use Rattle.std.proofs.Math.ListN.{get_or-append}
 use Rattle.std.proofs.Math.Seq.{get_or-append_seam}
 use Rattle.std.proofs.lemmas.Bool.{cases_eq}
 use Rattle.strm_pool.specs.declared.reply.Reply.{Reply}
-use Rattle.strm_shared.specs.declared.line.Line.{Line}
+use Rattle.strm_pool.specs.declared.line.Line.{Line}
 use Rattle.strm_shared.specs.declared.name.Name.{Ghosts}
 use Rattle.strm_shared.specs.declared.outcome.End.{End}
 use Rattle.strm_shared.specs.declared.outcome.End.TheVariants.{NotStarted}

@@ -10,7 +10,8 @@ use Rattle.strm_pool.specs.Registers.{CarryId, Entries}
 use Rattle.strm_shared.specs.declared.setup.Setup.{Setup}
 use Rattle.strm_shared.specs.declared.views.View.{View}
 use Rattle.strm_shared.specs.Desks.{empty_desk, fresh_desks}
-use Rattle.strm_shared.specs.Limits.{most_stamp, most_workers}
+use Rattle.strm_pool.specs.Limits.{most_workers}
+use Rattle.strm_shared.specs.Limits.{most_stamp}
 use Rattle.strm_shared.specs.Pairs.{Pair, count_in}
 use Rattle.strm_shared.specs.Seats.{new_known, no_entries, opening_history}
 use Rattle.strm_shared.specs.SeatsLayout.{IsAt, IsSeated, known_at}

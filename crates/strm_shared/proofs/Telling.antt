@@ -14,7 +14,7 @@ use Rattle.strm_pool.specs.PoolValue.{PoolValue}
 use Rattle.strm_pool.specs.Registers.{Entries, RegisterTable, entries_of, table_of}
 use Rattle.strm_pool.specs.Step.{DeskCall, Replay, Stepped, empty_tables, replay, replay_from, step, table_at}
 use Rattle.strm_pool.proofs.Replays.{replay_more, replay_push}
-use Rattle.strm_shared.specs.declared.entry.Entry.{Entry}
+use Rattle.strm_pool.specs.declared.line.Entry.{Entry}
 use Rattle.strm_shared.specs.Books.{BookValue, IsServed}
 use Rattle.strm_shared.specs.Chronicle.{AreTold, calls_of, chronicle_from, entry_of, heads_listed}
 use Rattle.strm_shared.specs.Desks.{DeskValue}

@@ -14,7 +14,7 @@ use Rattle.strm_pool.specs.PoolValue.{PoolValue, owns}
 use Rattle.strm_pool.specs.Registers.{AreAccounted, AreDistinct, CarryId, Entries, entries_of, register, table_of}
 use Rattle.strm_pool.specs.Step.{Applies, Stepped, is_named}
 use Rattle.strm_pool.proofs.Accounts.{accounted_distinct, accounted_owned, owned_carry}
-use Rattle.strm_shared.specs.declared.entry.Entry.{Entry}
+use Rattle.strm_pool.specs.declared.line.Entry.{Entry}
 use Rattle.strm_shared.specs.Chronicle.{entry_of}
 use Rattle.strm_shared.specs.Books.{BookValue, IsBookOf, IsServed, TellsNewest, book_value, end_of, pair_in, table_at}
 use Rattle.strm_shared.specs.Desks.{DeskValue, IsDeskOf, desk_value, newest}

@@ -10,7 +10,7 @@ use Rattle.strm_pool.specs.Lawful.{IsLawful}
 use Rattle.strm_pool.specs.PoolValue.{PoolValue}
 use Rattle.strm_pool.specs.Registers.{AreAccounted, Entries, entries_of, register, table_of}
 use Rattle.strm_pool.specs.Step.{is_named, replay, step}
-use Rattle.strm_shared.specs.declared.entry.Entry.{Entry}
+use Rattle.strm_pool.specs.declared.line.Entry.{Entry}
 use Rattle.strm_shared.specs.declared.name.Name.{Ghosts}
 use Rattle.strm_shared.specs.Chronicle.{AreTold, calls_of, entry_of, served_from}
 use Rattle.strm_shared.specs.Desks.{DeskValue, newest, with_pair_seen}

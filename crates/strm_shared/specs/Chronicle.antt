@@ -6,7 +6,7 @@ use Rattle.strm_pool.specs.declared.reply.Reply.{Reply}
 use Rattle.strm_pool.specs.PoolValue.{PoolValue}
 use Rattle.strm_pool.specs.Registers.{Entries, RegisterTable}
 use Rattle.strm_pool.specs.Step.{DeskCall, Replay, empty_tables, replay, step, table_at}
-use Rattle.strm_shared.specs.declared.entry.Entry.{Entry}
+use Rattle.strm_pool.specs.declared.line.Entry.{Entry}
 use Rattle.strm_shared.specs.Pairs.{Pair, pair_at}
 
 abbrev pub entry_of : ℕ → ℕ → Call → Reply → Entry

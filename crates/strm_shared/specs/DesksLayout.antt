@@ -3,7 +3,7 @@ use Rattle.std.specs.Prelude.{◌≤◌, List, map, length, Option, Some, None, 
 use Rattle.std.specs.List.{All}
 use Rattle.strm_shared.specs.declared.desk_slot.DeskSlot.{DeskSlot}
 use Rattle.strm_shared.specs.Desks.{DeskValue, no_desk}
-use Rattle.strm_shared.specs.Limits.{most_workers}
+use Rattle.strm_pool.specs.Limits.{most_workers}
 
 -- a slot has a desk
 abbrev pub IsFilled : {N : Type 0} → DeskSlot N → Type 0

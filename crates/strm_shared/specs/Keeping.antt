@@ -1,7 +1,7 @@
 -- What workers did, with their replies kept or not. No public clause cites this module.
 use Rattle.std.specs.Prelude.{◌≡◌, Bool, true, List}
 use Rattle.strm_pool.specs.declared.reply.Reply.{Reply}
-use Rattle.strm_shared.specs.declared.line.Line.{Line}
+use Rattle.strm_pool.specs.declared.line.Line.{Line}
 use Rattle.strm_shared.specs.declared.name.Name.{Ghosts}
 use Rattle.strm_shared.specs.declared.outcome.End.{End}
 use Rattle.strm_shared.specs.Desks.{DeskValue}

@@ -1,9 +1,5 @@
--- The limits of this crate: workers, stamps, trace entries and batches. src/limits.rt has a constant of each name.
+-- The limits of this crate: stamps, trace entries and batches. src/limits.rt has a constant of each name.
 use Rattle.std.specs.Prelude.{ℕ}
-
--- the greatest number of workers, and so of desks
-abbrev pub most_workers : ℕ
-most_workers = 16
 
 -- the last stamp, at which each call is refused
 abbrev pub most_stamp : ℕ

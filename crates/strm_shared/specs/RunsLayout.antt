@@ -2,7 +2,7 @@
 use Rattle.std.specs.Prelude.{◌≡◌, Bool, true, ℕ, ◌+◌, ◌≤◌, List, [], ◌∷◌, length, vec_capacity}
 use Rattle.std.specs.Global.{Vec}
 use Rattle.strm_pool.specs.declared.reply.Reply.{Reply}
-use Rattle.strm_shared.specs.declared.line.Line.{Line}
+use Rattle.strm_pool.specs.declared.line.Line.{Line}
 use Rattle.strm_shared.specs.declared.name.Name.{Ghosts}
 use Rattle.strm_shared.specs.declared.workers.carried.Carried.{Carried}
 use Rattle.strm_shared.specs.declared.workers.crew.Done.{Done}
@@ -11,7 +11,7 @@ use Rattle.strm_shared.specs.declared.workers.started.Started.{Started}
 use Rattle.strm_shared.specs.declared.workers.started.Started.TheVariants.{Running, Not}
 use Rattle.strm_shared.specs.Desks.{DeskValue}
 use Rattle.strm_shared.specs.Keeping.{WorkedKeeping}
-use Rattle.strm_shared.specs.Limits.{most_workers}
+use Rattle.strm_pool.specs.Limits.{most_workers}
 
 -- there is no reply yet; if replies are kept, there is room for one to each line
 abbrev pub IsReady : Bool → List Line → Vec Reply → Type 0

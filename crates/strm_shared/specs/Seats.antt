@@ -10,7 +10,7 @@ use Rattle.strm_pool.specs.declared.call.Call.TheVariants.{Census}
 use Rattle.strm_pool.specs.declared.reply.Reply.TheVariants.{Done}
 use Rattle.strm_pool.specs.Limits.{most_registers}
 use Rattle.strm_pool.specs.Registers.{Entries}
-use Rattle.strm_shared.specs.declared.entry.Entry.{Entry}
+use Rattle.strm_pool.specs.declared.line.Entry.{Entry}
 use Rattle.strm_shared.specs.declared.views.History.{History}
 use Rattle.strm_shared.specs.declared.views.Known.{Known}
 use Rattle.strm_shared.specs.declared.views.View.{View}

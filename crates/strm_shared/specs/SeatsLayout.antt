@@ -8,7 +8,7 @@ use Rattle.strm_pool.specs.Registers.{Entries, entries_of}
 use Rattle.strm_shared.specs.Books.{BookValue, book_value}
 use Rattle.strm_shared.specs.Chronicle.{served_from}
 use Rattle.strm_shared.specs.Desks.{DeskValue, IsDeskOf}
-use Rattle.strm_shared.specs.declared.entry.Entry.{Entry}
+use Rattle.strm_pool.specs.declared.line.Entry.{Entry}
 use Rattle.strm_shared.specs.declared.views.History.{History}
 use Rattle.strm_shared.specs.declared.views.Known.{Known}
 use Rattle.strm_shared.specs.declared.views.View.{View}

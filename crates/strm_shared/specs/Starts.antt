@@ -6,7 +6,8 @@ use Rattle.strm_pool.specs.declared.config.NewFault.TheVariants.{BadConfig, BadS
 use Rattle.strm_pool.specs.PoolValue.{PoolValue, opening_pool}
 use Rattle.strm_shared.specs.declared.name.Name.{Ghosts}
 use Rattle.strm_shared.specs.declared.setup.Setup.{Setup}
-use Rattle.strm_shared.specs.Limits.{most_stamp, most_workers}
+use Rattle.strm_pool.specs.Limits.{most_workers}
+use Rattle.strm_shared.specs.Limits.{most_stamp}
 use Rattle.strm_shared.specs.Traces.{is_bad_trace, most_of}
 
 -- The pool, the board with its word, the number of desks, the stamp before the first call, the greatest number of trace

@@ -5,7 +5,8 @@ use Rattle.atomic_table.specs.Seated.{TableId}
 use Rattle.strm_mblk.specs.Arena.{census_of}
 use Rattle.strm_pool.specs.PoolValue.{PoolValue}
 use Rattle.strm_shared.specs.declared.views.View.{View}
-use Rattle.strm_shared.specs.Limits.{most_stamp, most_workers}
+use Rattle.strm_pool.specs.Limits.{most_workers}
+use Rattle.strm_shared.specs.Limits.{most_stamp}
 use Rattle.strm_shared.specs.Seats.{opening_history}
 use Rattle.strm_shared.specs.SeatsLayout.{IsLock}
 use Rattle.strm_shared.specs.Pairs.{Pair}

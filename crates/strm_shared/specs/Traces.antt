@@ -1,7 +1,7 @@
 -- The trace of a shared pool: which served calls are kept, and when it is full.
 use Rattle.std.specs.Prelude.{◌≡◌, ℕ, ◌≤◌, ◌==◌, Bool, false, not, ◌&&◌, nat_le, List, [], length, Option, None, Some, IfSome}
 use Rattle.std.specs.Option.{option_map_or}
-use Rattle.strm_shared.specs.declared.entry.Entry.{Entry}
+use Rattle.strm_pool.specs.declared.line.Entry.{Entry}
 use Rattle.strm_shared.specs.declared.setup.Trace.{Trace}
 use Rattle.strm_shared.specs.declared.setup.Trace.TheVariants.{Keep, Off}
 use Rattle.strm_shared.specs.Limits.{most_trace}

@@ -10,9 +10,9 @@ ghost use Rattle.strm_shared.specs.declared.views.History.{History};
 ghost use Rattle.strm_shared.specs.declared.views.Known.{Known};
 ghost use Rattle.strm_shared.specs.declared.views.View.TheVariants.{At};
 
-use crate::entry::Told;
 use crate::name::Name;
 use crate::rule::{Loads, NewDesk, Reads, Says, Stores, Visits, WordRule};
+use crate::told::Told;
 use crate::views::View;
 use crate::word::{pack, unpack};
 use atomic_table::{Seat, Table};

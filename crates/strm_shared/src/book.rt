@@ -7,18 +7,17 @@ ghost use Rattle.strm_shared.specs.Desks.{with_pair_seen};
 
 use crate::board::Board;
 use crate::desk::Desk;
-use crate::entry::Told;
 use crate::held::Held;
 use crate::kept_trace::KeptTrace;
 use crate::limits::MOST_STAMP;
-use crate::line::Line;
 use crate::name::Name;
 use crate::shared::Shared;
+use crate::told::Told;
 use crate::views::View;
 use atomic_table::Seat;
 use std::marker::{Brand, Model, PhantomData};
 use std::sync::ledger::{self, Ledger, Share};
-use strm_pool::{Call, Pool, Refusal, Reply};
+use strm_pool::{Call, Line, Pool, Refusal, Reply};
 
 /// What the lock of a shared pool guards: the pool, the stamp, the trace, if kept, and the seat that stores the word. Each
 /// served call raises the stamp by 1 and stores the word once. In contracts the seat knows the table of each desk's registers.

@@ -4,7 +4,7 @@ ghost use Rattle.std.specs.List.Sorted.{IsNonDecreasingBy};
 ghost use Rattle.strm_links.specs.Counting.{times};
 ghost use Rattle.strm_shared.specs.Desks.{DeskValue, with_pair_seen};
 ghost use Rattle.strm_shared.specs.Ledger.{blocks_at};
-ghost use Rattle.strm_shared.specs.Limits.{most_workers};
+ghost use Rattle.strm_pool.specs.Limits.{most_workers};
 ghost use Rattle.strm_shared.specs.Pairs.{pair_at};
 ghost use Rattle.strm_shared.specs.SeatsLayout.{AreGuestsShown, IsLock, IsDeskOfHistory};
 ghost use Rattle.strm_shared.specs.declared.views.History.{History};
@@ -14,14 +14,13 @@ use crate::board::Board;
 use crate::desk::Desk;
 use crate::desk_slot::DeskSlot;
 use crate::held::Held;
-use crate::limits::MOST_WORKERS;
 use crate::name::Name;
 use crate::views::View;
 use arrayvec::ArrayVec;
 use atomic_table::Seat;
 use std::marker::Model;
 use std::sync::ledger::{self, Share};
-use strm_pool::Census;
+use strm_pool::{Census, MOST_WORKERS};
 
 /// At most `MOST_WORKERS` desks of one shared pool, in order, stored in the value itself: no call allocates. A list cannot be
 /// cloned or dropped; `forget` loses it with all that its desks have.

@@ -3,10 +3,11 @@ ghost use Rattle.std.specs.Prelude.{◌≡◌, ◌++◌, ◌∷◌, [], false, I
 ghost use Rattle.strm_shared.specs.Chronicle.{entry_of};
 ghost use Rattle.strm_shared.specs.Traces.{empty_trace, entries_kept, is_full, most_of};
 
-use crate::entry::{Entry, Told};
 use crate::setup::Trace;
+use crate::told::Told;
 use std::alloc::{AllocError, Global};
 use std::marker::Model;
+use strm_pool::Entry;
 
 // The entries of served calls, if they are kept, with room for as many as there may be.
 #[derive(Debug, Drop)]

@@ -1,7 +1,4 @@
-//! The limits of this crate: workers, stamps, trace entries and batches.
-
-/// The greatest number of workers, and so of desks.
-pub const MOST_WORKERS: usize = 16;
+//! The limits of this crate: stamps, trace entries and batches.
 
 /// The last stamp: a shared pool that has reached it refuses each call as `Worn`.
 pub const MOST_STAMP: u64 = 68_719_476_735;

@@ -2,9 +2,8 @@
 ghost use Rattle.std.specs.Prelude.{◌≡◌};
 
 use crate::desks::Desks;
-use crate::listed::{AllReplies, Ends};
 use crate::name::Name;
-use strm_pool::Refusal;
+use strm_pool::{AllReplies, Listed, Refusal};
 
 /// How a worker ended.
 #[derive(Clone, Copy, Debug, PartialEq, Eq)]
@@ -17,6 +16,9 @@ pub enum End {
     /// The worker was not started, since there was no thread for it.
     NotStarted,
 }
+
+/// How each worker ended: worker 0, then worker 1, and so on.
+pub type Ends = Listed<End>;
 
 /// What workers return: their desks, the replies to each in order, one for each served line, and how each ended.
 pub struct Outcome<N: Name> {

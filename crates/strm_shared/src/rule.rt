@@ -8,7 +8,7 @@ use strm_pool::Census;
 // The entry of one call, and the table of the desk's registers after it, in contracts only.
 pub(crate) trait Says {
     ghost use Rattle.strm_pool.specs.Registers.{Entries};
-    ghost use Rattle.strm_shared.specs.declared.entry.Entry.{Entry};
+    ghost use Rattle.strm_pool.specs.declared.line.Entry.{Entry};
 
     ghost entry: { Entry };
 

@@ -3,7 +3,8 @@ ghost use Rattle.std.specs.Prelude.{◌≡◌};
 ghost use Rattle.strm_shared.specs.Starts.{is_bad_shared};
 ghost use Rattle.strm_shared.specs.Traces.{is_bad_trace};
 
-use crate::limits::{MOST_STAMP, MOST_TRACE, MOST_WORKERS};
+use crate::limits::{MOST_STAMP, MOST_TRACE};
+use strm_pool::MOST_WORKERS;
 
 /// Whether a trace of served calls is kept.
 #[derive(Clone, Copy, Debug, PartialEq, Eq)]

@@ -16,12 +16,10 @@ use crate::desk::Desk;
 use crate::desk_count::DeskCount;
 use crate::desks::Desks;
 use crate::limits::MOST_BATCH;
-use crate::line::Line;
-use crate::listed::TraceEntries;
 use crate::name::Name;
 use std::hint::spin_loop;
 use std::sync::{Mutex, MutexGuard, Wait};
-use strm_pool::{Call, Census, Pool, Refusal, Reply};
+use strm_pool::{Call, Census, Line, Pool, Refusal, Reply, TraceEntries};
 
 // How many times a thread looks whether the lock is free before it sleeps.
 const LOOKS: u32 = 16;

@@ -1,15 +1,14 @@
 //! A list of spent desks, which keeps what they were served.
 ghost use Rattle.std.specs.Prelude.{◌≡◌, ◌<◌, ◌∷◌, [], length};
-ghost use Rattle.strm_shared.specs.Limits.{most_workers};
+ghost use Rattle.strm_pool.specs.Limits.{most_workers};
 
 use crate::desk::Desk;
-use crate::limits::MOST_WORKERS;
 use crate::name::Name;
 use crate::views::View;
 use arrayvec::ArrayVec;
 use atomic_table::Seat;
 use std::marker::Model;
-use strm_pool::Regs;
+use strm_pool::{MOST_WORKERS, Regs};
 
 /// At most `MOST_WORKERS` spent desks, in order. Contracts see the calls that each was served, with their stamps. A desk's seat
 /// knows them, and only [`SpentDesks::spend`] adds a seat. The list cannot be cloned; it has no tokens and may be dropped.
@@ -20,7 +19,7 @@ pub struct SpentDesks {
 
 impl Model for SpentDesks {
     ghost use Rattle.std.specs.Prelude.{ℕ, List, map};
-    ghost use Rattle.strm_shared.specs.declared.entry.Entry.{Entry};
+    ghost use Rattle.strm_pool.specs.declared.line.Entry.{Entry};
     ghost use Rattle.strm_shared.specs.SeatsLayout.{known_in};
 
     ghost Value = { List (List (ℕ × Entry)) };

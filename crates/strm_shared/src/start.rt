@@ -3,7 +3,7 @@ ghost use Rattle.std.specs.Prelude.{◌≡◌, ◌≤◌, [], ◌∷◌, length}
 ghost use Rattle.strm_mblk.specs.Arena.{census_of};
 ghost use Rattle.strm_mblk.specs.Limits.{most_message_blocks};
 ghost use Rattle.strm_shared.specs.Desks.{fresh_desks};
-ghost use Rattle.strm_shared.specs.Limits.{most_workers};
+ghost use Rattle.strm_pool.specs.Limits.{most_workers};
 ghost use Rattle.strm_shared.specs.Pairs.{count_in, pair_at};
 ghost use Rattle.strm_shared.specs.Seats.{opening_history};
 ghost use Rattle.strm_shared.specs.SeatsLayout.{IsLock};

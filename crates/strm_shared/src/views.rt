@@ -1,7 +1,6 @@
 //! Views: what the seats at the word of a shared pool know. Only contracts see them; no value of these types is made.
-use crate::entry::Entry;
 use std::collections::LinkedList;
-use strm_pool::Census;
+use strm_pool::{Census, Entry};
 
 // What the lock's seat knows: all pairs from the opening pair on, the entry of each pair but the first, the number of desks,
 // and the table of each desk's registers.

@@ -14,7 +14,6 @@ mod worker;
 
 use crate::desks::Desks;
 use crate::gate::Gate;
-use crate::listed::{Lines, Parts};
 use crate::name::Name;
 use crate::outcome::{BareOutcome, Outcome};
 use crate::shared::Shared;
@@ -25,6 +24,7 @@ use std::alloc::{AllocError, Global};
 use std::sync::Wait;
 use std::thread;
 use std::thread::Threads;
+use strm_pool::{Lines, Parts};
 
 /// Serves each part on its own thread, on the desk at the same place, and waits for all. The gate is called around each line.
 /// There must be as many desks as parts; there may be none.

@@ -12,7 +12,7 @@ use Rattle.strm_links.specs.Counting.{times}
 use Rattle.strm_links.proofs.lists.Counting.{times-cons, times_here}
 use Rattle.strm_mblk.specs.Limits.{most_message_blocks}
 use Rattle.strm_pool.specs.Registers.{Entries}
-use Rattle.strm_shared.specs.declared.entry.Entry.{Entry}
+use Rattle.strm_pool.specs.declared.line.Entry.{Entry}
 use Rattle.strm_shared.specs.declared.views.History.{History}
 use Rattle.strm_shared.specs.declared.views.Known.{Known}
 use Rattle.strm_shared.specs.declared.views.View.{View}

@@ -4,7 +4,7 @@ use Rattle.std.specs.Prelude.{All}
 use Rattle.atomic_table.specs.Table.{Me}
 use Rattle.strm_links.specs.Counting.{times}
 use Rattle.strm_pool.specs.Registers.{Entries}
-use Rattle.strm_shared.specs.declared.entry.Entry.{Entry}
+use Rattle.strm_pool.specs.declared.line.Entry.{Entry}
 use Rattle.strm_shared.specs.declared.views.History.{History}
 use Rattle.strm_shared.specs.declared.views.Known.{Known}
 use Rattle.strm_shared.specs.declared.views.View.{View}

@@ -1,7 +1,7 @@
 //! Workers on their way through a scope of threads.
 ghost use Rattle.std.specs.Prelude.{◌≡◌, ◌+◌, ◌≤◌, [], ℕ, length};
 ghost use Rattle.strm_shared.specs.Keeping.{AllWorkedKeeping};
-ghost use Rattle.strm_shared.specs.Limits.{most_workers};
+ghost use Rattle.strm_pool.specs.Limits.{most_workers};
 ghost use Rattle.strm_shared.specs.RunsLayout.{AreReady, HasRoom, IsCarried, IsEmpty, IsRoomFor};
 
 use super::crew::{Crew, Done};
@@ -10,12 +10,11 @@ use super::site::Site;
 use super::started::{finish, start};
 use crate::desks::Desks;
 use crate::gate::Gate;
-use crate::limits::MOST_WORKERS;
-use crate::listed::{AllReplies, Ends, Lines};
 use crate::name::Name;
-use crate::outcome::Outcome;
+use crate::outcome::{Ends, Outcome};
 use std::sync::Wait;
 use std::thread::{Scope, Threads};
+use strm_pool::{AllReplies, Lines, MOST_WORKERS};
 
 // All workers: those that are not started, and what the others returned. A scope takes and returns only values that may be
 // dropped, which desks may not.

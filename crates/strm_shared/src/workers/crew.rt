@@ -5,10 +5,9 @@ ghost use Rattle.strm_shared.specs.RunsLayout.{HasRoom};
 
 use super::worker::Worker;
 use crate::desks::Desks;
-use crate::listed::{Listed, Replies};
 use crate::name::Name;
 use crate::outcome::End;
-use strm_pool::Reply;
+use strm_pool::{Listed, Replies, Reply};
 
 // Workers that are not started: their desks, and room for the replies to each.
 pub(super) struct Crew<N: Name> {

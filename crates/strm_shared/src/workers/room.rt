@@ -2,10 +2,9 @@
 ghost use Rattle.std.specs.Prelude.{◌≡◌, IfOk, length, true};
 ghost use Rattle.strm_shared.specs.RunsLayout.{AreReady, IsRoomFor};
 
-use crate::listed::{Lines, Replies};
 use crate::outcome::End;
 use std::alloc::{AllocError, Global};
-use strm_pool::Reply;
+use strm_pool::{Lines, Replies, Reply};
 
 // The memory that serving some parts takes.
 #[derive(Drop)]

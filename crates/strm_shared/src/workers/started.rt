@@ -8,11 +8,11 @@ use super::site::Site;
 use super::worker::Worker;
 use crate::desk::Desk;
 use crate::gate::Gate;
-use crate::line::Line;
 use crate::name::Name;
 use std::snapshot::Snapshot;
 use std::sync::Wait;
 use std::thread::{Promise, PromisedHandle, Scope, Threads};
+use strm_pool::Line;
 
 // What a worker's thread promises: it serves these lines on the desk as it was, and keeps the replies or not.
 pub(super) struct Serves<'a, N: Name> {

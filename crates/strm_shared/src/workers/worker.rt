@@ -6,11 +6,10 @@ ghost use Rattle.strm_shared.specs.RunsLayout.{IsReady};
 use super::site::Site;
 use crate::desk::Desk;
 use crate::gate::Gate;
-use crate::line::Line;
 use crate::name::Name;
 use crate::outcome::End;
 use std::sync::Wait;
-use strm_pool::Reply;
+use strm_pool::{Line, Reply};
 
 // A worker: its desk, its replies, with room for all that are kept, and how it ended. Threads take and return only values that
 // may be dropped; a worker that is dropped loses its desk.

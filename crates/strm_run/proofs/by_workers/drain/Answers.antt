@@ -2,7 +2,7 @@ use Rattle.std.proofs.Common.{◌≡◌, ℕ, List, [], ◌∷◌, ◌++◌, len
 use Rattle.std.proofs.lemmas.List.{length_push, map-append}
 use Rattle.strm_pool.specs.PoolValue.{PoolValue, with_tokens_spent}
 use Rattle.strm_pool.specs.Registers.{CarryId}
-use Rattle.strm_shared.specs.declared.entry.Entry.{Entry}
+use Rattle.strm_pool.specs.declared.line.Entry.{Entry}
 use Rattle.strm_shared.specs.Desks.{DeskValue}
 use Rattle.strm_run.specs.Holding.{AreHeldAlike}
 use Rattle.strm_run.proofs.Holding.{drained_alike, entries_at, last_drained}

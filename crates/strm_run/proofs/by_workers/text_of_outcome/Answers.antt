@@ -2,7 +2,7 @@ use Rattle.std.proofs.Common.{◌≡◌, ℕ, false, List, ap, sym, ◌∙◌, �
 use Rattle.std.specs.List.{flat_map, list_any}
 use Rattle.std.proofs.lemmas.Result.{IfOk-weaker}
 use Rattle.strm_pool.specs.PoolValue.{opening_pool}
-use Rattle.strm_shared.specs.declared.entry.Entry.{Entry}
+use Rattle.strm_pool.specs.declared.line.Entry.{Entry}
 use Rattle.strm_script.specs.declared.script.Script.{Script}
 use Rattle.strm_script.specs.Text.{entry_text, report_text}
 use Rattle.strm_run.specs.declared.runs.Mode.TheVariants.{Workers}

@@ -1,6 +1,6 @@
 use Rattle.std.proofs.Common.{◌≡◌, [], ◌∷◌, arith, ap, sym, ◌∙◌}
 use Rattle.strm_pool.specs.Registers.{entries_of}
-use Rattle.strm_shared.specs.declared.entry.Entry.{Entry}
+use Rattle.strm_pool.specs.declared.line.Entry.{Entry}
 use Rattle.strm_shared.specs.declared.views.History.{History}
 use Rattle.strm_shared.specs.declared.views.Known.{Known}
 use Rattle.strm_shared.specs.Pairs.{count_in, pair_at}

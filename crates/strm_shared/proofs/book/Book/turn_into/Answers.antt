@@ -8,7 +8,7 @@ use Rattle.strm_shared.specs.Chronicle.{entry_of}
 use Rattle.strm_shared.specs.Seats.{IsOf}
 use Rattle.strm_shared.specs.SeatsLayout.{IsAt, book_with, history_at, known_at, known_in}
 use Rattle.strm_shared.specs.Traces.{IsTraceOf, is_full}
-use Rattle.strm_shared.specs.declared.entry.Entry.{Entry}
+use Rattle.strm_pool.specs.declared.line.Entry.{Entry}
 use Rattle.strm_shared.proofs.Turning.{IsKnown, Turns, held_moved, owned, turns}
 use Rattle.strm_shared.proofs.Telling.{told_next}
 use Rattle.strm_shared.proofs.Tracing.{trace_next}

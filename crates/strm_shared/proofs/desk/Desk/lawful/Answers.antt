@@ -1,7 +1,7 @@
 use Rattle.std.proofs.Common.{ℕ, [], subst, length}
 use Rattle.std.specs.Prelude.{All}
 use Rattle.std.proofs.lemmas.List.Elements.{All-head}
-use Rattle.strm_shared.specs.declared.entry.Entry.{Entry}
+use Rattle.strm_pool.specs.declared.line.Entry.{Entry}
 use Rattle.strm_shared.specs.Desks.{DeskValue}
 use Rattle.strm_shared.specs.Pairs.{AreSeen, HasStamp}
 use Rattle.strm_shared.specs.Seats.{IsOf}

@@ -1,7 +1,7 @@
 use Rattle.std.proofs.Common.{rules, ◌≡◌, ◌+◌, ◌<◌, ◌≤◌, true, [], ◌++◌, ◌∷◌, length, vec_capacity, get_or, Ok, true≢false, refl, ap, sym, ◌∙◌, subst, arith, length-append}
 use Rattle.std.specs.Global.{Vec}
 use Rattle.strm_pool.specs.declared.reply.Reply.{Reply}
-use Rattle.strm_shared.specs.declared.line.Line.{Line}
+use Rattle.strm_pool.specs.declared.line.Line.{Line}
 use Rattle.strm_shared.specs.Books.{IsAfter}
 use Rattle.strm_shared.proofs.Crews.{kept_more, served_more}
 use Rattle.strm_shared.proofs.workers.worker.Worker.work.Goals as goal

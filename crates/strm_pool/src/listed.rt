@@ -1,11 +1,9 @@
-//! Lists over vectors, for lines, replies, entries and ends.
+//! Lists over vectors, for lines, replies and entries.
 ghost use Rattle.std.specs.Prelude.{◌≡◌};
 
-use crate::entry::Entry;
-use crate::line::Line;
-use crate::outcome::End;
+use crate::line::{Entry, Line};
+use crate::reply::Reply;
 use std::marker::Model;
-use strm_pool::Reply;
 
 /// A list that is made from a vector and returns it, without allocating.
 #[derive(Debug, Drop)]
@@ -27,9 +25,6 @@ pub type AllReplies = Listed<Replies>;
 
 /// The entries of a trace, in the order in which their calls were served.
 pub type TraceEntries = Listed<Entry>;
-
-/// How each worker ended: worker 0, then worker 1, and so on.
-pub type Ends = Listed<End>;
 
 impl<T> Model for Listed<T> {
     ghost use Rattle.std.specs.Prelude.{List};
