@@ -41,109 +41,115 @@ MODULES := $(shell cd tools && find strm_tools -name __pycache__ -prune -o -type
 # Stops make with one line if there is no `rt`.
 NEEDS_RT = $(if $(shell command -v rt 2>/dev/null),,$(error no rt on PATH, so nothing is proved or built; the archive of a release has strm and libstrm.a, and make install-tools installs the tools that need Python alone (README.md, "Without rt")))
 
-.PHONY: run try test check gate-times cases planted edits lint soak field view-test pictures bench bench-lines bench-library bench-batches bench-census bench-header bench-lock bench-c bench-peers strm install install-pages install-tools install-docs lib install-lib dist vendor
+.PHONY: run help try test check gate-times cases planted edits lint soak field view-test pictures bench bench-lines bench-library bench-batches bench-census bench-header bench-lock bench-c bench-peers strm install install-pages install-tools install-docs lib install-lib dist vendor
 
-# Runs examples/first_run.strm on the proved program.
+# Runs examples/first_run.strm on the proved program (default). `make` alone does this and does not list rules, so that people who type `make`
+# and then `sudo make install` do not prove the program as root.
 run: $(BUILT)
 	@$(BUILT) --serial <examples/first_run.strm
 
-# Executes SCRIPT, by default examples/first_run.strm, on the program without proving it. Of what `rt` says this shows only a failure.
+# Lists these rules. What a line says is the first sentence of the comment above the rule.
+help:
+	@awk '/^#/ { text = text substr($$0, 2); next } /^[a-z-]+:/ && text { sub(/\. .*|\.$$/, "", text); sub(/:.*/, ""); printf "%-14s%s\n", $$0, text } { text = "" }' Makefile
+
+# Executes SCRIPT, by default examples/first_run.strm, unproved. Of what `rt` says this shows only a failure.
 try:
 	$(NEEDS_RT)
 	@echo "nothing is proved here: strm is built without its proofs, which takes one to two minutes, and executes $(SCRIPT)" >&2
 	@{ cd crates/strm_driver && rt try -- --serial 2>&1 >&3 | { grep -vE '^(checked|races): |^run=' >&2 || true; }; } 3>&1 <"$(SCRIPT)"
 
-# The whole gate: all proofs, the edits that must be refused, the tests and cases.
+# Runs the gate: all proofs, edits to be refused, tests and cases.
 test:
 	$(NEEDS_RT)
 	@.ci/run
 
-# What of the gate needs no proof, in a few minutes.
+# Runs what of the gate needs no proof, in a few minutes.
 check:
 	$(NEEDS_RT)
 	@.ci/check
 
-# Runs the gate, and puts the processor time of each part into docs/GATE.md.
+# Runs the gate, and puts its processor times into docs/GATE.md.
 gate-times:
 	$(NEEDS_RT)
 	@.ci/run && .ci/times put build/gate-times.md docs/GATE.md
 
-# Runs cases of tests/cases on the proved program: all, or those that CASES names. Trying a new case takes seconds.
+# Runs all of tests/cases, or those that CASES names. They run on the proved program; trying a new case takes seconds.
 cases: $(BUILT)
 	@tests/run_cases $(BUILT) $(CASES)
 
-# Puts each wrong body of tests/bodies into a copy of the crates, and requires the body's tests to fail. It proves nothing.
+# Requires tests to fail for each wrong body of tests/bodies. It puts these into a copy of the crates, and proves nothing.
 planted:
 	$(NEEDS_RT)
 	@tests/planted
 
-# Tries the edits that the gate leaves out, and requires the prover to refuse each. CRATES names crates, if not all.
+# Requires the prover to refuse the edits that the gate leaves out. CRATES names crates, if not all.
 edits:
 	$(NEEDS_RT)
 	@tests/edits $(CRATES)
 
-# Checks the shell scripts with shellcheck and the Python programs with a linter.
+# Checks scripts with shellcheck, and Python with pyflakes3.
 lint:
 	@tests/lint
 
-# Workers execute random scripts for a minute, and the plain model replays what they print. OPTIONS are those of tests/soak, as --seconds N.
+# Has workers execute random scripts, and checks what they print. The plain model replays it. OPTIONS are those of tests/soak, as --seconds N;
+# by default it takes a minute.
 soak: $(BUILT)
 	@tests/soak $(OPTIONS) $(BUILT)
 
-# Executes recorded calls of ppp's STREAMS modules and lwIP's buffers, whose sources it fetches from Debian (tests/field). OPTIONS are those
-# of tests/field/run, as --scripts N. With KEEP=DIR, that folder gets the recordings and their pages.
+# Records calls of ppp and lwIP, and executes them (tests/field). It fetches the sources of both from Debian. OPTIONS are those of
+# tests/field/run, as --scripts N. With KEEP=DIR, that folder gets the recordings and their pages.
 field: $(BUILT)
 	@tests/field/run $(if $(KEEP),--keep $(KEEP)) $(OPTIONS) $(BUILT)
 
-# Moves through pages of tools/strm-view in Chromium, measures how fast a page of 100,000 lines is, and puts pictures of some pages into
+# Tests pages of tools/strm-view in Chromium. It measures how fast a page of 100,000 lines is, and puts pictures of some pages into
 # build/view. It needs no `rt`. If there is no Chromium, it installs one if apt-get may.
 view-test:
 	@tests/view_in_browser build/view
 
-# Draws the pictures in docs/ again, each with the arguments that it contains, and makes the example page. It needs Chromium.
+# Draws the pictures in docs again, and makes its example page. Each picture contains its arguments. It needs Chromium.
 pictures:
 	@tools/strm-view examples/recorded/ppp.strm examples/recorded/ppp.text --output docs/example.html
 	@for picture in docs/pictures/*.svg; do tools/strm-view $$(sed -n 's:^<desc>\(.*\)</desc>$$:\1:p' $$picture) --output $$picture || exit 1; done
 
-# Prints what a line, a call of the libraries, one in a batch, a look at the census, a header, a lock and a call from C cost. OPTIONS are those of all, as --write for
-# docs/. With PEERS=1, also what bench-peers prints.
+# Runs bench-lines to bench-c, and with PEERS=1 bench-peers. OPTIONS are those of all, as --write for docs/.
 bench: bench-lines bench-library bench-batches bench-census bench-header bench-lock bench-c
 
 # Prints what a line and a call of each word cost. OPTIONS are those of bench/run.py, as --instructions, or --write for docs/.
 bench-lines: $(BUILT)
 	@python3 bench/run.py $(OPTIONS) $(BUILT)
 
-# Prints what calls of the libraries cost, with tokens, with registers and at a shared pool. OPTIONS are those of bench/library.py, as
-# --write for docs/.
+# Prints what calls of the libraries cost. They are made with tokens, with registers and at a shared pool. OPTIONS are those of
+# bench/library.py, as --write for docs/.
 bench-library: $(ROUNDS)
 	@python3 bench/library.py $(OPTIONS) $(ROUNDS)
 
-# Prints what calls at a shared pool cost in batches, on one thread and on four. OPTIONS are those of bench/batches.py, as --write for docs/.
+# Prints what calls at a shared pool cost in batches. One thread makes them, and four. OPTIONS are those of bench/batches.py, as --write for
+# docs/.
 bench-batches: $(ROUNDS)
 	@python3 bench/batches.py $(OPTIONS) $(ROUNDS)
 
-# Prints what a look at the census without the lock costs, beside workers too. OPTIONS are those of bench/census.py.
+# Prints what a look at the census without the lock costs. Workers run beside some. OPTIONS are those of bench/census.py.
 bench-census: $(BUILT)
 	$(NEEDS_RT)
 	@python3 bench/census.py $(OPTIONS)
 
-# Prints what a header that is rewritten in place costs, beside plain Rust. OPTIONS are those of bench/header.py.
+# Prints what a header costs that is rewritten in place. Beside it is plain Rust. OPTIONS are those of bench/header.py.
 bench-header: $(BUILT)
 	$(NEEDS_RT)
 	@python3 bench/header.py $(OPTIONS)
 
-# Prints what a line by four workers costs, beside the floor of one lock. OPTIONS are those of bench/lock.py.
+# Prints what a line by four workers costs, and a lock alone. OPTIONS are those of bench/lock.py.
 bench-lock: $(BUILT)
 	@python3 bench/lock.py $(OPTIONS) $(BUILT)
 
-# Prints what calls of strm.h cost, beside the calls that they make and those of a pool in C. OPTIONS are those of bench/c.py, as --write for
-# docs/. With PEERS=1, also what bench-peers prints.
+# Prints what calls of strm.h cost, and those of a pool in C. Beside them are the calls that those of strm.h make. OPTIONS are those of
+# bench/c.py, as --write for docs/. With PEERS=1, also what bench-peers prints.
 bench-c: build/libstrm.a $(ROUNDS)
 	@python3 bench/c.py $(OPTIONS) build/libstrm.a $(ROUNDS)
 	@$(if $(PEERS),python3 bench/peers.py $(OPTIONS) build/libstrm.a)
 
-# Prints what the same work costs over strm.h, a pool in C, DPDK, lwIP and GLib, and names those whose Debian package is not installed. OPTIONS
-# are those of bench/peers.py, as --write for docs/.
+# Prints what the same work costs over strm.h, DPDK, lwIP and GLib. A pool in C does it too. This names those whose Debian package is not
+# installed. OPTIONS are those of bench/peers.py, as --write for docs/.
 bench-peers: build/libstrm.a
 	@python3 bench/peers.py $(OPTIONS) build/libstrm.a
 
@@ -153,19 +159,19 @@ strm: build/strm
 build/strm: $(BUILT)
 	@install -D -m 755 $(BUILT) build/strm
 
-# Installs the proved program as PREFIX/bin/strm, the library for C, the tools, the manuals and the examples.
+# Installs strm, the library for C, tools and pages below PREFIX. The program and the library are proved first.
 install: $(BUILT) install-pages install-tools install-docs install-lib
 	install -D -m 755 $(BUILT) $(DESTDIR)$(PREFIX)/bin/strm
 
-# Installs the manuals of section 1 and the completions of bash and zsh, for which nothing is built. The completions of strm are also those of
-# the tools.
+# Installs the manuals of section 1 and the completions of shells. These are bash and zsh, and nothing is built. The completions of strm are
+# also those of the tools.
 install-pages:
 	for page in man/*.1; do sed 's/@VERSION@/$(VERSION)/' $$page | install -D -m 644 /dev/stdin $(SHARE)/man/$${page/man/man1} || exit; done
 	install -D -m 644 completions/strm.bash $(SHARE)/bash-completion/completions/strm
 	install -D -m 644 completions/_strm $(SHARE)/$(ZSH)/_strm
 	for tool in $(TOOLS); do ln -sf strm $(SHARE)/bash-completion/completions/$$tool || exit; done
 
-# Installs the tools, which need Python alone, in PREFIX/share/strm with links in PREFIX/bin, and their manuals.
+# Installs the tools, which need Python alone, and their manuals. The tools are in PREFIX/share/strm, with links in PREFIX/bin.
 install-tools: install-pages
 	rm -rf $(SHARE)/strm/strm_tools
 	for file in $(MODULES); do install -D -m 644 tools/$$file $(SHARE)/strm/$$file || exit; done
@@ -173,8 +179,8 @@ install-tools: install-pages
 	install -d $(DESTDIR)$(PREFIX)/bin
 	for tool in $(TOOLS); do install -m 755 tools/$$tool $(SHARE)/strm && ln -sf ../share/strm/$$tool $(DESTDIR)$(PREFIX)/bin/$$tool || exit; done
 
-# Installs the examples, the licence, what README.md is for users of what is installed, and the pages of docs that they read, in
-# PREFIX/share/strm. In share/doc, which images for containers often leave out, are links to them.
+# Installs the examples and the pages for users. These are the licence, what README.md is for users of what is installed, and the pages of
+# docs that they read. All are in PREFIX/share/strm. In share/doc, which images for containers often leave out, are links to them.
 install-docs:
 	for file in $$(find examples -type f); do install -D -m 644 $$file $(SHARE)/strm/$$file || exit; done
 	install -m 644 LICENSE $(SHARE)/strm/LICENSE
@@ -182,7 +188,7 @@ install-docs:
 	install -d $(SHARE)/doc/strm
 	for name in README.md LICENSE docs examples; do rm -rf $(SHARE)/doc/strm/$$name && ln -s ../../strm/$$name $(SHARE)/doc/strm || exit; done
 
-# Puts the library for C at build/libstrm.a, the shared library at build/libstrm.so, and the pkg-config file at build/strm.pc.
+# Builds the library for C, build/libstrm.a and build/libstrm.so. The pkg-config file is build/strm.pc.
 lib: build/libstrm.a build/libstrm.so build/strm.pc
 
 # The functions of the toolchain's heap, which get names that begin with strm_.
@@ -218,8 +224,8 @@ FORCE:
 # Where the library is installed.
 LIB := $(DESTDIR)$(PREFIX)/lib
 
-# Installs both libraries for C with their header, what pkg-config and CMake find them by, and their pages of section 3. Then it prints the
-# lines that let pkg-config and the loader find them, unless they are to be moved from DESTDIR.
+# Installs both libraries for C, their header and their manuals. With them is what pkg-config and CMake find them by. Then it prints the lines
+# that let pkg-config and the loader find them, unless they are to be moved from DESTDIR.
 install-lib: build/libstrm.a build/libstrm.so
 	install -D -m 644 build/libstrm.a $(LIB)/libstrm.a
 	install -m 644 build/libstrm.so $(LIB)/libstrm.so.$(VERSION)
@@ -234,13 +240,13 @@ install-lib: build/libstrm.a build/libstrm.so
 	@$(if $(DESTDIR),,echo 'export PKG_CONFIG_PATH=$(PREFIX)/lib/pkgconfig$${PKG_CONFIG_PATH:+:$$PKG_CONFIG_PATH}')
 	@$(if $(DESTDIR),,echo 'export LD_LIBRARY_PATH=$(PREFIX)/lib$${LD_LIBRARY_PATH:+:$$LD_LIBRARY_PATH}')
 
-# Builds what a release hands out, in the folder DIST: an archive, a Debian package, and PROOF with their sums. GATE names a log of the gate, whose
-# last line goes into PROOF. It refuses uncommitted changes unless DIRTY is yes, and then PROOF says that there are some.
+# Builds an archive and a Debian package of a release in DIST. Beside them is PROOF, with their sums. GATE names a log of the gate, whose last
+# line goes into PROOF. It refuses uncommitted changes unless DIRTY is yes, and then PROOF says that there are some.
 dist:
 	$(NEEDS_RT)
 	@GATE="$(GATE)" DIRTY="$(DIRTY)" tools/dist "$(DIST)"
 
-# Copies CRATE and the crates that it uses into the repository whose top is TO. It needs no `rt`. If it refuses, it writes nothing.
+# Copies CRATE and those that it uses into the repository at TO. It needs no `rt`. If it refuses, it writes nothing.
 vendor:
 	@$(if $(TO),,$(error make vendor TO=DIR wants the top of a repository))tools/vendor $(CRATE) $(TO)
 
