@@ -3,7 +3,7 @@
 #
 # Without `rt`, which comes in the toolchain's kit (README.md): the archive and the Debian package of a release have the program and the
 # library, built (docs/PACKAGE.md). The tools need Python 3.8 or later alone, and `make install-tools` installs them. The rules lint,
-# install-pages, view-test, pictures and vendor need no `rt` either.
+# help, install-pages, uninstall, view-test, pictures and vendor need no `rt` either.
 
 SHELL := bash
 .SHELLFLAGS := -o pipefail -c
@@ -24,6 +24,10 @@ ZSH ?= zsh/site-functions
 # The version, which the installed manuals name.
 VERSION := $(shell cat VERSION)
 BUILT := crates/strm_driver/out/strm_driver
+# What is installed of what is built. tools/uninstall has another file installed, to learn the names of all that is.
+STRM := $(BUILT)
+ARCHIVE := build/libstrm.a
+SHARED := build/libstrm.so
 # The program that measures rounds of calls, for bench-library and bench-c.
 ROUNDS := crates/strm_bench/out/strm_bench
 SOURCES := crates.txt HANDLES $(shell find crates -path '*/out' -prune -o \( -name '*.rt' -o -name '*.antt' \) -print)
@@ -41,7 +45,7 @@ MODULES := $(shell cd tools && find strm_tools -name __pycache__ -prune -o -type
 # Stops make with one line if there is no `rt`.
 NEEDS_RT = $(if $(shell command -v rt 2>/dev/null),,$(error no rt on PATH, so nothing is proved or built; the archive of a release has strm and libstrm.a, and make install-tools installs the tools that need Python alone (README.md, "Without rt")))
 
-.PHONY: run help try test check gate-times cases planted edits lint soak field view-test pictures bench bench-lines bench-library bench-batches bench-census bench-header bench-lock bench-c bench-peers strm install install-pages install-tools install-docs lib install-lib dist vendor
+.PHONY: run help try test check gate-times cases planted edits lint soak field view-test pictures bench bench-lines bench-library bench-batches bench-census bench-header bench-lock bench-c bench-peers strm install install-pages install-tools install-docs uninstall lib install-lib dist vendor
 
 # Runs examples/first_run.strm on the proved program (default). `make` alone does this and does not list rules, so that people who type `make`
 # and then `sudo make install` do not prove the program as root.
@@ -160,8 +164,23 @@ build/strm: $(BUILT)
 	@install -D -m 755 $(BUILT) build/strm
 
 # Installs strm, the library for C, tools and pages below PREFIX. The program and the library are proved first.
-install: $(BUILT) install-pages install-tools install-docs install-lib
-	install -D -m 755 $(BUILT) $(DESTDIR)$(PREFIX)/bin/strm
+install: WHERE $(STRM) install-pages install-tools install-docs install-lib
+	install -D -m 755 $(STRM) $(DESTDIR)$(PREFIX)/bin/strm
+
+# Says where, before anything is proved or installed.
+.PHONY: WHERE
+WHERE:
+	# All is installed below $(DESTDIR)$(PREFIX)/. PREFIX=DIR names another folder.
+
+# Removes what `make install` installed below PREFIX. DESTDIR must be the same too. Of the folders that it made it removes those that are empty.
+uninstall:
+	@tools/uninstall "$(PREFIX)" "$(DESTDIR)"
+
+# The folders that a path is in. The folders of PREFIX that other programs install into too. Those of them, and that they are in, which are not
+# there yet; none with DESTDIR, where packages are put together.
+above = $(if $(filter-out /,$(dir $(1))),$(call above,$(patsubst %/,%,$(dir $(1)))) $(patsubst %/,%,$(dir $(1))))
+INTO := bin include lib/cmake lib/pkgconfig share/bash-completion/completions share/doc share/man/man1 share/man/man3 share/$(ZSH)
+MISSING := $(if $(DESTDIR),,$(foreach it,$(sort $(foreach folder,$(INTO),$(call above,$(abspath $(PREFIX))/$(folder)/strm))),$(if $(wildcard $(it)),,$(it))))
 
 # Installs the manuals of section 1 and the completions of shells. These are bash and zsh, and nothing is built. The completions of strm are
 # also those of the tools.
@@ -171,8 +190,10 @@ install-pages:
 	install -D -m 644 completions/_strm $(SHARE)/$(ZSH)/_strm
 	for tool in $(TOOLS); do ln -sf strm $(SHARE)/bash-completion/completions/$$tool || exit; done
 
-# Installs the tools, which need Python alone, and their manuals. The tools are in PREFIX/share/strm, with links in PREFIX/bin.
-install-tools: install-pages
+# Installs the tools, which need Python alone, and their manuals. The tools are in PREFIX/share/strm, with links in PREFIX/bin. There,
+# FOLDERS lists the folders that installs made, for tools/uninstall.
+install-tools: WHERE install-pages
+	@$(if $(MISSING),install -d $(SHARE)/strm && printf '%s\n' $(MISSING) >>$(SHARE)/strm/FOLDERS)
 	rm -rf $(SHARE)/strm/strm_tools
 	for file in $(MODULES); do install -D -m 644 tools/$$file $(SHARE)/strm/$$file || exit; done
 	install -m 644 VERSION $(SHARE)/strm/VERSION
@@ -226,9 +247,9 @@ LIB := $(DESTDIR)$(PREFIX)/lib
 
 # Installs both libraries for C, their header and their manuals. With them is what pkg-config and CMake find them by. Then it prints the lines
 # that let pkg-config and the loader find them, unless they are to be moved from DESTDIR.
-install-lib: build/libstrm.a build/libstrm.so
-	install -D -m 644 build/libstrm.a $(LIB)/libstrm.a
-	install -m 644 build/libstrm.so $(LIB)/libstrm.so.$(VERSION)
+install-lib: $(ARCHIVE) $(SHARED)
+	install -D -m 644 $(ARCHIVE) $(LIB)/libstrm.a
+	install -m 644 $(SHARED) $(LIB)/libstrm.so.$(VERSION)
 	ln -sf libstrm.so.$(VERSION) $(LIB)/$(SONAME)
 	ln -sf $(SONAME) $(LIB)/libstrm.so
 	$(FORM) c/strm.pc.in | install -D -m 644 /dev/stdin $(LIB)/pkgconfig/strm.pc
