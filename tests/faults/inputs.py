@@ -1,7 +1,5 @@
 """What the program is run on: cases of tests/cases, and the answer to each where nothing fails."""
 import os
-import shutil
-import subprocess
 import sys
 from typing import NamedTuple
 
@@ -9,6 +7,7 @@ from shim import Answer
 
 TOP = os.path.dirname(os.path.dirname(os.path.dirname(os.path.abspath(__file__))))
 sys.path[:0] = [os.path.join(TOP, "tests", "making"), os.path.join(TOP, "tools")]
+import cases
 from strm_tools.judge import Wrong, judge, judge_beginning
 
 # Where a write takes only a part of a text, it is one of about so many.
@@ -50,41 +49,30 @@ def want(wanted, came):
         raise Wrong(f"wanted {wanted}; came {came}")
 
 
-def read(path, absent=""):
-    """What a file says, or what stands for it where there is none."""
-    if not os.path.exists(path):
-        return absent
+def read(path):
     with open(path, encoding="latin-1", newline="") as file:
         return file.read()
 
 
 class Case:
-    """An input with its files, and the answer to it where nothing fails."""
+    """An input with its script, and the answer to it where nothing fails."""
 
     def __init__(self, given, room):
         self.given = given
         self.name = " ".join([given.case, *given.words])
-        self.folder = os.path.join(room, self.name)
-        shutil.copytree(os.path.join(TOP, "tests", "cases", given.case), self.folder)
-        if os.path.exists(self.path("make")):
-            subprocess.run([self.path("make"), self.folder], cwd=TOP, check=True)
-        self.words = [*given.words, *read(self.path("words")).splitlines()]
-        self.script = self.path("script")
-        if not os.path.exists(self.script):
-            self.script = os.path.join(TOP, read(self.path("script.path"), os.devnull).strip())
-        status = int(read(self.path("status"), "0"))
-        self.answer = Answer(status, read(self.path("stdout")), read(self.path("stderr")))
+        self.kept = cases.Case(given.case)
+        self.words = [*given.words, *self.kept.words("words")]
+        self.script = self.kept.script_path() or self.kept.write(room, "script")
+        status = int(self.kept.text("status", "0"))
+        self.answer = Answer(status, self.kept.text("stdout"), self.kept.text("stderr"))
         self.is_served = given.reads and status == 0
         # The numbers of the growths that were made good.
         self.made_good = []
 
-    def path(self, name):
-        return os.path.join(self.folder, name)
-
     def complete(self, came):
         """Takes the text of which the case gives only the beginning from an answer that came."""
         for stream in ("stdout", "stderr"):
-            begins = read(self.path(f"{stream}.begins"))
+            begins = self.kept.text(f"{stream}.begins")
             text = getattr(came, stream)
             if begins and text.startswith(begins):
                 self.answer = self.answer._replace(**{stream: text})

@@ -1,6 +1,6 @@
 """Draws lines of all words, and answers them by the model."""
 from strm_tools.model import HIGH_PRIORITY, ORDINARY, WORDS, Model, rank
-from served import write_served
+from served import print_served
 
 REGISTERS = "abcdefghijklmz"
 
@@ -90,9 +90,9 @@ def section(model, dice, lines):
     return [drawn(model, dice) for _ in range(lines)]
 
 
-def write_mixed(folder, pool, workers, lines):
-    """Writes a script of so many sections of so many lines, and its text."""
+def print_mixed(pool, workers, lines):
+    """Prints a script of so many sections of so many lines, and its text."""
     model = Model(pool)
     dice = Dice()
     sections = [section(model, dice, lines) for _ in range(workers)]
-    write_served(folder, pool.header(), sections, model.report())
+    print_served(pool.header(), sections, model.report())

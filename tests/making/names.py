@@ -1,5 +1,5 @@
 """Lines after which a data block has many names: a message grows by duplicates of its first block."""
-from served import write_served
+from served import print_served
 
 HEADER = ["pool 1 300", "class 16 1", "queue 10 4 s -", "bufcalls 2 1"]
 
@@ -13,8 +13,8 @@ def block(length, room, names):
     return f"block M_DATA len={length} band=0 room={room} names={names}"
 
 
-def write_names(folder, times, lines, held):
-    """Writes a case: register a has a block and this many duplicates of it, then come these lines. In the end `held` blocks are held."""
+def print_names(times, lines, held):
+    """Prints a case: register a has a block and this many duplicates of it, then come these lines. In the end `held` blocks are held."""
     report = [
         f"blocks free={300 - held} queued=0 held={held} total=300",
         "data size=16 free=0 total=1",
@@ -22,4 +22,4 @@ def write_names(folder, times, lines, held):
         "run -",
         "wishes -",
     ]
-    write_served(folder, HEADER, [[("allocb a 1", "ok"), *longer("a", "b", times), *lines]], report)
+    print_served(HEADER, [[("allocb a 1", "ok"), *longer("a", "b", times), *lines]], report)

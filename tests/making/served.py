@@ -1,10 +1,12 @@
-"""Writes the script of a case and its text, from its lines and their replies."""
+"""Prints a case from the lines of its script and their replies."""
 
 
-def write(folder, name, lines):
-    """Writes a file of a case."""
-    with open(f"{folder}/{name}", "w") as file:
-        file.writelines(f"{line}\n" for line in lines)
+def print_case(**sections):
+    """Prints a case that is run in both modes. A section is one line, whole lines, or a list of lines; none has escapes."""
+    for name, text in {"modes": "workers serial", **sections}.items():
+        if not isinstance(text, str):
+            text = "".join(f"{line}\n" for line in text)
+        print(f"== {name}\n{text}" if text.endswith("\n") else f"== {name}: {text}\n", end="")
 
 
 def numbered(header, sections):
@@ -19,8 +21,8 @@ def numbered(header, sections):
     return lines
 
 
-def write_served(folder, header, sections, report):
-    """Writes a script, and the text where its sections are served one after another."""
+def print_served(header, sections, report, **others):
+    """Prints a case with a script, and the text where its sections are served one after another."""
     lines = numbered(header, sections)
-    write(folder, "script", [line for line, _ in lines])
-    write(folder, "stdout", [told for _, told in lines if told is not None] + report)
+    told = [told for _, told in lines if told is not None] + report
+    print_case(**others, script=[line for line, _ in lines], stdout=told)

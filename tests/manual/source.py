@@ -3,13 +3,14 @@ proved to follow."""
 import glob
 import os
 import re
-import subprocess
-import tempfile
+import sys
 
 from page import TOP
 
-CASES = os.path.join(TOP, "tests", "cases")
-# Cases whose script is made, for refusals that no script of a few lines meets.
+sys.path.insert(0, os.path.join(TOP, "tests", "making"))
+from cases import kept_cases
+
+# Cases that a program prints, for refusals that no script of a few lines meets.
 MADE = ["most_names"]
 
 
@@ -96,24 +97,18 @@ def newest_change():
     return re.search(r"^## \[([\d.]+)\]", read("CHANGELOG.md"), re.MULTILINE)[1]
 
 
-def told_lines(folder):
+def told_lines(case):
     """The first word of each command line of a case, and the words of its reply."""
-    script = read(folder, "script").split("\n")
-    for number, reply in re.findall(r"^\d+:(\d+) (.*)$", read(folder, "stdout"), re.MULTILINE):
+    script = case.text("script").split("\n")
+    for number, reply in re.findall(r"^\d+:(\d+) (.*)$", case.text("stdout"), re.MULTILINE):
         yield script[int(number) - 1].partition(" ")[0], reply.split(" ")
 
 
 def answers(of_all):
     """What each command is answered in the cases, beside what all may be: the first word of a reply, or a refusal's name."""
     found = {}
-    folders = [folder for folder in glob.glob(os.path.join(CASES, "*")) if os.path.isfile(os.path.join(folder, "script"))]
-    with tempfile.TemporaryDirectory() as room:
-        for name in MADE:
-            folders.append(os.path.join(room, name))
-            os.mkdir(folders[-1])
-            subprocess.run([os.path.join(CASES, name, "make"), folders[-1]], cwd=TOP, check=True)
-        for folder in folders:
-            if os.path.exists(os.path.join(folder, "stdout")):
-                for word, reply in told_lines(folder):
-                    found.setdefault(word, set()).add(reply[2] if reply[0] == "refused" else reply[0])
+    for case in kept_cases(*MADE):
+        if "script" in case.sections:
+            for word, reply in told_lines(case):
+                found.setdefault(word, set()).add(reply[2] if reply[0] == "refused" else reply[0])
     return {word: sorted(replies - of_all) for word, replies in found.items()}
