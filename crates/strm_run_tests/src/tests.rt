@@ -1,7 +1,6 @@
 mod faulty;
 mod input;
 mod output;
-mod refused;
 mod runs;
 mod sizes;
 

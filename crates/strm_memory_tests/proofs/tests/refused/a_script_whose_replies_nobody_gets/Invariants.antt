@@ -1,6 +1,6 @@
 -- The name under which the pool is shared.
 use Rattle.strm_shared.specs.Starts.{name_of}
-use Rattle.strm_run_tests.proofs.tests.refused.a_script_whose_replies_nobody_gets.Given as goal
+use Rattle.strm_memory_tests.proofs.tests.refused.a_script_whose_replies_nobody_gets.Given as goal
 
 abbrev pub ghosts-serve : goal.ghosts-serve
 ghosts-serve g a = name_of a.start
