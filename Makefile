@@ -45,7 +45,7 @@ MODULES := $(shell cd tools && find strm_tools -name __pycache__ -prune -o -type
 # Stops make with one line if there is no `rt`.
 NEEDS_RT = $(if $(shell command -v rt 2>/dev/null),,$(error no rt on PATH, so nothing is proved or built; the archive of a release has strm and libstrm.a, and make install-tools installs the tools that need Python alone (README.md, "Without rt")))
 
-.PHONY: run help try test check gate-times cases planted edits lint soak field view-test pictures bench bench-lines bench-library bench-batches bench-census bench-header bench-lock bench-c bench-peers strm install install-pages install-tools install-docs uninstall lib install-lib dist vendor
+.PHONY: run help try test check gate-times cases edits lint soak field view-test pictures bench bench-lines bench-library bench-batches bench-census bench-header bench-lock bench-c bench-peers strm install install-pages install-tools install-docs uninstall lib install-lib dist vendor
 
 # Runs examples/first_run.strm on the proved program (default). `make` alone does this and does not list rules, so that people who type `make`
 # and then `sudo make install` do not prove the program as root.
@@ -80,11 +80,6 @@ gate-times:
 # Runs all of tests/cases, or those that CASES names. They run on the proved program; trying a new case takes seconds.
 cases: $(BUILT)
 	@tests/run_cases $(BUILT) $(CASES)
-
-# Requires tests to fail for each wrong body of tests/bodies. It puts these into a copy of the crates, and proves nothing.
-planted:
-	$(NEEDS_RT)
-	@tests/planted
 
 # Requires the prover to refuse the edits that the gate leaves out. CRATES names crates, if not all.
 edits:
