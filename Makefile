@@ -3,7 +3,7 @@
 #
 # Without `rt`, which comes in the toolchain's kit (README.md): the archive and the Debian package of a release have the program and the
 # library, built (docs/PACKAGE.md). The tools need Python 3.8 or later alone, and `make install-tools` installs them. The rules lint,
-# help, install-pages, uninstall, view-test, pictures and vendor need no `rt` either.
+# help, pages, install-pages, uninstall, view-test, pictures and vendor need no `rt` either.
 
 SHELL := bash
 .SHELLFLAGS := -o pipefail -c
@@ -45,7 +45,7 @@ MODULES := $(shell cd tools && find strm_tools -name __pycache__ -prune -o -type
 # Stops make with one line if there is no `rt`.
 NEEDS_RT = $(if $(shell command -v rt 2>/dev/null),,$(error no rt on PATH, so nothing is proved or built; the archive of a release has strm and libstrm.a, and make install-tools installs the tools that need Python alone (README.md, "Without rt")))
 
-.PHONY: run help try test check gate-times cases edits lint soak field view-test pictures bench bench-lines bench-library bench-batches bench-census bench-header bench-lock bench-c bench-peers strm install install-pages install-tools install-docs uninstall lib install-lib dist vendor
+.PHONY: run help try test check gate-times cases edits lint soak field view-test pages pictures bench bench-lines bench-library bench-batches bench-census bench-header bench-lock bench-c bench-peers strm install install-pages install-tools install-docs uninstall lib install-lib dist vendor
 
 # Runs examples/first_run.strm on the proved program (default). `make` alone does this and does not list rules, so that people who type `make`
 # and then `sudo make install` do not prove the program as root.
@@ -105,9 +105,14 @@ field: $(BUILT)
 view-test:
 	@tests/view_in_browser build/view
 
-# Draws the pictures in docs again, and makes its example page. Each picture contains its arguments. It needs Chromium.
+# Makes build/example.html, the page of a recorded run. It needs Python alone, and prints a link that opens the page.
+pages:
+	@mkdir -p build
+	@tools/strm-view examples/recorded/ppp.strm examples/recorded/ppp.text --output build/example.html
+	@echo "file://$(CURDIR)/build/example.html"
+
+# Draws the pictures in docs again. Each contains its arguments. It needs Chromium.
 pictures:
-	@tools/strm-view examples/recorded/ppp.strm examples/recorded/ppp.text --output docs/example.html
 	@for picture in docs/pictures/*.svg; do tools/strm-view $$(sed -n 's:^<desc>\(.*\)</desc>$$:\1:p' $$picture) --output $$picture || exit 1; done
 
 # Runs bench-lines to bench-c, and with PEERS=1 bench-peers. OPTIONS are those of all, as --write for docs/.
