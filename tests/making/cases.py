@@ -1,5 +1,6 @@
 #!/usr/bin/env python3
-"""Reads the cases of tests/cases, in the form that tests/README.md explains. `tests/making/cases.py CASE SECTION` prints a section of a case."""
+"""Reads the cases of tests/cases, in the form that tests/README.md explains. `tests/making/cases.py NAME SECTION` prints a section of a case."""
+import functools
 import os
 import re
 import subprocess
@@ -9,7 +10,8 @@ TOP = os.path.dirname(os.path.dirname(os.path.dirname(os.path.abspath(__file__))
 CASES = os.path.join(TOP, "tests", "cases")
 # How long a program may take to print a case.
 SECONDS = 120
-# What begins the head of a section.
+# The head of a case in a file of several, with the empty line before it, and what begins the head of a section.
+NAME = re.compile(rb"(?:\A|\n)=== (\w+)\n")
 HEAD = b"== "
 # The sections that are lists of words.
 LISTS = ("modes", "words")
@@ -17,25 +19,50 @@ LISTS = ("modes", "words")
 ESCAPE = re.compile(rb"\\(?:(\n)|(r)|(\\)|x([0-9a-f]{2})|)")
 
 
-def path_of(name):
-    return os.path.join(CASES, name)
+def in_file(path):
+    """The cases of a file by their names, each with its text, or None if the file is a program, which prints its one case."""
+    name = os.path.basename(path)
+    if os.access(path, os.X_OK):
+        return {name: None}
+    with open(path, "rb") as file:
+        text = file.read()
+    first, *parts = NAME.split(text)
+    if first or not parts:
+        return {name: text}
+    names = [part.decode() for part in parts[::2]]
+    if len({name, *names}) <= len(names):
+        raise ValueError(f"tests/cases/{name} has two cases of one name, or one that is called as the file")
+    return dict(zip(names, parts[1::2]))
 
 
-def case_names():
-    return sorted(os.listdir(CASES))
+@functools.lru_cache(maxsize=None)
+def sources():
+    """The file and the text of each case, by its name."""
+    found = {}
+    for file in sorted(os.listdir(CASES)):
+        for name, text in in_file(os.path.join(CASES, file)).items():
+            if name in found:
+                raise ValueError(f"two cases are called {name}, in tests/cases/{found[name][0]} and {file}")
+            found[name] = file, text
+    return found
+
+
+def case_names(word=None):
+    """The names of all cases, or of those that a word names: one, or those of a file."""
+    return [name for name, (file, _) in sources().items() if word in (None, name, file)]
 
 
 def is_made(name):
     """Whether a program prints this case."""
-    return os.access(path_of(name), os.X_OK)
+    return sources()[name][1] is None
 
 
 def text_of(name):
     """The text of a case."""
-    if not is_made(name):
-        with open(path_of(name), "rb") as file:
-            return file.read()
-    ran = subprocess.run([path_of(name)], cwd=TOP, stdin=subprocess.DEVNULL, capture_output=True, timeout=SECONDS)
+    file, text = sources()[name]
+    if text is not None:
+        return text
+    ran = subprocess.run([os.path.join(CASES, file)], cwd=TOP, stdin=subprocess.DEVNULL, capture_output=True, timeout=SECONDS)
     if ran.returncode != 0:
         raise ValueError(f"its program ends with status {ran.returncode}:\n{ran.stderr.decode('utf-8', 'replace')}")
     return ran.stdout
@@ -55,8 +82,10 @@ def unescaped(text):
 
 def sections_of(text):
     """The sections of a case by their names: bytes, or a list of words, each of which is bytes."""
-    if not text.startswith(HEAD) or not text.endswith(b"\n"):
-        raise ValueError("it does not begin with the head of a section, or does not end with a line end")
+    if not text.startswith(HEAD):
+        raise ValueError("it does not begin with the head of a section")
+    if not text.endswith(b"\n"):
+        raise ValueError("its last line has no line end, or no empty line is before the next case")
     found = {}
     at = 0
     while at < len(text):
@@ -115,6 +144,10 @@ def kept_cases(*made):
 
 
 if __name__ == "__main__":
-    _, name, section = sys.argv
-    case = Case(name)
-    sys.stdout.buffer.write(case.script() if section == "script" else case.sections[section])
+    if len(sys.argv) != 3 or sys.argv[1] not in sources():
+        sys.exit("usage: tests/making/cases.py NAME SECTION")
+    case = Case(sys.argv[1])
+    text = case.script() if sys.argv[2] == "script" else case.sections.get(sys.argv[2])
+    if text is None:
+        sys.exit(f"{case.name} has no section {sys.argv[2]}")
+    sys.stdout.buffer.write(b"\n".join([*text, b""]) if isinstance(text, list) else text)
