@@ -176,7 +176,7 @@ def opening(archive, room):
 def main():
     words = argparse.ArgumentParser(description=__doc__.splitlines()[0])
     words.add_argument("--rounds", type=int, default=9, help="runs for each median")
-    words.add_argument("--write", action="store_true", help="put the tables into docs/COST.md")
+    words.add_argument("--write", action="store_true", help="put the tables into docs/COST.md, but for that of functions")
     words.add_argument("library", metavar="LIBRARY", help="the path of the library for C")
     words.add_argument("program", metavar="PROGRAM", nargs="?", help="the path of strm_bench; without it the columns of `Pool` are empty")
     given = words.parse_args()
@@ -188,9 +188,9 @@ def main():
         program = built("rounds", SOURCES, given.library, room)
         lines = list(table(program, given.program and os.path.abspath(given.program), given.rounds))
         lines += ["", "The way of a packet of one block, which waits on a queue between the two looks:", "", *ways(given.library, room, given.rounds)]
-        lines += ["", "Where these instructions are, an export with all that is inlined into it:", "", *functions(program, peers.built(peers.OURS, given.library, room))]
+        inside = ["Where these instructions are, an export with all that is inlined into it:", "", *functions(program, peers.built(peers.OURS, given.library, room))]
         opened = list(opening(given.library, room))
-    print("\n".join([*lines, "", *opened]))
+    print("\n".join([*lines, "", *inside, "", *opened]))
     if given.write:
         rewrite("c", lines)
         rewrite("open", opened)

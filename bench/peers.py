@@ -183,7 +183,7 @@ def counts_table(peers, works, counts, what):
 
 
 def measured(programs, turns):
-    """All tables for docs/COST.md, and the short one for docs/C.md, in markdown."""
+    """The tables for docs/COST.md, the one for docs/C.md, and the one that is only printed, in markdown."""
     peers = list(programs)
     named = [f"{PEERS[peer].shown} {version(peer)}" for peer in peers if PEERS[peer].package]
     single = {**CALLS, **WAYS}
@@ -195,25 +195,17 @@ def measured(programs, turns):
         "",
         *times_table(peers, CALLS, best, "A work"),
         "",
-        "The time of a packet of one block, which waits on the queue between two looks:",
-        "",
-        *times_table(peers, WAYS, best, "A packet of"),
-        "",
         f"The time that passes for a message while {THREADS} threads each do the third of these works:",
         "",
         *times_table(peers, SHARED, shared, "The threads have"),
-        "",
-        "Instructions of a message:",
-        "",
-        *counts_table(peers, single, counts, "A work"),
     ]
-    return long, list(times_table(peers, WAYS, best, "A packet of"))
+    return long, list(times_table(peers, WAYS, best, "A packet of")), ["Instructions of a message:", "", *counts_table(peers, single, counts, "A work")]
 
 
 def main():
     words = argparse.ArgumentParser(description=__doc__.splitlines()[0])
     words.add_argument("--turns", "--rounds", type=int, default=5, help="runs of each program, of which the fastest counts")
-    words.add_argument("--write", action="store_true", help="put the tables into docs/COST.md and docs/C.md")
+    words.add_argument("--write", action="store_true", help="put the tables of times into docs/COST.md and docs/C.md")
     words.add_argument("library", metavar="LIBRARY", help="the path of the library for C")
     given = words.parse_args()
     if not shutil.which("valgrind"):
@@ -225,8 +217,8 @@ def main():
             print(f"not run: {peer.shown}: Debian package {peer.package} is not installed", flush=True)
         if missing and given.write:
             sys.exit("--write needs all packages")
-        long, short = measured({name: program for name, program in programs.items() if program}, given.turns)
-    print("\n".join(long))
+        long, short, more = measured({name: program for name, program in programs.items() if program}, given.turns)
+    print("\n".join([*long, "", *short, "", *more]))
     if given.write:
         rewrite("peers", long)
         rewrite("peers", short, "C.md")
