@@ -195,14 +195,21 @@ def call_table(sizes, costs):
         yield f"| {code} | {each[0]:,.0f} | {each[-1]:,.0f} |"
 
 
+def grows(costs):
+    """Whether a round takes more than four times as much in the largest pool as in the smallest."""
+    return costs[-1] > 4 * costs[0]
+
+
 def tables(meter, by_line, by_call, by_rank):
-    """All tables, in markdown."""
+    """The tables of the page, in markdown: of rounds, only those that grow."""
     unit = "Instructions" if meter.instructions else "Nanoseconds"
     yield from (f"| Lines | {unit} a line | Peak memory, MiB |", "|---|---|---|")
     for size, (cost, peak) in by_line.items():
         yield f"| {size:,} | {cost:,.0f} | {peak:,.1f} |"
-    yield from ("", f"{unit} of a round of lines, by the message blocks of the pool:", "")
-    yield from call_table(POOLS, by_call)
+    steady = [cost for _, _, each in by_call if not grows(each) for cost in (each[0], each[-1])]
+    yield from ("", f"{unit} of a round of lines that grows more than fourfold, by message blocks of the pool:", "")
+    yield from call_table(POOLS, [row for row in by_call if grows(row[2])])
+    yield from ("", f"The rounds of all other words take {min(steady):,.0f} to {max(steady):,.0f}.")
     yield from ("", f"{unit} of a round of lines, by the messages on one queue, which have 17 ranks:", "")
     yield from call_table(QUEUED, by_rank)
 
@@ -236,10 +243,10 @@ def panel(left, top, width, height, title, xs, curves):
 
 
 def plot(meter, by_line, by_call):
-    """Both tables as a picture. It names only words that cost four times as much in the largest pool as in the smallest."""
+    """Both tables as a picture. It names only words of rounds that grow."""
     unit = "Instructions" if meter.instructions else "Nanoseconds"
     costs, peaks = zip(*by_line.values())
-    growing = [(", ".join(words) if costs[-1] > 4 * costs[0] else "", costs) for words, _, costs in by_call]
+    growing = [(", ".join(words) if grows(costs) else "", costs) for words, _, costs in by_call]
     yield '<svg xmlns="http://www.w3.org/2000/svg" width="900" height="520" font-family="sans-serif" font-size="11">'
     yield '<rect width="900" height="520" fill="white"/>'
     yield from panel(70, 40, 240, 180, f"{unit} a line, by lines", SIZES, [(f"{costs[-1]:,.0f}", costs)])
@@ -275,7 +282,7 @@ def main():
         meter = Meter(os.path.abspath(given.program), rounds, given.instructions, folder)
         by_line, by_call, by_rank = line_costs(meter), call_costs(meter), ranked_costs(meter)
     lines = list(tables(meter, by_line, by_call, by_rank))
-    print("\n".join(lines))
+    print("\n".join([*lines, "", "The other rounds:", "", *call_table(POOLS, [row for row in by_call if not grows(row[2])])]))
     if given.write:
         rewrite(lines, plot(meter, by_line, by_call))
 
