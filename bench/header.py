@@ -1,5 +1,5 @@
 #!/usr/bin/env python3
-"""Counts what `hop` of crates/strm_forward takes beside the same in plain Rust, and prints a table. bench/README.md says how."""
+"""Counts what `hop` of crates/strm_header takes beside the same in plain Rust, and prints a table. bench/README.md says how."""
 import argparse
 import os
 import shutil
@@ -11,7 +11,7 @@ from census import HERE, add_program, proved, tree_of_work
 from programs import collected, rewrite
 
 # The program's crate, and the libraries that it uses.
-CRATE, USES = "bench_hop", ["arrayvec", "strm_forward", "strm_mblk", "strm_pool"]
+CRATE, USES = "bench_hop", ["arrayvec", "strm_header", "strm_mblk", "strm_pool"]
 # The rows, and how many hops are counted: one message makes at most 254.
 ROWS = {"right": "the header is right and rewritten", "wrong": "its checksum is wrong, the message is freed"}
 COUNTED = 100

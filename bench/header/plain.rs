@@ -1,4 +1,4 @@
-//! `hop` of crates/strm_forward written by hand in Rust, over a pool of message blocks and counted data blocks. Lines of standard
+//! `hop` of crates/strm_header written by hand in Rust, over a pool of message blocks and counted data blocks. Lines of standard
 //! input and output are those of hop/src/main.rt.txt.
 #![allow(dead_code)]
 

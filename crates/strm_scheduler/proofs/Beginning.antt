@@ -8,8 +8,8 @@ use Rattle.std.proofs.lemmas.List.{get_or-append-add, get_or_append_left, get_or
 use Rattle.std.proofs.lemmas.Option.{none-some, same_Some}
 use Rattle.strm_data.specs.DataStore.{DataStore}
 use Rattle.strm_data.specs.MsgType.{is_high_priority}
-use Rattle.strm_forward.specs.Forwarding.{Forwards, with_forwarded}
-use Rattle.strm_forward.specs.Handing.{all_forwarded}
+use Rattle.strm_scheduler.specs.Forwarding.{Forwards, with_forwarded}
+use Rattle.strm_scheduler.specs.Handing.{all_forwarded}
 use Rattle.strm_links.specs.Rows as rows
 use Rattle.strm_mblk.specs.Arena.{Arena, held_blocks, shelf_at, shelved_blocks}
 use Rattle.strm_mblk.specs.Block.{Block, Message, kind_of}

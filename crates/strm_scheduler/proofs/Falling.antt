@@ -4,7 +4,7 @@ use Rattle.std.proofs.Common.{◌≡◌, ℕ, zero, suc, ◌+◌, ◌<◌, ◌�
 use Rattle.std.specs.List.{All}
 use Rattle.std.specs.Option.{option_map_or}
 use Rattle.std.proofs.lemmas.Bool.{or_parts}
-use Rattle.strm_forward.specs.Handing.{all_forwarded, forwarded, go_on, hand_first, handed_on, with_band_wanted, with_first_off, with_one_placed}
+use Rattle.strm_scheduler.specs.Handing.{all_forwarded, forwarded, go_on, hand_first, handed_on, with_band_wanted, with_first_off, with_one_placed}
 use Rattle.strm_links.specs.Rows as rows
 use Rattle.strm_mblk.specs.Arena.{with_shelf}
 use Rattle.strm_mblk.specs.Block.{Message}

@@ -1,3 +1,5 @@
+pub mod Moving
+pub mod Looping
 pub mod Hops
 pub mod Waking
 pub mod Keeping

@@ -7,7 +7,7 @@ use Rattle.std.proofs.lemmas.List.{map-append}
 use Rattle.std.proofs.lemmas.Option.{none-some, same_Some}
 use Rattle.strm_data.specs.DataStore.{DataStore}
 use Rattle.strm_data.specs.MsgType.{is_high_priority}
-use Rattle.strm_forward.specs.Forwarding.{first_on, with_first_forwarded, with_forwarded}
+use Rattle.strm_scheduler.specs.Forwarding.{first_on, with_first_forwarded, with_forwarded}
 use Rattle.strm_mblk.specs.Arena.{Arena, shelf_at}
 use Rattle.strm_mblk.specs.Block.{Block, Message, kind_of}
 use Rattle.strm_queue.specs.declared.queue_spec.QueueSpec.{QueueSpec}

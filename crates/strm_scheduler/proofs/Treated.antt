@@ -3,9 +3,9 @@ use Rattle.std.proofs.Common.{◌≡◌, ◌≢◌, ℕ, ◌+◌, ◌<◌, ◌�
 use Rattle.std.proofs.lemmas.Bool.{lt-ltb}
 use Rattle.strm_links.specs.Rows as rows
 use Rattle.strm_mblk.specs.declared.token.TokenValue.{TokenValue}
-use Rattle.strm_forward.specs.Forwarding.{KeepsRest}
-use Rattle.strm_forward.specs.Handing.{handed_on, with_first_off, with_one_put}
-use Rattle.strm_forward.proofs.Moving.{IsGot, handed_whole, leave_same, put_leaves, put_state}
+use Rattle.strm_scheduler.specs.Forwarding.{KeepsRest}
+use Rattle.strm_scheduler.specs.Handing.{handed_on, with_first_off, with_one_put}
+use Rattle.strm_scheduler.proofs.Moving.{IsGot, handed_whole, leave_same, put_leaves, put_state}
 use Rattle.strm_mblk.specs.Arena.{Arena, has, held_at, message_at, shelf_at}
 use Rattle.strm_mblk.specs.Given.{value_after}
 use Rattle.strm_pool.specs.Lawful.{IsLawful}

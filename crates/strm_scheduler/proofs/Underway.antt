@@ -5,8 +5,8 @@ use Rattle.std.specs.List.{list_all}
 use Rattle.std.proofs.lemmas.Bool.{and_from, and_parts, cases_eq, cond-true, eqb-false, leb-true, not_from_false, or_parts}
 use Rattle.std.proofs.lemmas.List.{set-get_or, set-set}
 use Rattle.std.proofs.lemmas.Option.{same_Some}
-use Rattle.strm_forward.specs.Forwarding.{has_leave, with_put, with_put_back}
-use Rattle.strm_forward.specs.Handing.{all_forwarded, forwarded, go_on, hand_first, handed_on, with_first_off, with_one_placed, with_one_put, with_one_put_back}
+use Rattle.strm_scheduler.specs.Forwarding.{has_leave, with_put, with_put_back}
+use Rattle.strm_scheduler.specs.Handing.{all_forwarded, forwarded, go_on, hand_first, handed_on, with_first_off, with_one_placed, with_one_put, with_one_put_back}
 use Rattle.strm_mblk.specs.Arena.{with_shelf}
 use Rattle.strm_mblk.specs.Block.{Message}
 use Rattle.strm_queue.specs.declared.queue_spec.QueueSpec.{QueueSpec}

@@ -3,7 +3,7 @@ use Rattle.std.proofs.Common.{◌≡◌, ℕ, zero, suc, ◌+◌, ◌<◌, ◌�
 use Rattle.std.specs.Prelude.{nat_le}
 use Rattle.std.specs.List.{list_any}
 use Rattle.std.proofs.lemmas.List.{drop-drop}
-use Rattle.strm_forward.specs.Forwarding.{first_on, with_first_forwarded, with_forwarded}
+use Rattle.strm_scheduler.specs.Forwarding.{first_on, with_first_forwarded, with_forwarded}
 use Rattle.strm_mblk.specs.Arena.{Arena, shelf_at}
 use Rattle.strm_mblk.specs.Block.{Message}
 use Rattle.strm_queue.specs.Rank.{as_queued, put_behind, rank_of}

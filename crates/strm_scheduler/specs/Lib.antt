@@ -1,3 +1,5 @@
+pub mod Forwarding
+pub mod Handing
 pub mod Sides
 pub mod Awake
 pub mod Running

@@ -1,7 +1,7 @@
 -- Serving the queues on the run list, one after another.
 use Rattle.std.specs.Prelude.{◌≡◌, ℕ, zero, suc, Option, None, Some}
 use Rattle.std.specs.Option.{option_map_or}
-use Rattle.strm_forward.specs.Handing.{all_forwarded}
+use Rattle.strm_scheduler.specs.Handing.{all_forwarded}
 use Rattle.strm_queue.specs.QueueCalls.{next_service}
 use Rattle.strm_queue.specs.QueuedBlocks.{QueuedBlocks}
 use Rattle.strm_scheduler.specs.Sides.{next_of}

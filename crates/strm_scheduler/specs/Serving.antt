@@ -1,8 +1,8 @@
 -- A service procedure at work on one queue. Of this module, public clauses cite only `IsTaken`.
 use Rattle.std.specs.Prelude.{◌≡◌, ◌≢◌, ◌⊎◌, ◌+◌, ◌<◌, ℕ, false, true, IsTrue, List, ◌∷◌, Option, None, Some}
 use Rattle.strm_mblk.specs.declared.token.TokenValue.{TokenValue}
-use Rattle.strm_forward.specs.Handing.{handed_on, with_first_off, with_one_placed}
-use Rattle.strm_forward.specs.Forwarding.{has_leave, may_go, with_put_either}
+use Rattle.strm_scheduler.specs.Handing.{handed_on, with_first_off, with_one_placed}
+use Rattle.strm_scheduler.specs.Forwarding.{has_leave, may_go, with_put_either}
 use Rattle.strm_links.specs.Rows as rows
 use Rattle.strm_mblk.specs.Arena.{has, message_at, shelf_at, with_held, with_shelf}
 use Rattle.strm_mblk.specs.Block.{Message, head_of}

@@ -4,6 +4,7 @@
 
 mod module;
 mod passing;
+mod service;
 mod serving;
 mod sides;
 mod sides_fault;
@@ -12,5 +13,6 @@ mod treating;
 
 pub use module::Module;
 pub use passing::Passing;
+pub use service::{forward, may_go};
 pub use sides::Sides;
 pub use sides_fault::SidesFault;

@@ -7,8 +7,8 @@ ghost use Rattle.strm_scheduler.specs.Order.{KeepsOrder};
 ghost use Rattle.strm_scheduler.specs.Running.{IsServed, with_first_served};
 ghost use Rattle.strm_scheduler.specs.Work.{work};
 
+use crate::service::forward;
 use crate::starting::begin;
-use strm_forward::forward;
 use strm_pool::Pool;
 
 // Takes queues off the run list and serves them, until the list is empty.

@@ -136,7 +136,7 @@ impl Sides {
     }
 
     /// Serves the queues on the run list, one after another, until none is enabled. Each service forwards messages to the next
-    /// queue, as [`forward`](strm_forward::forward) does.
+    /// queue, as [`forward`](crate::forward) does.
     ///
     /// It ends, and loses nothing: the messages of each side, read from its last queue back to its first, are the same as
     /// before, and within each rank in the same order.

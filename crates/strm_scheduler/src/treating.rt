@@ -1,7 +1,7 @@
 //! Service procedures of modules: they treat each message before it goes on to the next queue.
 ghost use Rattle.std.specs.Prelude.{◌≡◌, ◌≢◌, ◌+◌, ◌<◌, ◌≤◌, IsTrue, IfSome, Option, None, Some, [], false, length, true};
-ghost use Rattle.strm_forward.specs.Forwarding.{KeepsRest};
-ghost use Rattle.strm_forward.specs.Handing.{handed_on};
+ghost use Rattle.strm_scheduler.specs.Forwarding.{KeepsRest};
+ghost use Rattle.strm_scheduler.specs.Handing.{handed_on};
 ghost use Rattle.strm_mblk.specs.declared.token.TokenValue.{TokenValue};
 ghost use Rattle.strm_mblk.specs.Arena.{has};
 ghost use Rattle.strm_pool.specs.PoolValue.{PoolValue, has_queue, queued_blocks_of};
@@ -12,8 +12,8 @@ ghost use Rattle.strm_scheduler.specs.Serving.{FallsBy, IsServing, KeepsAllowed,
 ghost use Rattle.strm_scheduler.specs.Work.{from_here, power, powers, weigh, work};
 
 use crate::module::Module;
+use crate::service::may_go;
 use crate::starting::begin;
-use strm_forward::may_go;
 use strm_pool::{Pool, Token};
 
 // Takes queues off the run list and serves them, until all that are left on it are held back. Says whether there are any.

@@ -5,6 +5,7 @@ use strm_pool::{ClassSpec, ClassSpecs, Config, QueueSpec, QueueSpecs};
 use strm_scheduler::{Sides, SidesFault};
 
 mod drawn;
+mod forwarding;
 mod joining;
 mod making;
 mod modules;

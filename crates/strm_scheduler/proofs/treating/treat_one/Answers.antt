@@ -1,5 +1,5 @@
 -- A message that went has fewer queues ahead of it. If none went, all queues are awake.
-use Rattle.strm_forward.proofs.Moving.{there_still}
+use Rattle.strm_scheduler.proofs.Moving.{there_still}
 use Rattle.strm_scheduler.proofs.Treated.{awake_ended, less_taken, next_there, q_apart, run_ended, serving_taken, weigh_ended}
 use Rattle.strm_scheduler.proofs.treating.treat_one.Goals as goal
 

@@ -1,4 +1,0 @@
-pub mod Moving
-pub mod Looping
-mod Rewriting
-mod Hopping

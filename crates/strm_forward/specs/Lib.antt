@@ -1,3 +1,0 @@
-pub mod Forwarding
-pub mod Handing
-pub mod Headers
