@@ -28,6 +28,8 @@ BUILT := crates/strm_driver/out/strm_driver
 STRM := $(BUILT)
 ARCHIVE := build/libstrm.a
 SHARED := build/libstrm.so
+# How benchmarks are started, which read the limits of strm in tools/strm_tools.
+BENCH := PYTHONPATH="$(CURDIR)/tools" python3
 # The program that measures rounds of calls, for bench-library and bench-c.
 ROUNDS := crates/strm_bench/out/strm_bench
 SOURCES := crates.txt HANDLES $(shell find crates -path '*/out' -prune -o \( -name '*.rt' -o -name '*.antt' \) -print)
@@ -96,9 +98,9 @@ soak: $(BUILT)
 	@tests/soak $(OPTIONS) $(BUILT)
 
 # Records calls of ppp and lwIP, and executes them (tests/field). It fetches the sources of both from Debian. OPTIONS are those of
-# tests/field/run, as --scripts N. With KEEP=DIR, that folder gets the recordings and their pages.
+# tests/field_run, as --scripts N. With KEEP=DIR, that folder gets the recordings and their pages.
 field: $(BUILT)
-	@tests/field/run $(if $(KEEP),--keep $(KEEP)) $(OPTIONS) $(BUILT)
+	@tests/field_run $(if $(KEEP),--keep $(KEEP)) $(OPTIONS) $(BUILT)
 
 # Tests pages of tools/strm-view in Chromium. It measures how fast a page of 100,000 lines is, and puts pictures of some pages into
 # build/view. It needs no `rt`. If there is no Chromium, it installs one if apt-get may.
@@ -120,42 +122,42 @@ bench: bench-lines bench-library bench-batches bench-census bench-header bench-l
 
 # Prints what a line and a call of each word cost. OPTIONS are those of bench/run.py, as --instructions, or --write for docs/.
 bench-lines: $(BUILT)
-	@python3 bench/run.py $(OPTIONS) $(BUILT)
+	@$(BENCH) bench/run.py $(OPTIONS) $(BUILT)
 
 # Prints what calls of the libraries cost. They are made with tokens, with registers and at a shared pool. OPTIONS are those of
 # bench/library.py, as --write for docs/.
 bench-library: $(ROUNDS)
-	@python3 bench/library.py $(OPTIONS) $(ROUNDS)
+	@$(BENCH) bench/library.py $(OPTIONS) $(ROUNDS)
 
 # Prints what calls at a shared pool cost in batches. One thread makes them, and four. OPTIONS are those of bench/batches.py, as --write for
 # docs/.
 bench-batches: $(ROUNDS)
-	@python3 bench/batches.py $(OPTIONS) $(ROUNDS)
+	@$(BENCH) bench/batches.py $(OPTIONS) $(ROUNDS)
 
 # Prints what a look at the census without the lock costs. Workers run beside some. OPTIONS are those of bench/census.py.
 bench-census: $(BUILT)
 	$(NEEDS_RT)
-	@python3 bench/census.py $(OPTIONS)
+	@$(BENCH) bench/census.py $(OPTIONS)
 
 # Prints what a header costs that is rewritten in place. Beside it is plain Rust. OPTIONS are those of bench/header.py.
 bench-header: $(BUILT)
 	$(NEEDS_RT)
-	@python3 bench/header.py $(OPTIONS)
+	@$(BENCH) bench/header.py $(OPTIONS)
 
 # Prints what a line by four workers costs, and a lock alone. OPTIONS are those of bench/lock.py.
 bench-lock: $(BUILT)
-	@python3 bench/lock.py $(OPTIONS) $(BUILT)
+	@$(BENCH) bench/lock.py $(OPTIONS) $(BUILT)
 
 # Prints what calls of strm.h cost, and those of a pool in C. Beside them are the calls that those of strm.h make. OPTIONS are those of
 # bench/c.py, as --write for docs/. With PEERS=1, also what bench-peers prints.
 bench-c: build/libstrm.a $(ROUNDS)
-	@python3 bench/c.py $(OPTIONS) build/libstrm.a $(ROUNDS)
-	@$(if $(PEERS),python3 bench/peers.py $(OPTIONS) build/libstrm.a)
+	@$(BENCH) bench/c.py $(OPTIONS) build/libstrm.a $(ROUNDS)
+	@$(if $(PEERS),$(BENCH) bench/peers.py $(OPTIONS) build/libstrm.a)
 
 # Prints what the same work costs over strm.h, DPDK, lwIP and GLib. A pool in C does it too. This names those whose Debian package is not
 # installed. OPTIONS are those of bench/peers.py, as --write for docs/.
 bench-peers: build/libstrm.a
-	@python3 bench/peers.py $(OPTIONS) build/libstrm.a
+	@$(BENCH) bench/peers.py $(OPTIONS) build/libstrm.a
 
 # Puts the proved program at build/strm.
 strm: build/strm

@@ -8,11 +8,10 @@ import sys
 import tempfile
 
 from programs import Running, collected, medians, rewrite
+from strm_tools.limits import MESSAGE_BLOCKS
 
 HERE = os.path.dirname(os.path.abspath(__file__))
 TOP = os.path.dirname(HERE)
-sys.path.append(os.path.join(TOP, "tools"))
-from strm_tools.limits import MESSAGE_BLOCKS
 
 # The program's crate, and the libraries that it uses.
 CRATE, USES = "bench_look", ["arrayvec", "strm_pool", "strm_shared"]

@@ -9,8 +9,6 @@ from concurrent.futures import ThreadPoolExecutor
 from typing import NamedTuple
 
 from programs import Running, collected, medians, rewrite
-
-sys.path.append(os.path.join(os.path.dirname(os.path.abspath(__file__)), "..", "tools"))
 from strm_tools.limits import MESSAGE_BLOCKS
 
 POOLS = (255, 4_095, MESSAGE_BLOCKS)

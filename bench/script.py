@@ -1,12 +1,9 @@
 #!/usr/bin/env python3
 """Writes a script of so many drawn command lines, the same for the same seed. Has the table of all words."""
 import argparse
-import os
 import random
-import sys
 from typing import Callable, NamedTuple
 
-sys.path.append(os.path.join(os.path.dirname(os.path.abspath(__file__)), "..", "tools"))
 from strm_tools.limits import COMMAND_LINES, DATA_BLOCK_BYTES, DATA_BLOCKS, MESSAGE_BLOCKS, WISHES
 
 REGISTERS = "abcdefghijklmnopqrstuvwxyz"

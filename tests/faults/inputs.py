@@ -1,13 +1,8 @@
 """What the program is run on: cases of tests/cases, and the answer to each where nothing fails."""
-import os
-import sys
 from typing import NamedTuple
 
-from shim import Answer
-
-TOP = os.path.dirname(os.path.dirname(os.path.dirname(os.path.abspath(__file__))))
-sys.path[:0] = [os.path.join(TOP, "tests", "making"), os.path.join(TOP, "tools")]
-import cases
+from faults.shim import Answer
+from making import cases
 from strm_tools.judge import Wrong, judge, judge_beginning
 
 # Where a write takes only a part of a text, it is one of about so many.

@@ -6,7 +6,7 @@ import sys
 import tempfile
 from typing import NamedTuple
 
-from imports import Unreadable, imports_of
+from faults.imports import Unreadable, imports_of
 
 SOURCE = os.path.join(os.path.dirname(os.path.abspath(__file__)), "shim.c")
 # How long a run may take.

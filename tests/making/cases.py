@@ -62,7 +62,8 @@ def text_of(name):
     file, text = sources()[name]
     if text is not None:
         return text
-    ran = subprocess.run([os.path.join(CASES, file)], cwd=TOP, stdin=subprocess.DEVNULL, capture_output=True, timeout=SECONDS)
+    variables = {**os.environ, "PYTHONPATH": os.path.dirname(CASES)}
+    ran = subprocess.run([os.path.join(CASES, file)], cwd=TOP, env=variables, stdin=subprocess.DEVNULL, capture_output=True, timeout=SECONDS)
     if ran.returncode != 0:
         raise ValueError(f"its program ends with status {ran.returncode}:\n{ran.stderr.decode('utf-8', 'replace')}")
     return ran.stdout

@@ -1,10 +1,10 @@
 """Draws scripts of several sections on few blocks, few queues and small marks, has workers serve them, and judges what comes."""
 import subprocess
 
+from making.mixed import drawn
+from making.served import numbered
 from strm_tools.judge import Wrong, judge
-from mixed import drawn
 from strm_tools.model import WORDS, Model, Pool
-from served import numbered
 
 # How many bytes a script may have, and how many seconds a run, whose status is 124 where it takes longer.
 BYTES = 16_777_216

@@ -1,6 +1,6 @@
 """Draws lines of all words, and answers them by the model."""
+from making.served import print_served
 from strm_tools.model import HIGH_PRIORITY, ORDINARY, WORDS, Model, rank
-from served import print_served
 
 REGISTERS = "abcdefghijklmz"
 

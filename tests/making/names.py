@@ -1,5 +1,5 @@
 """Lines after which a data block has many names: a message grows by duplicates of its first block."""
-from served import print_served
+from making.served import print_served
 
 HEADER = ["pool 1 300", "class 16 1", "queue 10 4 s -", "bufcalls 2 1"]
 

@@ -4,16 +4,16 @@ import shutil
 import subprocess
 import sys
 
+from making import TOP
+from making.typed import Typed
 from strm_tools.judge import Wrong
-from typed import Typed
 
-TOOLS = os.path.join(os.path.dirname(os.path.dirname(os.path.dirname(os.path.abspath(__file__)))), "tools")
+TOOLS = os.path.join(TOP, "tools")
 SECONDS = 60
 PROMPT = r"\n(\d+:\d+( waits)?|header)> "
 # What a strm prints, as a program in Python, which is quick to write a fault into.
 STAND_IN = """#!{python}
 import sys
-sys.path.insert(0, {tools!r})
 from strm_tools.judge import Replay
 replay = Replay(sys.stdin.read())
 lines = []
@@ -37,6 +37,8 @@ class Room:
         self.tools = self.of("copy", "tools")
         shutil.copytree(os.path.join(TOOLS, "strm_tools"), os.path.join(self.tools, "strm_tools"))
         shutil.copy(os.path.join(TOOLS, "strm-play"), self.tools)
+        # For the programs of `stand_in`.
+        os.symlink(os.path.join(self.tools, "strm_tools"), self.of("strm_tools"))
         os.mkdir(self.of("empty"))
         self.command = [sys.executable, os.path.join(self.tools, "strm-play")]
         self.variables = {**os.environ, "PATH": self.of("empty"), "COLUMNS": "120", "TERM": "dumb"}
@@ -51,7 +53,7 @@ class Room:
 
     def stand_in(self, name, printed="text"):
         """A program that prints what strm prints, or another text."""
-        path = self.write(name, STAND_IN.format(python=sys.executable, tools=TOOLS, printed=printed))
+        path = self.write(name, STAND_IN.format(python=sys.executable, printed=printed))
         os.chmod(path, 0o755)
         return path
 

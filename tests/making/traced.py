@@ -1,6 +1,6 @@
 """Writes traces, as strm-record(1) explains them, of a driver whose STREAMS are the plain model."""
+from making.mixed import Dice, drawn
 from strm_tools.model import HIGH_PRIORITY, ORDINARY, WORDS, Model
-from mixed import Dice, drawn
 
 REGISTERS = "abcdefghijklmz"
 

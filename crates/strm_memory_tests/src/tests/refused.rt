@@ -1,6 +1,6 @@
 //! Makes each call of the libraries that allocates, `run`, and `serve_all`, which must not allocate. Makes a call again if memory
 //! or a thread is refused.
-//! tests/faults/calls refuses each growth and each thread in turn; without refusals these tests pass too.
+//! tests/faults_calls refuses each growth and each thread in turn; without refusals these tests pass too.
 ghost use Rattle.std.specs.Prelude.{◌≡◌};
 ghost use Rattle.strm_mblk.specs.Arena.{census_of};
 ghost use Rattle.strm_shared.specs.Starts.{IsNameOf};
@@ -31,7 +31,7 @@ const TEXT: &[u8] =
 // The place of the report in the text.
 const REPORT: usize = 31;
 
-// Reports what was refused, on a line that tests/faults/calls reads.
+// Reports what was refused, on a line that tests/faults_calls reads.
 fn tell(rt: &impl Print, what: &str) {
     let _ = println!(rt; "refused {what}");
 }

@@ -3,12 +3,9 @@ proved to follow."""
 import glob
 import os
 import re
-import sys
 
-from page import TOP
-
-sys.path.insert(0, os.path.join(TOP, "tests", "making"))
-from cases import kept_cases
+from making import TOP
+from making.cases import kept_cases
 
 # Cases that a program prints, for refusals that no script of a few lines meets.
 MADE = ["most_names"]

@@ -3,7 +3,8 @@ import os
 import re
 from typing import NamedTuple
 
-TOP = os.path.dirname(os.path.dirname(os.path.dirname(os.path.abspath(__file__))))
+from making import TOP
+
 PAGE = os.path.join(TOP, "man", "strm.1")
 
 # The macros that words of the page stand under, and punctuation, which stands under none.

@@ -1,0 +1,1 @@
+"""Fetches and builds what tests/field_run records."""

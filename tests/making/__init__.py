@@ -1,0 +1,7 @@
+"""What scripts and cases share."""
+import os
+import sys
+
+TOP = os.path.dirname(os.path.dirname(os.path.dirname(os.path.abspath(__file__))))
+# Python finds modules beside the script that it runs, but strm_tools and the lines that bench/script.py draws are in other folders.
+sys.path[:0] = [os.path.join(TOP, "tools"), os.path.join(TOP, "bench")]
