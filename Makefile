@@ -88,7 +88,7 @@ edits:
 	$(NEEDS_RT)
 	@tests/edits $(CRATES)
 
-# Checks scripts with shellcheck, and Python with pyflakes3.
+# Checks scripts with shellcheck, Python with pyflakes3 and mypy.
 lint:
 	@tests/lint
 

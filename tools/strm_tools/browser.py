@@ -1,4 +1,6 @@
 """Chromium without a window, for what only a browser draws."""
+from __future__ import annotations
+
 import shutil
 import subprocess
 import tempfile
@@ -15,11 +17,11 @@ class Failed(Exception):
     """How a run of the browser ended, where it did not end well."""
 
 
-def found():
+def found() -> str | None:
     return next(filter(None, map(shutil.which, NAMES)), None)
 
 
-def chromium():
+def chromium() -> str:
     """The browser's program. If there is none, ends the program."""
     return found() or end(2, "there is no Chromium, which Debian has as the package chromium")
 
@@ -30,7 +32,7 @@ class Browser(NamedTuple):
     program: str
     room: str
 
-    def run(self, address, *words):
+    def run(self, address: str, *words: str) -> str:
         with tempfile.TemporaryDirectory(dir=self.room) as profile:
             own = [self.program, *WITHOUT, f"--user-data-dir={profile}"]
             try:
@@ -41,10 +43,10 @@ class Browser(NamedTuple):
             raise Failed(f"Chromium ends with status {ran.returncode}: {ran.stderr}")
         return ran.stdout
 
-    def dom(self, path, frame=None, width=1280):
+    def dom(self, path: str, frame: int | None = None, width: int = 1280) -> str:
         address = f"file://{path}" + ("" if frame is None else f"#frame={frame}")
         return self.run(address, "--dump-dom", f"--window-size={width},900")
 
-    def picture(self, address, png, width, height, dark):
+    def picture(self, address: str, png: str, width: int, height: int, dark: bool) -> None:
         scheme = f"--blink-settings=preferredColorScheme={0 if dark else 1}"
         self.run(address, f"--screenshot={png}", f"--window-size={width},{height}", scheme)

@@ -1,10 +1,12 @@
 """What strm-check reports of a script: its faults, each with what was expected, and notes that help."""
+from __future__ import annotations
+
 import io
 import itertools
 import re
-from typing import NamedTuple
+from typing import Callable, Iterator, NamedTuple
 
-from strm_tools.faults import FITS, FORMS, HEADER, MOST, STAGE, Reading, config_faults, line_kind, misfit
+from strm_tools.faults import FITS, FORMS, HEADER, MOST, STAGE, ConfigFault, LineFault, Reading, config_faults, line_kind, misfit
 from strm_tools.hints import config_hints, hints
 from strm_tools.labels import WRITTEN, form_of, queues_of
 from strm_tools.limits import SCRIPT_BYTES
@@ -24,33 +26,33 @@ class Finding(NamedTuple):
     kind: str
     words: str
 
-    def is_fault(self):
+    def is_fault(self) -> bool:
         return self.kind != "note"
 
-    def line(self, name):
+    def line(self, name: str) -> str:
         place = f"{name}:{self.number}" if self.number else name
         return f"{place}: {self.kind}: {self.words}\n"
 
 
-def names_of(first):
+def names_of(first: str) -> list[str]:
     """What the manual calls the words after this first word."""
     return WORDS[first].form.split()
 
 
-def unknown(fault, words):
+def unknown(fault: LineFault, words: list[str]) -> str:
     return f"word 1 is {shown(words[0])}; expected {allowed(fault.before)}"
 
 
-def order(fault, words):
+def order(fault: LineFault, words: list[str]) -> str:
     return misplaced(words[0], fault.before)
 
 
-def toomany(fault, words):
+def toomany(fault: LineFault, words: list[str]) -> str:
     kind = line_kind(words[0])
-    return f"this is {kind} line {fault.count + 1}; expected at most {MOST[kind]}"
+    return f"this is {kind} line {fault.above + 1}; expected at most {MOST[kind]}"
 
 
-def missing_name(first, rest):
+def missing_name(first: str, rest: list[str]) -> str:
     """The name of the first word that is missing in a line with too few: one without which the others fit. If there are several, it is the
     last, but no bytes, since a number may be a byte too."""
     items = FORMS[first]
@@ -63,7 +65,7 @@ def missing_name(first, rest):
     return next(name for place, name in enumerate(names_of(first)) if place not in kept)
 
 
-def shape(_, words):
+def shape(_: LineFault, words: list[str]) -> str:
     names = names_of(words[0])
     counts = wrong_count(whole_form(words[0]), len(words))
     if len(words) <= len(names):
@@ -72,18 +74,18 @@ def shape(_, words):
     return f"{counts}; word {place + 1} is {shown(words[place])}"
 
 
-def wrong_word(_, words):
+def wrong_word(_: LineFault, words: list[str]) -> str:
     first, *rest = words
     place = misfit(first, rest)
     item = FORMS[first][place - 1]
     return f"word {place + 1} is {shown(words[place])}; expected {names_of(first)[place - 1]}: {MEANINGS[item]}"
 
 
-def cut(fault, _):
+def cut(fault: LineFault, _: list[str]) -> str:
     return f"the last line is {shown(fault.line)}; expected a line feed at its end"
 
 
-def missing(fault, _):
+def missing(fault: LineFault, _: list[str]) -> str:
     *kinds, last = (kind for kind in HEADER if STAGE[kind] > STAGE[fault.before])
     lines = f"{', '.join(kinds)} and {last} lines" if kinds else f"a {last} line"
     if fault.number == 1:
@@ -92,7 +94,7 @@ def missing(fault, _):
     return f"the script ends{place}; expected {lines}"
 
 
-EXPLAINED = {
+EXPLAINED: dict[str, Callable[[LineFault, list[str]], str]] = {
     "unknown": unknown,
     "order": order,
     "toomany": toomany,
@@ -103,21 +105,21 @@ EXPLAINED = {
 }
 
 
-def of_line(fault, script):
+def of_line(fault: LineFault, script: bytes) -> Iterator[Finding]:
     """A fault of a line, and its notes."""
     yield Finding(fault.number, fault.kind, EXPLAINED[fault.kind](fault, fault.line.split(" ")))
     for hint in hints(fault, script):
         yield Finding(fault.number, "note", hint)
 
 
-def of_config(fault):
+def of_config(fault: ConfigFault) -> Iterator[Finding]:
     """A fault of the pool that the header describes, and its notes."""
     yield Finding(fault.number, f"bad config: {fault.which}", fault.why)
     for hint in config_hints(fault):
         yield Finding(fault.number, "note", hint)
 
 
-def label_note(line, queues):
+def label_note(line: str, queues: int) -> str | None:
     """What is wrong with a comment that begins as a label does, or None. `queues` is the number of queues."""
     labelled = form_of(line)
     if labelled is None:
@@ -127,7 +129,7 @@ def label_note(line, queues):
     return f"the label names queue {above[0]}; expected at most {queues - 1}" if above else None
 
 
-def of_labels(script, queues):
+def of_labels(script: bytes, queues: int) -> Iterator[Finding]:
     """Notes on comments that begin as labels do."""
     number, end = 1, 0
     for found in re.finditer(rb"^#:[^\n]*", script, re.MULTILINE):
@@ -138,13 +140,13 @@ def of_labels(script, queues):
             yield Finding(number, "note", note)
 
 
-def too_long(most):
+def too_long(most: int) -> list[Finding]:
     """What is found in a script of more bytes than it may have, which is not read any further."""
     more = f"more than {most} bytes; give strm and strm-check a greater --max, up to {SCRIPT_BYTES}"
     return [Finding(0, "input too long", TOO_LONG if most == SCRIPT_BYTES else more)]
 
 
-def lines_of(script):
+def lines_of(script: bytes) -> io.TextIOWrapper:
     """The lines of a script, given as bytes, with their ends. Each byte is a character."""
     return io.TextIOWrapper(io.BytesIO(script), encoding="latin-1", newline="\n")
 
@@ -152,15 +154,15 @@ def lines_of(script):
 class Checked:
     """A script, given as bytes, that is checked for its first fault, or for every fault. Its notes come after its faults."""
 
-    def __init__(self, script, every):
+    def __init__(self, script: bytes, every: bool) -> None:
         self.script = script
         self.every = every
         self.reading = Reading()
         self.is_right = True
         # The faults that were not asked for.
-        self.rest = iter(())
+        self.rest: Iterator[Iterator[Finding]] = iter(())
 
-    def faults(self):
+    def faults(self) -> Iterator[Finding]:
         """Each fault, with the notes on its causes."""
         faults = self.all_faults()
         for found in faults:
@@ -170,13 +172,13 @@ class Checked:
                 self.rest = faults
                 return
 
-    def all_faults(self):
+    def all_faults(self) -> Iterator[Iterator[Finding]]:
         for fault in self.reading.faults(lines_of(self.script)):
             yield of_line(fault, self.script)
-        for fault in config_faults(self.reading.header):
-            yield of_config(fault)
+        for of_pool in config_faults(self.reading.header):
+            yield of_config(of_pool)
 
-    def notes(self):
+    def notes(self) -> Iterator[Finding]:
         """Notes that belong to no fault: how many faults there are beyond the first, if only this was asked for; or else on labels, and on
         commands, if there is no fault."""
         more = sum(1 for _ in self.rest)
@@ -189,6 +191,6 @@ class Checked:
                 yield Finding(number, "note", f"strm refuses this line in any case: {why}")
 
 
-def findings(script, every):
+def findings(script: bytes, every: bool) -> Iterator[Finding]:
     """The faults of a script, each with its notes."""
     return Checked(script, every).faults()

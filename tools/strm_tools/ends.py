@@ -3,10 +3,19 @@
 Status 1 means that an input is wrong, 2 that an argument is wrong, a file can't be read or written, or memory is out. Two ends need no
 line: a tool that is interrupted ends by this signal, which shells show as 130; and 141 means that nobody reads its output any more.
 Output that a tool prints itself is checked as it ends."""
+from __future__ import annotations
+
 import atexit
 import functools
 import os
 import sys
+from typing import TYPE_CHECKING, Callable, Iterable, NoReturn
+
+if TYPE_CHECKING:
+    import argparse
+    from types import TracebackType
+
+    from strm_tools.script import Wrong
 
 NAME = os.path.basename(sys.argv[0])
 # Standard streams by number, since Python has no object for one that is closed.
@@ -18,7 +27,7 @@ MOST_BYTES = 160_000_000
 SHOWN = 600, 200
 
 
-def one_line(text):
+def one_line(text: str) -> str:
     """A text as one line: a character that can't be printed is escaped, and the middle of a long text is left out."""
     begin, end = SHOWN
     if len(text) > begin + end:
@@ -26,7 +35,7 @@ def one_line(text):
     return "".join(char if char.isprintable() else char.encode("unicode_escape").decode() for char in text)
 
 
-def say(lines):
+def say(lines: Iterable[str]) -> None:
     """Prints lines on standard error, as far as it takes them."""
     try:
         for line in lines if sys.stderr is not None else ():
@@ -36,28 +45,28 @@ def say(lines):
 
 
 @functools.lru_cache(maxsize=None)
-def complain(why):
+def complain(why: str) -> None:
     """Prints a line with the tool's name on standard error, and the same line only once."""
     say([f"{NAME}: {one_line(why)}"])
 
 
-def end(status, why):
+def end(status: int, why: object) -> NoReturn:
     """Ends the program with a line on standard error."""
     complain(str(why))
     sys.exit(status)
 
 
-def name_of(path, stream="standard input"):
+def name_of(path: str, stream: str = "standard input") -> str:
     """How messages name a file: as it was given, but `-` as its stream, and a name without characters by quotes."""
     return stream if path == "-" else path or "''"
 
 
-def end_wrong(why, words):
+def end_wrong(why: Wrong, words: argparse.Namespace) -> NoReturn:
     """Ends the program because what these words of the command line name is wrong. If that is a file, its name comes first."""
     end(1, f"{name_of(getattr(words, why.of))}: {why}" if why.of else why)
 
 
-def end_for(name, why, leave=sys.exit):
+def end_for(name: str, why: OSError, leave: Callable[[int], NoReturn] = sys.exit) -> NoReturn:
     """Ends the program because a file of this name can't be read or written."""
     if isinstance(why, BrokenPipeError):
         leave(141)
@@ -65,7 +74,7 @@ def end_for(name, why, leave=sys.exit):
     leave(2)
 
 
-def read_bytes(path, most=-1):
+def read_bytes(path: str, most: int = -1) -> bytes:
     """The bytes of a file, or of standard input for `-`, or the first `most` of them."""
     try:
         with open(os.dup(STANDARD_INPUT) if path == "-" else path, "rb") as file:
@@ -74,7 +83,7 @@ def read_bytes(path, most=-1):
         end_for(name_of(path), why)
 
 
-def read(path):
+def read(path: str) -> str:
     """The text of a file, or of standard input for `-`. A byte that is no UTF-8 is replaced; no line end is changed."""
     octets = read_bytes(path, MOST_BYTES + 1)
     if len(octets) > MOST_BYTES:
@@ -82,7 +91,7 @@ def read(path):
     return octets.decode("utf-8", "replace")
 
 
-def write_pieces(pieces):
+def write_pieces(pieces: Iterable[str]) -> None:
     """Writes texts one after another to standard output."""
     try:
         with open(os.dup(STANDARD_OUTPUT), "wb") as file:
@@ -92,13 +101,13 @@ def write_pieces(pieces):
         end_for("standard output", why)
 
 
-def write(text):
+def write(text: str) -> None:
     """Writes a text to standard output."""
     write_pieces([text])
 
 
 @atexit.register
-def flush_output():
+def flush_output() -> None:
     """Ends the program if what it printed can't be written."""
     try:
         if sys.stdout is not None and not sys.stdout.closed:
@@ -107,7 +116,7 @@ def flush_output():
         end_for("standard output", why, os._exit)
 
 
-def end_uncaught(kind, why, trace):
+def end_uncaught(kind: type[BaseException], why: BaseException, trace: TracebackType | None) -> None:
     """Says nothing of an interrupt, after which Python ends by this signal, and one line if memory is out."""
     if issubclass(kind, MemoryError):
         complain("out of memory")

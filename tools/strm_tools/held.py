@@ -1,49 +1,52 @@
 """The messages that a trace has as held, in memory and in the registers of the script, and lines that change the script's as memory was
 changed through pointers."""
-from collections import defaultdict
+from __future__ import annotations
 
-from strm_tools.trace import Bad, Block
+from collections import defaultdict
+from typing import Callable, Iterable, Mapping, Sequence
+
+from strm_tools.trace import Bad, Block, Told
 
 REGISTERS = "abcdefghijklmnopqrstuvwxyz"
 # The most bytes of a `write`.
 PIECE = 64
 
 
-def alike(old, new):
+def alike(old: bytes, new: bytes) -> int:
     """How many bytes at the beginning are the same, of as many."""
     if old == new:
         return len(old)
     return next(at for at, (one, other) in enumerate(zip(old, new)) if one != other)
 
 
-def pieces(octets):
+def pieces(octets: bytes) -> list[bytes]:
     return [octets[at : at + PIECE] for at in range(0, len(octets), PIECE)]
 
 
 class Memory:
     """The held message blocks as the trace has them: each by its number, with the one that it leads to, and the bytes of data blocks."""
 
-    def __init__(self):
-        self.sizes = {}
-        self.bytes = {}
-        self.blocks = {}
-        self.next = {}
+    def __init__(self) -> None:
+        self.sizes: dict[int, int] = {}
+        self.bytes: dict[int, bytearray] = {}
+        self.blocks: dict[int, Block] = {}
+        self.next: dict[int, int | None] = {}
         # The held blocks that refer to each data block.
-        self.holders = defaultdict(dict)
+        self.holders: dict[int, dict[int, bool]] = defaultdict(dict)
 
-    def size_of(self, data):
+    def size_of(self, data: int) -> int:
         if data not in self.sizes:
             raise Bad(f"data block {data} has no line 'c {data} SIZE'")
         return self.sizes[data]
 
-    def bytes_of(self, data):
+    def bytes_of(self, data: int) -> bytearray:
         return self.bytes.setdefault(data, bytearray(self.sizes[data]))
 
-    def require_held(self, number):
+    def require_held(self, number: int) -> None:
         if number not in self.blocks:
             raise Bad(f"block {number} is not held")
 
-    def take(self, told):
+    def take(self, told: Told) -> None:
         """Takes what a line says of a block."""
         block = told.block
         size = self.size_of(block.data)
@@ -55,20 +58,20 @@ class Memory:
         self.next[told.number] = told.next
         self.holders[block.data][told.number] = True
 
-    def end(self, number):
+    def end(self, number: int) -> None:
         """Has a block held no longer."""
         del self.holders[self.blocks[number].data][number]
         del self.blocks[number], self.next[number]
 
-    def end_at(self, numbers):
+    def end_at(self, numbers: Iterable[int]) -> None:
         """Has messages end at these blocks where they lead to a block that is not held."""
         for number in numbers:
             if self.next[number] not in self.blocks:
                 self.next[number] = None
 
-    def chain(self, head):
+    def chain(self, head: int | None) -> list[int]:
         """The blocks of the message that begins with this one."""
-        blocks = {}
+        blocks: dict[int, bool] = {}
         while head in self.blocks:
             if head in blocks:
                 raise Bad(f"block {head} leads back to itself")
@@ -76,9 +79,9 @@ class Memory:
             head = self.next[head]
         return list(blocks)
 
-    def chains(self, numbers):
+    def chains(self, numbers: list[int]) -> list[list[int]]:
         """The messages that these blocks are now."""
-        before = {}
+        before: dict[int, int] = {}
         for number in numbers:
             following = self.next[number]
             if following in before:
@@ -90,7 +93,7 @@ class Memory:
             raise Bad(f"block {min(set(numbers).difference(*chains))} leads back to itself")
         return chains
 
-    def others(self, number):
+    def others(self, number: int) -> list[int]:
         """The other held blocks that refer to the data block of this one."""
         return [other for other in self.holders[self.blocks[number].data] if other != number]
 
@@ -99,23 +102,23 @@ class Held:
     """The messages in the script's registers: the numbers of each one's blocks, and these blocks as the script has them. `do` takes each
     line that is made."""
 
-    def __init__(self, do):
+    def __init__(self, do: Callable[[str], None]) -> None:
         self.do = do
         self.memory = Memory()
-        self.blocks = {}
-        self.bytes = {}
-        self.messages = {}
-        self.register_of = {}
+        self.blocks: dict[int, Block] = {}
+        self.bytes: dict[int, bytearray] = {}
+        self.messages: dict[str, list[int]] = {}
+        self.register_of: dict[int, str] = {}
 
-    def bytes_of(self, data):
+    def bytes_of(self, data: int) -> bytearray:
         return self.bytes.setdefault(data, bytearray(self.memory.sizes[data]))
 
-    def take(self, number):
+    def take(self, number: int) -> None:
         """Takes a block as memory has it."""
         block = self.blocks[number] = self.memory.blocks[number]
         self.bytes_of(block.data)[:] = self.memory.bytes_of(block.data)
 
-    def set(self, register, numbers):
+    def set(self, register: str, numbers: list[int]) -> None:
         """Has a register hold the message of these blocks, or none."""
         for number in self.messages.pop(register, []):
             if self.register_of.get(number) == register:
@@ -124,7 +127,7 @@ class Held:
             self.messages[register] = numbers
             self.register_of.update(dict.fromkeys(numbers, register))
 
-    def free_register(self):
+    def free_register(self) -> str:
         for register in REGISTERS:
             if register not in self.messages:
                 return register
@@ -132,7 +135,7 @@ class Held:
 
     # Messages as a whole
 
-    def unlink(self, register):
+    def unlink(self, register: str) -> str:
         """Parts the first block of a message from the rest, and returns the register of the rest."""
         first, *rest = self.messages[register]
         other = self.free_register()
@@ -141,14 +144,14 @@ class Held:
         self.set(other, rest)
         return other
 
-    def link(self, register, tail):
+    def link(self, register: str, tail: str) -> None:
         """Appends a message to another one."""
         self.do(f"linkb {register} {tail}")
         numbers = self.messages[register] + self.messages[tail]
         self.set(tail, [])
         self.set(register, numbers)
 
-    def begin_at(self, number):
+    def begin_at(self, number: int) -> tuple[str, int | None]:
         """Has a message begin at a block. Returns its register, and the block that was before it, if any."""
         register = self.register_of[number]
         place = self.messages[register].index(number)
@@ -162,7 +165,7 @@ class Held:
             rest = after
         return rest, before
 
-    def join(self, numbers):
+    def join(self, numbers: Sequence[int]) -> None:
         """Makes one message of these blocks, whose pieces are messages."""
         for one, other in zip(numbers, numbers[1:]):
             if self.register_of[one] != self.register_of[other]:
@@ -170,7 +173,7 @@ class Held:
 
     # Changes through pointers
 
-    def agree(self, changed):
+    def agree(self, changed: Mapping[int, int]) -> None:
         """Has the script change these blocks as memory has changed. Each has the number of the line that says so."""
         registers = dict.fromkeys(self.register_of[number] for number in changed)
         self.memory.end_at(changed)
@@ -182,12 +185,12 @@ class Held:
         for numbers in chains:
             self.join(numbers)
 
-    def stays_linked(self, register):
+    def stays_linked(self, register: str) -> bool:
         """Whether memory has the blocks of a message behind each other too."""
         numbers = self.messages[register]
         return all(self.memory.next[one] == other for one, other in zip(numbers, numbers[1:]))
 
-    def mend_message(self, register, changed):
+    def mend_message(self, register: str, changed: Mapping[int, int]) -> None:
         """Changes the blocks of a message. Where one can't be changed inside the message, or memory has parted it, each block is parted
         from those behind it, changed, and appended to those before it, so that this needs three registers only."""
         before = None
@@ -199,19 +202,19 @@ class Held:
         self.mend_all(register, changed)
         self.follow(before, register)
 
-    def follow(self, before, register):
+    def follow(self, before: str | None, register: str) -> str:
         """Appends a message to the one before it, if memory has them so, and returns the register of what then is the last."""
         if before is None or self.memory.next[self.messages[before][-1]] != self.messages[register][0]:
             return register
         self.link(before, register)
         return before
 
-    def can_stay(self, register):
+    def can_stay(self, register: str) -> bool:
         """Whether each block of a message can be changed where it is in the message."""
         numbers = self.messages[register]
         return len(numbers) == 1 or (self.stays_linked(register) and all(map(self.can_stay_behind, numbers)))
 
-    def can_stay_behind(self, number):
+    def can_stay_behind(self, number: int) -> bool:
         """Whether a block of a message of several can be changed where it is in the message."""
         now, then = self.blocks[number], self.memory.blocks[number]
         numbers = self.messages[self.register_of[number]]
@@ -219,14 +222,14 @@ class Held:
             return False
         return number == numbers[-1] or self.kept(number) == now.write
 
-    def kept(self, number):
+    def kept(self, number: int) -> int:
         """Up to which place the bytes of a block stay as they are."""
         now, then = self.blocks[number], self.memory.blocks[number]
         end = min(now.write, then.write)
         begin = min(then.read, end)
         return begin + alike(self.bytes_of(now.data)[begin:end], self.memory.bytes_of(now.data)[begin:end])
 
-    def mend_all(self, register, changed):
+    def mend_all(self, register: str, changed: Mapping[int, int]) -> None:
         for number in self.messages[register]:
             if number in changed:
                 try:
@@ -234,7 +237,7 @@ class Held:
                 except Bad as why:
                     raise Bad(str(why), changed[number]) from None
 
-    def mend(self, number, register):
+    def mend(self, number: int, register: str) -> None:
         """Gives a block the places, bytes, type and band that memory has."""
         then = self.memory.blocks[number]
         self.require_expressible(number)
@@ -255,7 +258,7 @@ class Held:
             self.do(f"setband {register} {then.band}")
         self.take(number)
 
-    def require_expressible(self, number):
+    def require_expressible(self, number: int) -> None:
         """Raises `Bad` where no line makes the change of a block."""
         now, then = self.blocks[number], self.memory.blocks[number]
         if then.data != now.data:
@@ -265,7 +268,7 @@ class Held:
         if others and (is_written or then.read < now.read or then.kind != now.kind):
             raise Bad(f"data block {now.data} changes while block {others[0]} refers to it too, which no line of strm can do")
 
-    def renew(self, number, register):
+    def renew(self, number: int, register: str) -> None:
         """Has a block take its data block anew, with its places at the beginning."""
         data = self.blocks[number].data
         self.do(f"freemsg {register}")

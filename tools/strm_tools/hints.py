@@ -1,12 +1,14 @@
 """Hints: what may have caused a fault of a script. Each says what is so, and applies only to the fault at hand."""
+from __future__ import annotations
+
 import functools
 import itertools
 import re
 import unicodedata
-from typing import NamedTuple
+from typing import Callable, Iterator, NamedTuple
 
 from strm_tools.beside import beside
-from strm_tools.faults import AFTER, BYTE_ORDER_MARK, FITS, FORMS, MOST, STAGE, bare_of, has_form, line_kind, misfit
+from strm_tools.faults import AFTER, BYTE_ORDER_MARK, FITS, FORMS, MOST, STAGE, ConfigFault, LineFault, bare_of, has_form, line_kind, misfit
 from strm_tools.model import HIGH_PRIORITY, ORDINARY
 from strm_tools.shown import CARRIAGE_RETURN, octets, shown
 from strm_tools.streams import ADVICE_ON_TYPES, FLUSHES, NO_TYPE, hint_for
@@ -27,42 +29,42 @@ class Faulty(NamedTuple):
     kind: str
     line: str
     before: str
-    # The words of the line, and the place of the wrong one from 0, or None if it is not one word.
-    words: list
+    # The words of the line, and the place of the wrong one from 0, or -1 if it is not one word.
+    words: list[str]
     place: int
     script: bytes
 
-    def word(self):
+    def word(self) -> str:
         """The wrong word, or nothing."""
-        return self.words[self.place] if self.place is not None and self.place < len(self.words) else ""
+        return self.words[self.place] if 0 <= self.place < len(self.words) else ""
 
-    def item(self):
+    def item(self) -> str:
         """What the wrong word, which is not the first, should be."""
         return FORMS[self.words[0]][self.place - 1]
 
-    def text(self):
+    def text(self) -> str:
         """Where the cause of the fault is: the wrong word, or the whole line if the number of words is wrong."""
         return self.line if self.kind == "shape" else self.word()
 
-    def has_empty(self):
+    def has_empty(self) -> bool:
         """Whether an empty word may be the cause."""
         return "" in self.words if self.kind == "shape" else not self.word()
 
 
-def place_of(fault, words):
-    """The place of the wrong word of a line, from 0, or None."""
+def place_of(fault: LineFault, words: list[str]) -> int:
+    """The place of the wrong word of a line, from 0, or -1."""
     if fault.kind in ("shape", "cut", "missing"):
-        return None
-    return 0 if fault.kind in ("unknown", "order", "toomany") else misfit(words[0], words[1:])
+        return -1
+    return 0 if fault.kind in ("unknown", "order", "toomany") else misfit(words[0], words[1:]) or -1
 
 
-def fits(line, before):
+def fits(line: str, before: str) -> bool:
     """Whether a line has no fault after such a line."""
     first = line.split(" ")[0]
     return first in FORMS and line_kind(first) in AFTER[before] and bool(has_form(first)(line))
 
 
-def encoding(faulty):
+def encoding(faulty: Faulty) -> Iterator[str]:
     if faulty.number == 1 and faulty.line.startswith(BYTE_ORDER_MARK):
         yield "a byte order mark begins the file; save the file without it"
     elif faulty.number == 1 and faulty.line.startswith(UTF_16):
@@ -71,18 +73,18 @@ def encoding(faulty):
         yield "the line has bytes 00, as a binary file has, or one in UTF-16"
 
 
-def carriage_return(faulty):
+def carriage_return(faulty: Faulty) -> Iterator[str]:
     is_last = faulty.place == len(faulty.words) - 1
     if faulty.line.endswith("\r") and (is_last or faulty.words[-1] == "\r"):
         yield CARRIAGE_RETURN
 
 
-def tabs(faulty):
+def tabs(faulty: Faulty) -> Iterator[str]:
     if "\t" in faulty.text():
         yield "a tab is part of a word; put one space between words"
 
 
-def is_word_before_comment(faulty):
+def is_word_before_comment(faulty: Faulty) -> bool:
     """Whether the wrong word would be right without a # in it and what follows."""
     word, mark, _ = faulty.word().partition("#")
     if not mark:
@@ -90,7 +92,7 @@ def is_word_before_comment(faulty):
     return word in FORMS if faulty.place == 0 else bool(FITS[faulty.item()][0](word))
 
 
-def comment(faulty):
+def comment(faulty: Faulty) -> Iterator[str]:
     first = faulty.words[0]
     bare = faulty.line.lstrip(" \t")
     if faulty.kind == "unknown" and bare.startswith("#"):
@@ -101,7 +103,7 @@ def comment(faulty):
         yield "a comment is a line of its own; here # and what follows are words"
 
 
-def spaces(faulty):
+def spaces(faulty: Faulty) -> Iterator[str]:
     line = faulty.line
     if not faulty.has_empty():
         return
@@ -119,7 +121,7 @@ def spaces(faulty):
             yield "a space ends the line; remove it" if count == 1 else f"{count} spaces end the line; remove them"
 
 
-def not_ascii(faulty):
+def not_ascii(faulty: Faulty) -> Iterator[str]:
     found = re.search("[\x80-\xff]+", faulty.text())
     if not found or faulty.number == 1 and faulty.line.startswith((BYTE_ORDER_MARK, *UTF_16)):
         return
@@ -130,7 +132,7 @@ def not_ascii(faulty):
         yield f"U+{ord(char):04X}, {unicodedata.name(char, 'without a name')}, is not ASCII"
 
 
-def punctuation(faulty):
+def punctuation(faulty: Faulty) -> Iterator[str]:
     if not re.search("[(),;]", faulty.line):
         return
     bare = " ".join(re.findall(r"[^\s(),;]+", faulty.line))
@@ -140,7 +142,7 @@ def punctuation(faulty):
         yield "words follow each other after single spaces, without ( ) , ;"
 
 
-def another_order(faulty):
+def another_order(faulty: Faulty) -> Iterator[str]:
     if faulty.kind == "number" and faulty.word().isdigit():
         return
     first, *rest = faulty.words
@@ -150,7 +152,7 @@ def another_order(faulty):
         yield f"in another order the words have the right form: {right}"
 
 
-def distance(one, other):
+def distance(one: str, other: str) -> int:
     """How many letters are to be replaced, inserted, removed, or swapped with the next, to make one word of the other."""
     rows = [list(range(len(other) + 1))]
     for i, letter in enumerate(one, 1):
@@ -165,7 +167,7 @@ def distance(one, other):
 
 
 @functools.lru_cache(maxsize=4096)
-def nearest(word, known):
+def nearest(word: str, known: tuple[str, ...]) -> list[str]:
     """Those of the known words that are nearest to a word and near enough to be meant."""
     if not 2 <= len(word) <= LONGEST_WORD:
         return []
@@ -174,18 +176,18 @@ def nearest(word, known):
     return [other for count, other in near if count == least] if least <= (1 if len(word) < 5 else 2) else []
 
 
-def begun(word, known):
+def begun(word: str, known: tuple[str, ...]) -> list[str]:
     """Those of the known words that begin with a word."""
     return [other for other in known if len(word) > 2 and other.startswith(word)]
 
 
-def nearest_hint(word, known):
+def nearest_hint(word: str, known: tuple[str, ...]) -> Iterator[str]:
     near = list(dict.fromkeys([*nearest(word, known), *begun(word, known)]))
     if near:
         yield f"the nearest {'word is' if len(near) == 1 else 'words are'} {', '.join(near)}"
 
 
-def first_word(faulty):
+def first_word(faulty: Faulty) -> Iterator[str]:
     """What a first word may mean that is none."""
     word = bare_of(faulty.word())
     known = hint_for(word, FORMS)
@@ -201,13 +203,13 @@ def first_word(faulty):
         yield from near or ([f"{beside('strm-check')} --words lists all words"] if is_plain else [])
 
 
-def line_of_first(script, kind):
-    """The number of the first line of a script with this first word, or None."""
+def line_of_first(script: bytes, kind: str) -> int:
+    """The number of the first line of a script with this first word, or 0."""
     found = re.search(rb"^" + kind.encode() + rb"(?=[ \n])", script, re.MULTILINE)
-    return found and script.count(b"\n", 0, found.start()) + 1
+    return script.count(b"\n", 0, found.start()) + 1 if found else 0
 
 
-def order(faulty):
+def order(faulty: Faulty) -> Iterator[str]:
     """Which line of the header is missing, or where it is."""
     first = faulty.words[0]
     kind, before = line_kind(first), faulty.before
@@ -232,7 +234,7 @@ def order(faulty):
         yield f"the {kind} line belongs before the first {AFTER[kind][-1]} line"
 
 
-def number(faulty):
+def number(faulty: Faulty) -> Iterator[str]:
     word, item = faulty.word(), faulty.item()
     found = re.fullmatch("([-+]?)([0-9]+)", word)
     if found:
@@ -251,7 +253,7 @@ def number(faulty):
         yield f"a number has no separators: write {re.sub('[^0-9]', '', word)}"
 
 
-def register(faulty):
+def register(faulty: Faulty) -> Iterator[str]:
     word = faulty.word()
     if re.fullmatch("[A-Z]", word):
         yield f"a register is a small letter: write {word.lower()}"
@@ -259,9 +261,10 @@ def register(faulty):
         yield "a register is one letter"
 
 
-def named_word(faulty):
+def named_word(faulty: Faulty) -> Iterator[str]:
     word, item = bare_of(faulty.word()), faulty.item()
-    known = {"kind": TYPES, "flag": ("all", "data"), "service": ()}[item]
+    words: dict[str, tuple[str, ...]] = {"kind": TYPES, "flag": ("all", "data"), "service": ()}
+    known = words[item]
     if word in known:
         return
     if word in NO_TYPE and item == "kind":
@@ -279,7 +282,7 @@ def named_word(faulty):
         yield from nearest_hint(word, known)
 
 
-def octets_apart(faulty):
+def octets_apart(faulty: Faulty) -> Iterator[str]:
     """Bytes that are more than one word."""
     first, *rest = faulty.words
     apart = rest[2:] if first == "write" else []
@@ -289,14 +292,14 @@ def octets_apart(faulty):
         yield from quoted_text(" ".join(apart))
 
 
-def quoted_text(text):
+def quoted_text(text: str) -> Iterator[str]:
     """Text in quotes, where bytes are expected."""
     found = re.fullmatch(r"([\"'])([\x20-\x7e]{1,64})\1", text)
     if found:
         yield f"in hexadecimal: {found[2].encode().hex()}"
 
 
-def octets_word(faulty):
+def octets_word(faulty: Faulty) -> Iterator[str]:
     word = faulty.word()
     text = list(quoted_text(word))
     if text:
@@ -318,7 +321,7 @@ def octets_word(faulty):
         yield f"{(len(digits) + 1) // 2} bytes are too many; one write appends at most 64"
 
 
-def cut(faulty):
+def cut(faulty: Faulty) -> Iterator[str]:
     begin = next((line for line in faulty.line.split("\r") if line and not line.startswith("#")), None)
     if b"\n" not in faulty.script and "\r" in faulty.line and (begin is None or fits(begin, "nothing")):
         yield "carriage returns end the lines; save the file with line feeds"
@@ -326,7 +329,7 @@ def cut(faulty):
 
 # The hints for each kind of fault.
 OF_BYTES = (encoding, carriage_return, tabs, comment, spaces, not_ascii)
-HINTS = {
+HINTS: dict[str, tuple[Callable[[Faulty], Iterator[str]], ...]] = {
     "unknown": (*OF_BYTES, punctuation, first_word),
     "order": (order,),
     "shape": (*OF_BYTES, punctuation, octets_apart),
@@ -338,14 +341,14 @@ HINTS = {
 }
 
 
-def hints(fault, script):
+def hints(fault: LineFault, script: bytes) -> list[str]:
     """The hints for a fault of a line."""
     words = fault.line.split(" ")
     faulty = Faulty(fault.number, fault.kind, fault.line, fault.before, words, place_of(fault, words), script)
     return [hint for hints_of in HINTS.get(fault.kind, ()) for hint in hints_of(faulty)]
 
 
-def config_hints(fault):
+def config_hints(fault: ConfigFault) -> Iterator[str]:
     """The hints for a fault of the pool that a header describes."""
     if fault.which == "Marks" and fault.why.endswith("the high one, 0"):
         yield "no low water mark is below 0; with the marks 1 and 0 a band is full from its first byte on"

@@ -6,6 +6,8 @@
 
 A label has 1 to 40 characters; that of a module has no space. To strm these lines are comments. A line that begins with `#:` and
 has none of these forms is a comment here too; `wrong_labels` finds it."""
+from __future__ import annotations
+
 import re
 from typing import NamedTuple
 
@@ -22,41 +24,44 @@ class Labels(NamedTuple):
     """The labels of a script."""
 
     # The label of each queue that has one.
-    queues: dict
+    queues: dict[int, str]
     # The queues of each module.
-    modules: dict
+    modules: dict[str, list[int]]
     # Where a caller's lines begin, and its label, or "" where a section begins. Line numbers rise.
-    callers: list
+    callers: list[tuple[int, str]]
 
-    def queue(self, number):
+    def queue(self, number: int) -> str:
         """The label of a queue, or its number in words."""
         return self.queues.get(number, f"queue {number}")
 
-    def names_of_callers(self):
+    def names_of_callers(self) -> list[str]:
         """The labels of all callers, each once."""
         return list(dict.fromkeys(label for _, label in self.callers))
 
 
-def form_of(line):
+def form_of(line: str) -> tuple[str, re.Match[str]] | None:
     """The form of a line with a label, and its match, or None."""
     if not line.startswith("#:"):
         return None
     return next(((form, found) for form, wanted in FORMS.items() if (found := wanted.fullmatch(line))), None)
 
 
-def queues_of(found):
-    """The queues that a label names, where this is the match of its form, or None."""
-    named = found.groupdict() if found else {}
+def queues_of(found: re.Match[str]) -> list[int]:
+    """The queues that a label names, where this is the match of its form."""
+    named = found.groupdict()
     return [int(queue) for queue in (named.get("queue") or named.get("queues") or "").split()]
 
 
-def labels_of(script):
+def labels_of(script: str) -> Labels:
     """The labels of a script. A later label of a queue or a module replaces an earlier one."""
     labels = Labels({}, {}, [])
     for number, line in enumerate(script.split("\n"), 1):
         if line == "worker" and labels.callers and labels.callers[-1][1]:
             labels.callers.append((number, ""))
-        form, found = form_of(line) or (None, None)
+        labelled = form_of(line)
+        if labelled is None:
+            continue
+        form, found = labelled
         if form == "queue":
             labels.queues[int(found["queue"])] = found["label"]
         elif form == "module":
@@ -66,6 +71,6 @@ def labels_of(script):
     return labels
 
 
-def wrong_labels(script):
+def wrong_labels(script: str) -> list[int]:
     """The numbers of the lines that begin with `#:` and have no form of a label."""
     return [number for number, line in enumerate(script.split("\n"), 1) if line.startswith("#:") and not form_of(line)]

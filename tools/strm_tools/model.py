@@ -1,20 +1,27 @@
 """A plain model of a pool, with the reply to each call and the report."""
+from __future__ import annotations
+
 from collections import Counter
-from typing import NamedTuple
+from typing import Any, Callable, Counter as Counts, Iterable, List, Literal, NamedTuple, Sequence, TypeVar, Union
 
 ORDINARY = "M_DATA M_PROTO M_BREAK M_PASSFP M_SIG M_DELAY M_CTL M_IOCTL M_SETOPTS".split()
 HIGH_PRIORITY = (
     "M_IOCACK M_IOCNAK M_PCPROTO M_PCSIG M_READ M_FLUSH M_STOP M_START M_HANGUP M_ERROR M_COPYIN M_COPYOUT M_IOCDATA"
 ).split()
 CARRY_DATA = "M_DATA M_PROTO M_PCPROTO M_DELAY".split()
+# The values of a line's words after the first: an int, a str or bytes, as the word's item says.
+Values = List[Any]
+# The queue after another one, or none.
+Next = Union[int, Literal["-"]]
+Method = TypeVar("Method", bound=Callable[..., Any])
 # Each word: the items after it, and how often mixed.py draws it for one `census`. The methods of `Model` fill this in.
-WORDS = {}
+WORDS: dict[str, tuple[str, int]] = {}
 
 
-def word(items, often):
+def word(items: str, often: int) -> Callable[[Method], Method]:
     """Adds the method below to `WORDS`."""
 
-    def added(method):
+    def added(method: Method) -> Method:
         WORDS[method.__name__] = items, often
         return method
 
@@ -30,27 +37,31 @@ class Pool(NamedTuple):
 
     mblks: int
     # Size and number of each class.
-    classes: list
+    classes: list[tuple[int, int]]
     # High and low water mark of each queue, whether there is a service procedure, and the next queue.
-    queues: list
+    queues: list[tuple[int, int, str, Next]]
     # How many wishes may be recorded, and the id of the first.
     bufcalls: int
     first_id: int
 
-    def header(self):
+    def header(self) -> list[str]:
         lines = [f"pool 1 {self.mblks}"]
         lines += [f"class {size} {count}" for size, count in self.classes]
         lines += [f"queue {high} {low} {service} {following}" for high, low, service, following in self.queues]
         return lines + [f"bufcalls {self.bufcalls} {self.first_id}"]
 
-    def greatest(self):
+    def greatest(self) -> int:
         return self.classes[-1][0]
 
 
 class Data:
     """A data block in use: its class, by place, its type, how many blocks name it, and its bytes."""
 
-    def __init__(self, place, size):
+    # What strm_tools.view.film adds: its number, and that of its bytes.
+    number: int
+    bytes: int
+
+    def __init__(self, place: int, size: int) -> None:
         self.place = place
         self.kind = "M_DATA"
         self.names = 1
@@ -60,50 +71,56 @@ class Data:
 class Block:
     """A message block: the data block that it names, its read place and write place in it, and its band."""
 
-    def __init__(self, data, read=0, write=0, band=0):
+    # What strm_tools.view.film adds.
+    number: int
+
+    def __init__(self, data: Data, read: int = 0, write: int = 0, band: int = 0) -> None:
         self.data = data
         self.read = read
         self.write = write
         self.band = band
 
-    def length(self):
+    def length(self) -> int:
         return self.write - self.read
 
-    def room(self):
+    def room(self) -> int:
         return len(self.data.octets) - self.write
 
-    def octets(self):
+    def octets(self) -> bytearray:
         return self.data.octets[self.read : self.write]
 
-    def duplicate(self):
+    def duplicate(self) -> Block:
         self.data.names += 1
         return Block(self.data, self.read, self.write, self.band)
 
-    def copy(self, data):
+    def copy(self, data: Data) -> Block:
         data.kind = self.data.kind
         data.octets[self.read : self.write] = self.octets()
         return Block(data, self.read, self.write, self.band)
 
 
-def total(blocks):
+Message = List[Block]
+
+
+def total(blocks: Iterable[Block]) -> int:
     return sum(block.length() for block in blocks)
 
 
-def octets_of(blocks):
+def octets_of(blocks: Iterable[Block]) -> bytes:
     return b"".join(block.octets() for block in blocks)
 
 
-def run_of(blocks):
+def run_of(blocks: Message) -> Message:
     """The first blocks, as far as they have the type of the very first."""
     others = [k for k, block in enumerate(blocks) if block.data.kind != blocks[0].data.kind]
     return blocks[: others[0]] if others else blocks
 
 
-def rank(message):
+def rank(message: Message) -> int:
     return 256 if message[0].data.kind in HIGH_PRIORITY else message[0].band
 
 
-def ranks_of(band):
+def ranks_of(band: int) -> list[int]:
     return [0, 256] if band == 0 else [band]
 
 
@@ -111,34 +128,34 @@ class Queue:
     """A queue: what it was made with, the water marks of bands that have their own, its messages, its two marks, and its
     wanted bands."""
 
-    def __init__(self, high, low, service, following):
+    def __init__(self, high: int, low: int, service: str, following: Next) -> None:
         self.high = high
         self.low = low
         self.has_service = service == "s"
         self.next = following
-        self.marks = {}
-        self.messages = []
+        self.marks: dict[int, tuple[int, int]] = {}
+        self.messages: list[Message] = []
         self.wants_to_read = True
         self.enabling_is_off = False
-        self.wanted = set()
+        self.wanted: set[int] = set()
 
-    def bytes_in(self, band):
+    def bytes_in(self, band: int) -> int:
         return sum(total(message) for message in self.messages if rank(message) in ranks_of(band))
 
-    def bytes_of_bands(self):
+    def bytes_of_bands(self) -> Counts[int]:
         """The bytes of each band that has a message."""
-        counts = Counter()
+        counts: Counts[int] = Counter()
         for message in self.messages:
             counts[rank(message) % 256] += total(message)
         return counts
 
-    def marks_of(self, band):
+    def marks_of(self, band: int) -> tuple[int, int]:
         return self.marks.get(band, (self.high, self.low))
 
-    def is_full(self, band):
+    def is_full(self, band: int) -> bool:
         return self.bytes_in(band) >= self.marks_of(band)[0]
 
-    def has_room(self, band):
+    def has_room(self, band: int) -> bool:
         return self.bytes_in(band) <= self.marks_of(band)[1]
 
 
@@ -148,25 +165,25 @@ class Model:
     Each word has a method, which `answer` calls if its queue exists, its sources hold messages and its
     destination holds none. The method returns the reply, or None for `ok`."""
 
-    def __init__(self, pool):
+    def __init__(self, pool: Pool) -> None:
         self.pool = pool
         self.data = [count for _, count in pool.classes]
         self.queues = [Queue(*spec) for spec in pool.queues]
-        self.run = []
-        self.wishes = []
+        self.run: list[int] = []
+        self.wishes: list[tuple[int, int]] = []
         self.next_id = pool.first_id
-        self.workers = []
+        self.workers: list[dict[str, Message]] = []
 
-    def begin(self):
+    def begin(self) -> None:
         """Another worker is served, on registers of its own."""
-        self.held = {}
+        self.held: dict[str, Message] = {}
         self.workers.append(self.held)
 
-    def turn_to(self, worker):
+    def turn_to(self, worker: int) -> None:
         """This worker is served on."""
         self.held = self.workers[worker]
 
-    def answer(self, command, items, values):
+    def answer(self, command: str, items: Sequence[str], values: Values) -> str:
         """The reply to a line: what refuses it first, or what its word returns. Items say what the values are."""
         sources = [value for item, value in zip(items, values) if item == "from"]
         if "queue" in items and values[items.index("queue")] >= len(self.queues):
@@ -176,16 +193,17 @@ class Model:
         if "to" in items and values[items.index("to")] in self.held:
             return "taken"
         try:
-            return getattr(self, command)(*values) or "ok"
+            reply: str | None = getattr(self, command)(*values)
+            return reply or "ok"
         except Refused as refusal:
             return f"refused {refusal}"
 
-    def counts(self):
+    def counts(self) -> tuple[int, int, int]:
         queued = sum(sum(map(len, queue.messages)) for queue in self.queues)
         held = sum(sum(map(len, registers.values())) for registers in self.workers if registers)
         return self.pool.mblks - queued - held, queued, held
 
-    def take(self, free, size):
+    def take(self, free: list[int], size: int) -> Data:
         """The data block that is found; `free`, how many each class has, then has one less."""
         if size > self.pool.greatest():
             raise Refused("1 TooLarge")
@@ -195,48 +213,48 @@ class Model:
                 return Data(place, most)
         raise Refused("3 NoData")
 
-    def need(self, count):
+    def need(self, count: int) -> None:
         if self.counts()[0] < count:
             raise Refused("2 NoMblk")
 
-    def block_at(self, register, k):
+    def block_at(self, register: str, k: int) -> Block:
         if k >= len(self.held[register]):
             raise Refused("5 NoSuchBlock")
         return self.held[register][k]
 
-    def own_block_at(self, register, k):
+    def own_block_at(self, register: str, k: int) -> Block:
         block = self.block_at(register, k)
         if block.data.names > 1:
             raise Refused("6 Shared")
         return block
 
-    def release(self, data):
+    def release(self, data: Data) -> None:
         data.names -= 1
         if data.names == 0:
             self.data[data.place] += 1
 
-    def leave(self, register, rest):
+    def leave(self, register: str, rest: Message) -> None:
         if rest:
             self.held[register] = rest
         else:
             del self.held[register]
 
     @word("to size", 10)
-    def allocb(self, to, size):
+    def allocb(self, to: str, size: int) -> None:
         if size > self.pool.greatest():
             raise Refused("1 TooLarge")
         self.need(1)
         self.held[to] = [Block(self.take(self.data, size))]
 
-    def fits(self, size):
+    def fits(self, size: int) -> bool:
         classes = zip(self.pool.classes, self.data)
         return self.counts()[0] > 0 and any(size <= most and free > 0 for (most, _), free in classes)
 
     @word("size", 1)
-    def testb(self, size):
+    def testb(self, size: int) -> str:
         return "yes" if self.fits(size) else "no"
 
-    def duplicates(self, blocks):
+    def duplicates(self, blocks: Message) -> Message:
         self.need(len(blocks))
         for block in blocks:
             if block.data.names + sum(other.data is block.data for other in blocks) > 255:
@@ -244,14 +262,14 @@ class Model:
         return [block.duplicate() for block in blocks]
 
     @word("from to", 2)
-    def dupb(self, source, to):
+    def dupb(self, source: str, to: str) -> None:
         self.held[to] = self.duplicates(self.held[source][:1])
 
     @word("from to", 2)
-    def dupmsg(self, source, to):
+    def dupmsg(self, source: str, to: str) -> None:
         self.held[to] = self.duplicates(self.held[source])
 
-    def copies(self, blocks):
+    def copies(self, blocks: Message) -> Message:
         self.need(len(blocks))
         free = list(self.data)
         taken = [self.take(free, len(block.data.octets)) for block in blocks]
@@ -259,15 +277,15 @@ class Model:
         return [block.copy(data) for block, data in zip(blocks, taken)]
 
     @word("from to", 1)
-    def copyb(self, source, to):
+    def copyb(self, source: str, to: str) -> None:
         self.held[to] = self.copies(self.held[source][:1])
 
     @word("from to", 2)
-    def copymsg(self, source, to):
+    def copymsg(self, source: str, to: str) -> None:
         self.held[to] = self.copies(self.held[source])
 
     @word("from block octets", 16)
-    def write(self, source, k, octets):
+    def write(self, source: str, k: int, octets: bytes) -> None:
         block = self.own_block_at(source, k)
         if len(octets) > block.room():
             raise Refused("7 NoRoom")
@@ -275,33 +293,34 @@ class Model:
         block.write += len(octets)
 
     @word("from block kind", 4)
-    def settype(self, source, k, kind):
+    def settype(self, source: str, k: int, kind: str) -> None:
         self.own_block_at(source, k).data.kind = kind
 
     @word("from band", 3)
-    def setband(self, source, band):
+    def setband(self, source: str, band: int) -> None:
         self.held[source][0].band = band
 
     @word("from from", 5)
-    def linkb(self, source, tail):
+    def linkb(self, source: str, tail: str) -> None:
         self.held[source] += self.held.pop(tail)
 
     @word("from to", 2)
-    def unlinkb(self, source, to):
+    def unlinkb(self, source: str, to: str) -> str | None:
         first, *rest = self.held[source]
         if not rest:
             return "none"
         self.held[source] = [first]
         self.held[to] = rest
+        return None
 
     @word("from block to", 2)
-    def rmvb(self, source, k, to):
+    def rmvb(self, source: str, k: int, to: str) -> None:
         block = self.block_at(source, k)
         self.leave(source, self.held[source][:k] + self.held[source][k + 1 :])
         self.held[to] = [block]
 
     @word("from count", 4)
-    def adjmsg(self, source, count):
+    def adjmsg(self, source: str, count: int) -> None:
         run = run_of(self.held[source] if count > 0 else self.held[source][::-1])
         left = abs(count)
         if left > total(run):
@@ -315,7 +334,7 @@ class Model:
                 block.write -= cut
 
     @word("from count", 5)
-    def pullupmsg(self, source, count):
+    def pullupmsg(self, source: str, count: int) -> None:
         message = self.held[source]
         run = run_of(message)
         if count < -1 or count > total(run):
@@ -339,19 +358,19 @@ class Model:
                 self.release(message.pop(1).data)
 
     @word("from", 1)
-    def msgdsize(self, source):
+    def msgdsize(self, source: str) -> str:
         return f"size {total(block for block in self.held[source] if block.data.kind == 'M_DATA')}"
 
     @word("from", 1)
-    def size(self, source):
+    def size(self, source: str) -> str:
         return f"size {total(self.held[source])}"
 
     @word("from at", 3)
-    def read(self, source, at):
+    def read(self, source: str, at: int) -> str:
         return f"bytes {octets_of(self.held[source])[at : at + 64].hex() or '-'}"
 
     @word("from block", 4)
-    def block(self, source, k):
+    def block(self, source: str, k: int) -> str:
         block = self.block_at(source, k)
         return (
             f"block {block.data.kind} len={block.length()} band={block.band} room={block.room()}"
@@ -359,27 +378,27 @@ class Model:
         )
 
     @word("from", 2)
-    def freeb(self, source):
+    def freeb(self, source: str) -> None:
         first, *rest = self.held[source]
         self.release(first.data)
         self.leave(source, rest)
 
     @word("from", 3)
-    def freemsg(self, source):
+    def freemsg(self, source: str) -> None:
         for block in self.held.pop(source):
             self.release(block.data)
 
-    def place(self, number, k, source):
+    def place(self, number: int, k: int, source: str) -> None:
         message = self.held.pop(source)
         if message[0].data.kind in HIGH_PRIORITY:
             message[0].band = 0
         self.queues[number].messages.insert(k, message)
 
-    def enable(self, number):
+    def enable(self, number: int) -> None:
         if self.queues[number].has_service and number not in self.run:
             self.run.append(number)
 
-    def enable_behind(self, number):
+    def enable_behind(self, number: int) -> None:
         """Enables the nearest queue behind that has a service procedure."""
         for k, queue in enumerate(self.queues):
             if queue.next == number:
@@ -388,7 +407,7 @@ class Model:
                 else:
                     self.enable_behind(k)
 
-    def settle(self, number):
+    def settle(self, number: int) -> None:
         queue = self.queues[number]
         settled = {band for band in queue.wanted if queue.has_room(band)}
         queue.wanted -= settled
@@ -396,7 +415,7 @@ class Model:
             self.enable_behind(number)
 
     @word("queue from", 6)
-    def putq(self, number, source):
+    def putq(self, number: int, source: str) -> None:
         queue = self.queues[number]
         own = rank(self.held[source])
         self.place(number, sum(rank(message) >= own for message in queue.messages), source)
@@ -404,7 +423,7 @@ class Model:
             self.enable(number)
 
     @word("queue from", 2)
-    def putbq(self, number, source):
+    def putbq(self, number: int, source: str) -> None:
         queue = self.queues[number]
         own = rank(self.held[source])
         self.place(number, sum(rank(message) > own for message in queue.messages), source)
@@ -412,7 +431,7 @@ class Model:
             self.enable(number)
 
     @word("queue place from", 3)
-    def insq(self, number, k, source):
+    def insq(self, number: int, k: int, source: str) -> None:
         queue = self.queues[number]
         messages = queue.messages
         if k > len(messages):
@@ -426,23 +445,24 @@ class Model:
             self.enable(number)
 
     @word("queue to", 6)
-    def getq(self, number, to):
+    def getq(self, number: int, to: str) -> str | None:
         queue = self.queues[number]
         queue.wants_to_read = not queue.messages
         if not queue.messages:
             return "none"
         self.held[to] = queue.messages.pop(0)
         self.settle(number)
+        return None
 
     @word("queue place to", 3)
-    def rmvq(self, number, k, to):
+    def rmvq(self, number: int, k: int, to: str) -> None:
         messages = self.queues[number].messages
         if k >= len(messages):
             raise Refused("9 NoSuchPlace")
         self.held[to] = messages.pop(k)
         self.settle(number)
 
-    def flush(self, number, ranks, flag):
+    def flush(self, number: int, ranks: Iterable[int], flag: str) -> None:
         queue = self.queues[number]
         kept = []
         for message in queue.messages:
@@ -455,15 +475,15 @@ class Model:
         self.settle(number)
 
     @word("queue flag", 2)
-    def flushq(self, number, flag):
+    def flushq(self, number: int, flag: str) -> None:
         self.flush(number, range(257), flag)
 
     @word("queue band flag", 2)
-    def flushband(self, number, band, flag):
+    def flushband(self, number: int, band: int, flag: str) -> None:
         self.flush(number, ranks_of(band), flag)
 
     @word("queue band", 10)
-    def bcanput(self, number, band):
+    def bcanput(self, number: int, band: int) -> str:
         queue = self.queues[number]
         while not queue.has_service and queue.next != "-":
             queue = self.queues[queue.next]
@@ -473,38 +493,38 @@ class Model:
         return "no"
 
     @word("queue marked high low", 8)
-    def strqset(self, number, band, high, low):
+    def strqset(self, number: int, band: int, high: int, low: int) -> None:
         if low >= high:
             raise Refused("20 BadMarks")
         self.queues[number].marks[band] = high, low
         self.settle(number)
 
     @word("queue marked", 2)
-    def strqget(self, number, band):
+    def strqget(self, number: int, band: int) -> str:
         return "marks {} {}".format(*self.queues[number].marks_of(band))
 
     @word("queue", 1)
-    def qsize(self, number):
+    def qsize(self, number: int) -> str:
         return f"size {len(self.queues[number].messages)}"
 
     @word("queue", 1)
-    def qenable(self, number):
+    def qenable(self, number: int) -> None:
         self.enable(number)
 
     @word("queue", 1)
-    def noenable(self, number):
+    def noenable(self, number: int) -> None:
         self.queues[number].enabling_is_off = True
 
     @word("queue", 2)
-    def enableok(self, number):
+    def enableok(self, number: int) -> None:
         self.queues[number].enabling_is_off = False
 
     @word("", 2)
-    def service(self):
+    def service(self) -> str:
         return f"queue {self.run.pop(0)}" if self.run else "none"
 
     @word("size", 4)
-    def bufcall(self, size):
+    def bufcall(self, size: int) -> str:
         if size > self.pool.greatest():
             raise Refused("1 TooLarge")
         if len(self.wishes) == self.pool.bufcalls:
@@ -516,14 +536,14 @@ class Model:
         return f"id {self.wishes[-1][0]}"
 
     @word("id", 2)
-    def unbufcall(self, own):
+    def unbufcall(self, own: int) -> None:
         kept = [wish for wish in self.wishes if wish[0] != own]
         if kept == self.wishes:
             raise Refused("14 NotPending")
         self.wishes = kept
 
     @word("", 3)
-    def ready(self):
+    def ready(self) -> str:
         for wish in self.wishes:
             if self.fits(wish[1]):
                 self.wishes.remove(wish)
@@ -531,10 +551,10 @@ class Model:
         return "none"
 
     @word("", 1)
-    def census(self):
+    def census(self) -> str:
         return "census {} {} {}".format(*self.counts())
 
-    def report(self):
+    def report(self) -> list[str]:
         lines = ["blocks free={} queued={} held={} total={}".format(*self.counts(), self.pool.mblks)]
         for (size, count), free in zip(self.pool.classes, self.data):
             lines.append(f"data size={size} free={free} total={count}")

@@ -1,8 +1,12 @@
 """The plain model of strm beside a trace: it is given each line of the script as it is made, and has the same replies and messages."""
+from __future__ import annotations
+
+from typing import Mapping
 from weakref import WeakKeyDictionary
 
 from strm_tools.faults import FORMS
-from strm_tools.model import Model
+from strm_tools.held import Held, Memory
+from strm_tools.model import Block, Data, Model, Pool
 from strm_tools.script import value_of
 from strm_tools.trace import Bad, shortened
 from strm_tools.words import counted
@@ -11,20 +15,20 @@ from strm_tools.words import counted
 class Plain:
     """The model, its data block of each held block by number, and the number of each of its data blocks."""
 
-    def __init__(self, pool):
+    def __init__(self, pool: Pool) -> None:
         self.model = Model(pool)
         self.model.begin()
-        self.data_of = {}
-        self.number_of = WeakKeyDictionary()
+        self.data_of: dict[int, Data] = {}
+        self.number_of: WeakKeyDictionary[Data, int] = WeakKeyDictionary()
 
-    def reply(self, line):
+    def reply(self, line: str) -> str:
         word, *rest = line.split(" ")
         items = FORMS[word]
         return self.model.answer(word, items, [value_of(*pair) for pair in zip(items, rest)])
 
-    def require_messages(self, messages, held):
+    def require_messages(self, messages: Mapping[str, list[int]], held: Held) -> None:
         """Raises `Bad` unless each register holds the message of these blocks, as they are held."""
-        pairs = []
+        pairs: list[tuple[int, Block]] = []
         for register, numbers in messages.items():
             message = self.model.held.get(register, [])
             if len(message) != len(numbers):
@@ -35,7 +39,7 @@ class Plain:
             self.require_data(number, block.data, held.memory)
             require_block(number, block, held)
 
-    def require_data(self, number, data, memory):
+    def require_data(self, number: int, data: Data, memory: Memory) -> None:
         """Raises `Bad` unless the blocks that refer to a data block here are those that do in strm."""
         own = memory.blocks[number].data
         if len(data.octets) != memory.sizes[own]:
@@ -47,7 +51,7 @@ class Plain:
                 raise Bad(f"after this call blocks {other} and {number} refer to one data block, and in strm to two")
 
 
-def require_block(number, block, held):
+def require_block(number: int, block: Block, held: Held) -> None:
     """Raises `Bad` unless a block has the places, type, band and bytes that it has in strm."""
     own = held.blocks[number]
     octets = bytes(held.bytes_of(own.data)[own.read : own.write])

@@ -2,17 +2,21 @@
 
 A message that is held has a register. What was changed in message blocks through pointers since the last call is before the line of the
 next call, as lines that make the same change. The reply to each of these is `ok`."""
-from collections import Counter
+from __future__ import annotations
 
-from strm_tools.faults import AFTER, MOST, config_faults
+from collections import Counter
+from typing import Callable, Counter as Counts
+
+from strm_tools.faults import AFTER, MOST, HeaderLine, config_faults
 from strm_tools.held import Held
 from strm_tools.labels import WRITTEN, form_of, queues_of
 from strm_tools.made_script import Script
+from strm_tools.model import Pool
 from strm_tools.pending import Pending, may_end, require_ends, require_returns
 from strm_tools.plain import Plain
 from strm_tools.script import Wrong, script_of
 from strm_tools.shown import CARRIAGE_RETURN
-from strm_tools.trace import LINES, Bad, block_number, call_in, capacity, header_line, new_bytes, quoted, told_block
+from strm_tools.trace import LINES, Bad, Call, Told, block_number, call_in, capacity, header_line, new_bytes, quoted, told_block
 
 COMMAND = "a command with registers"
 CALL = "a call of messages"
@@ -21,29 +25,31 @@ CALL = "a call of messages"
 class Recording:
     """A trace as far as it is read, and the script that it makes."""
 
-    def __init__(self, is_checked):
+    # The pool, once the header is whole.
+    pool: Pool
+
+    def __init__(self, is_checked: bool) -> None:
         self.made = Script()
         self.is_checked = is_checked
         # The number of the line.
         self.at = 0
-        # The pool, once the header is whole; until then the last line of it, how many there are of each, and all of them: number in the
-        # trace, first word, further words.
-        self.pool = None
+        # Whether the header is whole; until then the last line of it, how many there are of each, and all of them, by number in the trace.
+        self.is_open = False
         self.before = "nothing"
-        self.counts = Counter()
-        self.header = []
+        self.counts: Counts[str] = Counter()
+        self.header: list[HeaderLine] = []
         # Who made the call, and who makes all calls where a label says so.
-        self.who = None
-        self.label = None
+        self.who = ""
+        self.label: str | None = None
         self.held = Held(self.do)
         self.memory = self.held.memory
-        self.pending = None
+        self.pending: Pending | None = None
         # The line of each block that has changed since the last call, and of new bytes that no line of a block followed.
-        self.changed = {}
-        self.written = {}
+        self.changed: dict[int, int] = {}
+        self.written: dict[int, int] = {}
         # The lines of the first command with registers, and of the first call of messages.
-        self.first_of = {}
-        self.takes = {
+        self.first_of: dict[str, int] = {}
+        self.takes: dict[str, Callable[[str], None]] = {
             "h": self.take_header,
             "#": self.take_comment,
             "c": self.take_capacity,
@@ -56,7 +62,7 @@ class Recording:
             "r": self.take_report,
         }
 
-    def take(self, line):
+    def take(self, line: str) -> None:
         """Takes a line of the trace."""
         self.at += 1
         if not line:
@@ -64,7 +70,7 @@ class Recording:
         mark, _, rest = ("#", "", line) if line.startswith("#") else line.partition(" ")
         if mark not in LINES:
             raise Bad(f"a line begins with one of {' '.join(LINES)}, here {quoted(line)}")
-        if mark not in "h#" and not self.pool:
+        if mark not in "h#" and not self.is_open:
             raise Bad(f"expected {self.next_of_header()} first, here {quoted(line)}")
         if self.made.report and mark != "r":
             raise Bad(f"expected {self.next_of_report()}, here {quoted(line)}")
@@ -72,11 +78,11 @@ class Recording:
 
     # The header, labels and comments
 
-    def next_of_header(self):
+    def next_of_header(self) -> str:
         return " or ".join(f"'h {word} ..'" for word in AFTER[self.before])
 
-    def take_header(self, line):
-        if self.pool:
+    def take_header(self, line: str) -> None:
+        if self.is_open:
             raise Bad("the header ends with 'h bufcalls ..', and this line comes after it")
         first = header_line(line)
         if first not in AFTER[self.before]:
@@ -90,33 +96,34 @@ class Recording:
         if first == "bufcalls":
             self.open_pool()
 
-    def open_pool(self):
+    def open_pool(self) -> None:
         self.pool, _ = script_of(self.made.script())
+        self.is_open = True
         fault = next(iter(config_faults(self.header)), None)
         if fault:
             raise Bad(f"{fault.reported()}: {fault.why}", fault.number)
         if self.is_checked:
             self.made.plain = Plain(self.pool)
 
-    def take_comment(self, line):
+    def take_comment(self, line: str) -> None:
         """A comment, or a label."""
-        form, found = form_of(line) or (None, None)
-        if line.startswith("#:") and not form:
+        labelled = form_of(line)
+        if line.startswith("#:") and not labelled:
             raise Bad(f"expected {' or '.join(map(repr, WRITTEN.values()))}, here {quoted(line)}")
-        if form and not self.pool:
+        if labelled and not self.is_open:
             raise Bad("a label comes after the header")
-        if form == "caller":
+        if labelled and labelled[0] == "caller":
             self.end_step()
-            self.label = found["label"]
+            self.label = labelled[1]["label"]
             return
-        for queue in queues_of(found):
+        for queue in queues_of(labelled[1]) if labelled else []:
             if queue >= len(self.pool.queues):
                 raise Bad(f"there is no queue {queue}")
         self.made.add_row(line)
 
     # Calls and their outcomes
 
-    def take_capacity(self, text):
+    def take_capacity(self, text: str) -> None:
         data, size = capacity(text)
         if data in self.memory.sizes:
             raise Bad(f"data block {data} has a line 'c' already")
@@ -124,7 +131,7 @@ class Recording:
             raise Bad(f"no class has data blocks of {size} bytes")
         self.memory.sizes[data] = size
 
-    def take_bytes(self, text):
+    def take_bytes(self, text: str) -> None:
         data, place, octets = new_bytes(text)
         size = self.memory.size_of(data)
         if place + len(octets) > size:
@@ -132,18 +139,18 @@ class Recording:
         self.memory.bytes_of(data)[place : place + len(octets)] = octets
         self.written[data] = self.at
 
-    def take_block(self, told):
+    def take_block(self, told: Told) -> int:
         self.memory.take(told)
         self.written.pop(told.block.data, None)
         return told.number
 
-    def take_change(self, text):
+    def take_change(self, text: str) -> None:
         told = told_block("~", text)
         self.end_call()
         self.memory.require_held(told.number)
         self.changed[self.take_block(told)] = self.at
 
-    def take_outcome(self, text):
+    def take_outcome(self, text: str) -> None:
         """What a call left, which the script's line of it does too."""
         told = told_block("=", text)
         if not self.pending:
@@ -152,7 +159,7 @@ class Recording:
         self.held.take(number)
         self.pending.told.add(number)
 
-    def take_end(self, text):
+    def take_end(self, text: str) -> None:
         number = block_number(text)
         self.memory.require_held(number)
         if not self.pending or number not in self.pending.may_end:
@@ -161,7 +168,7 @@ class Recording:
         self.pending.told.discard(number)
         del self.held.blocks[number]
 
-    def take_command(self, text):
+    def take_command(self, text: str) -> None:
         """A command as it is."""
         call = call_in(".", text)
         self.end_step()
@@ -170,28 +177,28 @@ class Recording:
         self.who = call.who
         self.add(" ".join([call.word, *call.words]), call.reply)
 
-    def require_one_kind(self, kind):
+    def require_one_kind(self, kind: str) -> None:
         """Raises `Bad` where some commands have registers of their own, and some messages get registers here."""
         self.first_of.setdefault(kind, self.at)
         if len(self.first_of) > 1:
             other = CALL if kind == COMMAND else COMMAND
             raise Bad(f"this is {kind}, and line {self.first_of[other]} is {other}: a trace has only one of both")
 
-    def take_call(self, text):
+    def take_call(self, text: str) -> None:
         call = call_in("!", text)
         self.end_call()
         self.who = call.who
         self.agree()
         messages = {item: word[1:] for item, word in zip(call.items, call.words) if item == "to"}
         taken = self.taken_by(call)
-        returned = self.returned_by(call, messages.get("to"), taken)
-        registers = iter([*taken, *returned])
+        new = self.returned_by(call, messages.get("to"), taken)
+        registers = iter([*taken, *new])
         words = [next(registers) if item in ("from", "to") else word for item, word in zip(call.items, call.words)]
         self.add(" ".join([call.word, *words]), call.reply)
-        returned = {register: int(number) for register, number in returned.items() if number}
+        returned = {register: int(number) for register, number in new.items() if number}
         self.pending = Pending(self.at, call, taken, returned, may_end(call, taken), set())
 
-    def taken_by(self, call):
+    def taken_by(self, call: Call) -> dict[str, list[int]]:
         """The blocks of each message that a call takes, by its register."""
         numbers = [int(word[1:]) for item, word in zip(call.items, call.words) if item == "from"]
         if set(call.items) & {"from", "to"}:
@@ -209,7 +216,7 @@ class Recording:
                 self.changed[before] = self.at
         return {register: self.held.messages[register] for register in registers}
 
-    def returned_by(self, call, number, taken):
+    def returned_by(self, call: Call, number: str | None, taken: dict[str, list[int]]) -> dict[str, str]:
         """The number of the message that a call returns, or '', by its register, where the call may return one."""
         if number is None:
             return {}
@@ -218,16 +225,16 @@ class Recording:
 
     # The report, and the end
 
-    def report_words(self):
+    def report_words(self) -> tuple[list[str], int]:
         """The first word of each line of the report, without those of bands, and how many of them there are."""
         words = ["blocks", *["data"] * len(self.pool.classes), *["queue"] * len(self.pool.queues), "run", "wishes"]
         return words, sum(not line.startswith("band ") for line in self.made.report)
 
-    def next_of_report(self):
+    def next_of_report(self) -> str:
         words, at = self.report_words()
         return f"'r {words[at]} ..'" if at < len(words) else "no line after the report"
 
-    def take_report(self, line):
+    def take_report(self, line: str) -> None:
         self.end_step()
         words, at = self.report_words()
         is_band = line.startswith("band ") and words[: at + 1][-2:-1] == ["queue"]
@@ -239,10 +246,10 @@ class Recording:
                 raise Bad(f"strm reports {quoted(str(wanted))}, and here it is {quoted(line)}")
         self.made.report.append(line)
 
-    def end(self):
+    def end(self) -> None:
         """The trace ends."""
         self.at += 1
-        if not self.pool:
+        if not self.is_open:
             raise Bad(f"the trace ends: expected {self.next_of_header()}")
         if not self.made.report or not self.made.report[-1].startswith("wishes"):
             raise Bad(f"the trace ends: expected {self.next_of_report()}")
@@ -250,14 +257,14 @@ class Recording:
 
     # Lines of the script
 
-    def add(self, line, reply):
+    def add(self, line: str, reply: str) -> None:
         """Adds the line of a call."""
         self.made.add(line, reply, self.who, self.label or self.who)
         wanted = self.made.plain.reply(line) if self.made.plain else reply
         if wanted != reply:
             raise Bad(f"strm replies {quoted(wanted)} to {quoted(line)}, and here the reply is {quoted(reply)}")
 
-    def do(self, line):
+    def do(self, line: str) -> None:
         """Adds a line for what was done through a pointer."""
         self.made.add(line, "ok", "pointers", self.label or self.who)
         wanted = self.made.plain.reply(line) if self.made.plain else "ok"
@@ -266,12 +273,12 @@ class Recording:
 
     # Between two calls
 
-    def end_step(self):
+    def end_step(self) -> None:
         """The outcome of the last call is whole, and the script does what was done through pointers since."""
         self.end_call()
         self.agree()
 
-    def agree(self):
+    def agree(self) -> None:
         """Has the script do what was done through pointers."""
         for data, line in self.written.items():
             raise Bad(f"bytes of data block {data} change, and no line of a block that refers to it follows", line)
@@ -283,7 +290,7 @@ class Recording:
             except Bad as why:
                 raise Bad(str(why), why.line or max(changed.values())) from None
 
-    def end_call(self):
+    def end_call(self) -> None:
         """The outcome of the last call is whole: registers hold the messages that it left."""
         pending, self.pending = self.pending, None
         if pending:
@@ -292,7 +299,7 @@ class Recording:
             except Bad as why:
                 raise Bad(str(why), pending.line) from None
 
-    def settle(self, pending):
+    def settle(self, pending: Pending) -> None:
         for number in pending.returned.values():
             if number not in self.memory.blocks:
                 raise Bad(f"this call returns message {number}, and no line '= {number} ..' follows")
@@ -307,7 +314,7 @@ class Recording:
         if self.made.plain:
             self.made.plain.require_messages(messages, self.held)
 
-    def heads_after(self, pending):
+    def heads_after(self, pending: Pending) -> dict[str, int]:
         """The first block of each message that a call can have changed, by its register."""
         heads = dict(pending.returned)
         returned = {number for head in heads.values() for number in self.memory.chain(head)}
@@ -318,14 +325,14 @@ class Recording:
             if left:
                 heads[register] = left[0]
         for number in pending.told:
-            register = self.held.register_of.get(number)
-            if register and register not in {*heads, *pending.taken}:
-                heads[register] = self.held.messages[register][0]
+            own = self.held.register_of.get(number)
+            if own and own not in {*heads, *pending.taken}:
+                heads[own] = self.held.messages[own][0]
         return heads
 
-    def require_whole(self, pending, messages):
+    def require_whole(self, pending: Pending, messages: dict[str, list[int]]) -> None:
         """Raises `Bad` unless each block that a call can have changed is in one message."""
-        placed = set()
+        placed: set[int] = set()
         for register, numbers in messages.items():
             for number in numbers:
                 own = self.held.register_of.get(number, register)
@@ -340,7 +347,7 @@ class Recording:
                 raise Bad(f"block {number} appears from nowhere: it is in no message that this call returns")
 
 
-def recorded(lines, is_checked=False):
+def recorded(lines: list[str], is_checked: bool = False) -> Script:
     """The script that the lines of a trace make. Where it is checked, each reply, outcome and line of the report is that of the plain
     model. Raises `Wrong` with the number of a line that is wrong."""
     recording = Recording(is_checked)

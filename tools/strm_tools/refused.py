@@ -1,7 +1,9 @@
 """Which commands of a right script strm refuses whenever it executes them: in any order of the workers, and whatever memory is left."""
-from typing import NamedTuple
+from __future__ import annotations
 
-from strm_tools.faults import FORMS, Header
+from typing import Callable, Container, Iterable, Iterator, Mapping, NamedTuple, Optional, Sequence
+
+from strm_tools.faults import FORMS, Header, HeaderLine
 from strm_tools.model import WORDS
 from strm_tools.rules import RULES
 
@@ -18,54 +20,55 @@ class Most(NamedTuple):
     wishes: int
 
 
-def most_of(lines):
+def most_of(lines: list[HeaderLine]) -> Most:
     """What the lines of a header without faults allow (`Reading.header`)."""
     header = Header(lines)
     (_, (_, mblks)), (_, (wishes, _)) = header.of("pool")[0], header.of("bufcalls")[0]
     return Most(header.queue_count(), mblks, max(size for _, (size, _) in header.of("class")), wishes)
 
 
-def by_rule(name, **numbers):
+def by_rule(name: str, **numbers: object) -> str:
     """The sentence of a rule, as it follows a colon."""
     sentence = RULES[name].sentence.format(**numbers).rstrip(".")
     return sentence[0].lower() + sentence[1:]
 
 
+Items = Mapping[str, str]
+Check = Callable[[Items, Most], Optional[str]]
+
+
 # ---- Why the words of a command refuse it, each by its item (strm_tools.model), or None ------------------------------
 
 
-def no_block(items, most):
-    if int(items["block"]) >= most.mblks:
-        return f"no message has a block {items['block']}: the pool has {most.mblks} message blocks"
+def no_block(items: Items, most: Most) -> str | None:
+    why = f"no message has a block {items['block']}: the pool has {most.mblks} message blocks"
+    return why if int(items["block"]) >= most.mblks else None
 
 
-def no_place(items, most):
-    if int(items["place"]) >= most.mblks:
-        return f"no queue has a place {items['place']}: the pool has {most.mblks} message blocks"
+def no_place(items: Items, most: Most) -> str | None:
+    why = f"no queue has a place {items['place']}: the pool has {most.mblks} message blocks"
+    return why if int(items["place"]) >= most.mblks else None
 
 
-def too_large(items, most):
+def too_large(items: Items, most: Most) -> str | None:
     size = int(items["size"]) if "size" in items else len(items["octets"]) // 2
-    if size > most.size:
-        return by_rule("too_large", S=size, M=most.size)
+    return by_rule("too_large", S=size, M=most.size) if size > most.size else None
 
 
-def no_wishes(items, most):
-    if most.wishes == 0:
-        return by_rule("wishes", N=0)
+def no_wishes(items: Items, most: Most) -> str | None:
+    return by_rule("wishes", N=0) if most.wishes == 0 else None
 
 
-def bad_count(items, most):
+def bad_count(items: Items, most: Most) -> str | None:
     count = int(items["count"])
-    return by_rule("below", N=count) if count < -1 else too_large({"size": count}, most)
+    return by_rule("below", N=count) if count < -1 else too_large({"size": str(count)}, most)
 
 
-def bad_marks(items, most):
-    if int(items["low"]) >= int(items["high"]):
-        return by_rule("marks", L=items["low"], H=items["high"])
+def bad_marks(items: Items, most: Most) -> str | None:
+    return by_rule("marks", L=items["low"], H=items["high"]) if int(items["low"]) >= int(items["high"]) else None
 
 
-CHECKS = {
+CHECKS: dict[str, list[Check]] = {
     **dict.fromkeys(["settype", "rmvb", "block"], [no_block]),
     **dict.fromkeys(["insq", "rmvq"], [no_place]),
     "allocb": [too_large],
@@ -76,7 +79,7 @@ CHECKS = {
 }
 
 
-def by_registers(items, sources, holding):
+def by_registers(items: Items, sources: Sequence[str], holding: Container[str]) -> str | None:
     """Why the registers of a command refuse it, or None. Only those that `holding` has can hold a message."""
     empty = [source for source in sources if source not in holding]
     if empty:
@@ -86,9 +89,10 @@ def by_registers(items, sources, holding):
     return f"register {items['to']} holds the message that the command uses" if items.get("to") in sources else None
 
 
-def refusals(lines, header):
+def refusals(lines: Iterable[str], header: list[HeaderLine]) -> Iterator[tuple[int, str]]:
     """The number of each command that is refused in any case, and why. The lines have their ends."""
-    most, holding = most_of(header), set()
+    most = most_of(header)
+    holding: set[str] = set()
     for number, line in enumerate(lines, 1):
         word, *rest = line[:-1].split(" ")
         if word == "worker":

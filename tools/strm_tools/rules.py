@@ -1,10 +1,12 @@
 """Why a line is refused, and why it enables a queue or not, in one sentence with the numbers of the pool.
 
 docs/MODEL.md has a table of the same sentences. A name in braces is a number there, such as Q, the queue."""
-import copy
-from typing import NamedTuple
+from __future__ import annotations
 
-from strm_tools.model import Refused, rank, run_of, total
+import copy
+from typing import Any, Callable, Collection, Mapping, NamedTuple
+
+from strm_tools.model import Block, Model, Queue, Refused, Values, rank, run_of, total
 
 # The most references of a data block, and the last id of a wish.
 REFERENCES = 255
@@ -101,39 +103,39 @@ class Found(NamedTuple):
     """A rule by its name, and the numbers of the pool where it decided."""
 
     name: str
-    numbers: dict
+    numbers: dict[str, Any]
 
     @property
-    def rule(self):
+    def rule(self) -> Rule:
         return RULES[self.name]
 
-    def text(self, labels=()):
+    def text(self, labels: Mapping[int, str] = {}) -> str:
         """The rule's sentence. A queue that has a label in `labels` has it after its number."""
         named = {name: labelled(number, labels) for name, number in self.numbers.items() if name in QUEUES_OF_RULE}
         return self.rule.sentence.format_map({**self.numbers, **named})
 
 
-def labelled(number, labels):
+def labelled(number: int, labels: Mapping[int, str]) -> str:
     """The number of a queue, and after it the label that it has in `labels`."""
     return f"{number} ({labels[number]})" if number in labels else str(number)
 
 
-def found(name, **numbers):
+def found(name: str, **numbers: int | str) -> Found:
     return Found(name, numbers)
 
 
-def denies(reply):
+def denies(reply: str) -> bool:
     """Whether a reply is a refusal, or `no`. Each such line has a rule."""
     return reply.partition(" ")[0] in ("refused", "empty", "taken", "no")
 
 
-def explains(word, reply):
+def explains(word: str, reply: str) -> bool:
     """Whether a rule explains the reply to a line, or what the line enables."""
     name = reply.partition(" ")[0]
     return denies(reply) or (word, name) == ("service", "none") or word in (*PUTS, *SETTLES, *SWITCHES, "qenable")
 
 
-def why(model, word, items, values):
+def why(model: Model, word: str, items: list[str], values: Values) -> Found:
     """The rule that decides a line that `explains` names, and that the model has not answered yet."""
     after = copy.deepcopy(model)
     reply = after.answer(word, items, values)
@@ -146,7 +148,7 @@ def why(model, word, items, values):
     return found("switches") if word in SWITCHES else can_enable(model, values[0]) or found("by_call", Q=values[0])
 
 
-def why_not(model, word, items, values, reply):
+def why_not(model: Model, word: str, items: list[str], values: Values, reply: str) -> Found:
     """Why a line is refused, or has the reply `no` or `none`. Whether the model has answered it already makes no difference."""
     name = reply.split(" ")[-1]
     return STEP_RULES[name](model, items, values) if name in STEP_RULES else REPLY_RULES[name](model, word, *values)
@@ -155,13 +157,13 @@ def why_not(model, word, items, values, reply):
 # ---- What is checked of every call -----------------------------------------------------------------------------------
 
 
-def why_empty(model, items, values):
+def why_empty(model: Model, items: list[str], values: Values) -> Found:
     sources = [value for item, value in zip(items, values) if item == "from"]
     missing = [source for source in sources if source not in model.held]
     return found("empty", R=missing[0]) if missing else found("twice", R=sources[0])
 
 
-STEP_RULES = {
+STEP_RULES: dict[str, Callable[[Model, list[str], Values], Found]] = {
     "NoSuchQueue": lambda model, items, values: found("no_queue", N=len(model.queues), Q=values[items.index("queue")]),
     "empty": why_empty,
     "taken": lambda model, items, values: found("taken", R=values[items.index("to")]),
@@ -171,7 +173,7 @@ STEP_RULES = {
 # ---- A call's own refusals, and the replies `no`, and `none` -------------------------------------------------------
 
 
-def size_wanted(model, word, *values):
+def size_wanted(model: Model, word: str, *values: Any) -> int:
     """The bytes of the data block that a call takes, or of the first that it does not find."""
     if word in ("copyb", "copymsg"):
         free = list(model.data)
@@ -180,23 +182,23 @@ def size_wanted(model, word, *values):
                 model.take(free, len(block.data.octets))
             except Refused:
                 return len(block.data.octets)
-    if word == "pullupmsg":
-        return total(run_of(model.held[values[0]])) if values[1] == -1 else values[1]
-    return values[-1]
+    if word == "pullupmsg" and values[1] == -1:
+        return total(run_of(model.held[values[0]]))
+    return int(values[-1])
 
 
-def blocks_wanted(model, word, *values):
+def blocks_wanted(model: Model, word: str, *values: Any) -> int:
     """How many message blocks a call needs."""
     return len(model.held[values[0]]) if word in ("dupmsg", "copymsg") else 1
 
 
-def why_many_references(model, word, source, _to):
+def why_many_references(model: Model, word: str, source: str, _to: str) -> Found:
     blocks = model.held[source][: 1 if word == "dupb" else None]
     most = max(block.data.names + sum(other.data is block.data for other in blocks) for block in blocks)
     return found("references", N=most, M=REFERENCES)
 
 
-def why_short(model, word, source, count):
+def why_short(model: Model, word: str, source: str, count: int) -> Found:
     if word == "pullupmsg" and count < -1:
         return found("below", N=count)
     at_end = word == "adjmsg" and count < 0
@@ -205,7 +207,7 @@ def why_short(model, word, source, count):
     return found("short", END="last" if at_end else "first", F=total(run), N=abs(count))
 
 
-def why_bad_order(model, _word, number, k, source):
+def why_bad_order(model: Model, _word: str, number: int, k: int, source: str) -> Found:
     own = rank(model.held[source])
     ranks = [rank(message) for message in model.queues[number].messages]
     below = [other for other in ranks[:k] if other < own]
@@ -213,23 +215,23 @@ def why_bad_order(model, _word, number, k, source):
     return found("order", K=k, A=first, B=then)
 
 
-def why_no_place(model, _word, number, k, _register):
+def why_no_place(model: Model, _word: str, number: int, k: int, _register: str) -> Found:
     return found("no_place", Q=number, N=len(model.queues[number].messages), K=k)
 
 
-def why_not_allocated(model, word, size):
+def why_not_allocated(model: Model, word: str, size: int) -> Found:
     """Why `testb` says no."""
     if size > model.pool.greatest():
         return REPLY_RULES["TooLarge"](model, word, size)
     return REPLY_RULES["NoMblk" if model.counts()[0] == 0 else "NoData"](model, word, size)
 
 
-def target(model, number):
+def target(model: Model, number: int) -> int:
     queue = model.queues[number]
     return number if queue.has_service or queue.next == "-" else target(model, queue.next)
 
 
-def why_no(model, word, *values):
+def why_no(model: Model, word: str, *values: Any) -> Found:
     if word == "testb":
         return why_not_allocated(model, word, *values)
     number, band = values
@@ -238,11 +240,11 @@ def why_no(model, word, *values):
     return found("full", B=band, Q=number, N=queue.bytes_in(band), H=queue.marks_of(band)[0])
 
 
-def block_of(model, source, k):
+def block_of(model: Model, source: str, k: int) -> Block:
     return model.held[source][k]
 
 
-REPLY_RULES = {
+REPLY_RULES: dict[str, Callable[..., Found]] = {
     "TooLarge": lambda model, *line: found("too_large", S=size_wanted(model, *line), M=model.pool.greatest()),
     "NoMblk": lambda model, *line: found("no_blocks", N=blocks_wanted(model, *line), F=model.counts()[0]),
     "NoData": lambda model, *line: found("no_data", S=size_wanted(model, *line)),
@@ -265,19 +267,19 @@ REPLY_RULES = {
 # ---- Enabling --------------------------------------------------------------------------------------------------------
 
 
-def can_enable(model, number):
+def can_enable(model: Model, number: int) -> Found | None:
     """Why no call enables a queue now, or None."""
     if not model.queues[number].has_service:
         return found("no_service", Q=number)
     return found("already", Q=number) if number in model.run else None
 
 
-def why_put(model, word, number, source):
+def why_put(model: Model, word: str, number: int, source: str) -> Found:
     """Why a message that is put enables its queue, or does not."""
     return can_enable(model, number) or by_message(model.queues[number], word, number, rank(model.held[source]))
 
 
-def by_message(queue, word, number, own):
+def by_message(queue: Queue, word: str, number: int, own: int) -> Found:
     """Why a message of this rank enables its queue, which a call can enable now, or does not."""
     if own == 256 and word != "insq":
         return found("high", Q=number)
@@ -288,13 +290,13 @@ def by_message(queue, word, number, own):
     return found("band", B=own, Q=number) if own > 0 and word == "putq" else found("reads_not", Q=number)
 
 
-def waker_of(model, number):
+def waker_of(model: Model, number: int) -> int | None:
     """The nearest queue behind that has a service procedure, or None."""
     behind = [k for k, queue in enumerate(model.queues) if queue.next == number]
     return None if not behind else behind[0] if model.queues[behind[0]].has_service else waker_of(model, behind[0])
 
 
-def why_settled(model, number, wanted, run):
+def why_settled(model: Model, number: int, wanted: Collection[int], run: list[int]) -> Found:
     """Why a call that has settled a queue enabled the queue's waker, or did not. Before the call these bands of the queue were wanted, and
     this was the run list."""
     if not wanted:
@@ -302,31 +304,32 @@ def why_settled(model, number, wanted, run):
     queue = model.queues[number]
     cleared = [band for band in wanted if band not in queue.wanted]
     band = min(cleared or wanted)
-    numbers = {"B": band, "Q": number, "N": queue.bytes_in(band), "L": queue.marks_of(band)[1], "W": waker_of(model, number)}
+    waker = waker_of(model, number)
+    numbers = {"B": band, "Q": number, "N": queue.bytes_in(band), "L": queue.marks_of(band)[1], "W": waker}
     if not cleared:
-        return found("stays", **numbers)
-    if numbers["W"] is None:
-        return found("no_waker", **numbers)
-    return found("waker_runs" if numbers["W"] in run else "drained", **numbers)
+        return Found("stays", numbers)
+    if waker is None:
+        return Found("no_waker", numbers)
+    return Found("waker_runs" if waker in run else "drained", numbers)
 
 
 class Before(NamedTuple):
     """What decides whether a line enables a queue, before the model answers the line: the run list, the wanted bands of the line's queue,
     and the rank of the message that the line puts."""
 
-    run: list
-    wanted: set
+    run: list[int]
+    wanted: set[int]
     own: int
 
 
-def before_line(model, word, values):
+def before_line(model: Model, word: str, values: Values) -> Before:
     """What decides whether a line, which the model has not answered yet, enables a queue."""
     wanted = model.queues[values[0]].wanted if word in SETTLES and values[0] < len(model.queues) else ()
     message = model.held.get(values[-1]) if word in PUTS else None
     return Before(list(model.run), set(wanted), rank(message) if message else 0)
 
 
-def enabled(model, word, values, before, labels=()):
+def enabled(model: Model, word: str, values: Values, before: Before, labels: Mapping[int, str] = {}) -> str:
     """Which queue a line enabled, and why, or why none was although a band is wanted no longer, or nothing. The model has answered the line
     since `before`."""
     number = values[0] if values else None

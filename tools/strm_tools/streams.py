@@ -1,6 +1,9 @@
 """Names of STREAMS, of C and of Rattle for which strm has another command or none. docs/FROM-STREAMS.md of the
 repository says more of each."""
+from __future__ import annotations
+
 import re
+from typing import Collection
 
 # What a script has for a routine.
 INSTEAD = {
@@ -67,7 +70,7 @@ ADVICE_ON_TYPES = "for data use M_PROTO or M_PCPROTO, for anything else M_CTL or
 FLUSHES = {"FLUSHALL": "all", "FLUSHDATA": "data", "STRM_FLUSHALL": "all", "STRM_FLUSHDATA": "data"}
 
 
-def command_for(name, commands):
+def command_for(name: str, commands: Collection[str]) -> str | None:
     """What a script has for a name that is none of these commands, as a hint, or None."""
     if name.startswith("strm_") and name[5:] in (*commands, *INSTEAD):
         name = name[5:]
@@ -80,6 +83,6 @@ def command_for(name, commands):
     return None
 
 
-def hint_for(word, commands):
+def hint_for(word: str, commands: Collection[str]) -> str | None:
     """What a script has for a word that may be a name of STREAMS in letters of another case, as a hint, or None."""
     return next(filter(None, (command_for(name, commands) for name in (word, word.lower(), word.upper()))), None)

@@ -1,6 +1,8 @@
 """The lines of a driver's trace, one by one. strm-record(1) explains their forms."""
+from __future__ import annotations
+
 import re
-from typing import List, NamedTuple, Optional
+from typing import NamedTuple, Sequence
 
 from strm_tools.faults import FITS, FORMS, HEADER, number
 from strm_tools.labels import form_of
@@ -34,7 +36,7 @@ is_number = number(MOST_NUMBER)
 class Bad(Exception):
     """Why a trace is wrong, and the number of the line that is, if it is another than the last one."""
 
-    def __init__(self, why, line=None):
+    def __init__(self, why: str, line: int | None = None) -> None:
         super().__init__(why)
         self.line = line
 
@@ -53,7 +55,7 @@ class Told(NamedTuple):
     """What a line says of a block: its number, the number of the block that follows it, if any, and the rest."""
 
     number: int
-    next: Optional[int]
+    next: int | None
     block: Block
 
 
@@ -62,21 +64,21 @@ class Call(NamedTuple):
 
     who: str
     word: str
-    items: List[str]
-    words: List[str]
+    items: list[str]
+    words: list[str]
     reply: str
 
 
-def shortened(text):
+def shortened(text: str) -> str:
     """A text, not longer than people read."""
     return text if len(text) <= MOST_QUOTED else text[:MOST_QUOTED] + ".."
 
 
-def quoted(text):
+def quoted(text: str) -> str:
     return shortened(repr(text))
 
 
-def words_in(mark, text):
+def words_in(mark: str, text: str) -> dict[str, str]:
     """The words of a line behind its first one, as many as its form has."""
     words, wanted = text.split(" "), LINES[mark].split(" ")[1:]
     if len(words) != len(wanted):
@@ -84,23 +86,23 @@ def words_in(mark, text):
     return dict(zip(wanted, words))
 
 
-def number_in(words, name):
+def number_in(words: dict[str, str], name: str) -> int:
     if not is_number(words[name]):
         raise Bad(f"{name} is a number from 0 to {MOST_NUMBER}, here {quoted(words[name])}")
     return int(words[name])
 
 
-def block_number(text):
+def block_number(text: str) -> int:
     return number_in(words_in("-", text), "BLOCK")
 
 
-def capacity(text):
+def capacity(text: str) -> tuple[int, int]:
     """The number of a data block, and its size."""
     words = words_in("c", text)
     return number_in(words, "DATA"), number_in(words, "SIZE")
 
 
-def new_bytes(text):
+def new_bytes(text: str) -> tuple[int, int, bytes]:
     """The number of a data block, a place in it, and the bytes from there on."""
     words = words_in("b", text)
     if not re.fullmatch("([0-9a-f]{2})+", words["HEX"]):
@@ -108,7 +110,7 @@ def new_bytes(text):
     return number_in(words, "DATA"), number_in(words, "PLACE"), bytes.fromhex(words["HEX"])
 
 
-def told_block(mark, text):
+def told_block(mark: str, text: str) -> Told:
     """What a line says of a block."""
     words = words_in(mark, text)
     if words["TYPE"] not in ORDINARY + HIGH_PRIORITY:
@@ -120,11 +122,11 @@ def told_block(mark, text):
     return Told(number_in(words, "BLOCK"), following, Block(data, read, write, words["TYPE"], band))
 
 
-def is_message(item, word):
-    return re.fullmatch("<[0-9]+" if item == "from" else ">[0-9]*", word) and is_number(word[1:] or "0")
+def is_message(item: str, word: str) -> bool:
+    return bool(re.fullmatch("<[0-9]+" if item == "from" else ">[0-9]*", word) and is_number(word[1:] or "0"))
 
 
-def require_words(first, rest, is_call=False):
+def require_words(first: str, rest: Sequence[str], is_call: bool = False) -> None:
     """Raises `Bad` unless these are the words of a line of a script that begins with the first one, or of such a call."""
     messages = MESSAGES if is_call else {}
     names = [messages.get(item, [name])[0] for item, name in zip(FORMS[first], WORDS[first].form.split())]
@@ -136,7 +138,7 @@ def require_words(first, rest, is_call=False):
             raise Bad(f"{form}: {name} is {messages[item][1] if item in messages else MEANINGS[item]}, here {quoted(word)}")
 
 
-def header_line(text):
+def header_line(text: str) -> str:
     """The first word of a line of a header."""
     first, *rest = text.split(" ")
     if first not in HEADER or first == "worker":
@@ -145,7 +147,7 @@ def header_line(text):
     return first
 
 
-def call_in(mark, text):
+def call_in(mark: str, text: str) -> Call:
     """The call of a line `!`, or the command of a line `.`."""
     told, bar, reply = text.partition(" | ")
     who, _, call = told.partition(" ")

@@ -1,6 +1,6 @@
 """Each word that a line of a script may begin with: its form, as in strm(1) but in capital letters, and one sentence."""
 import textwrap
-from typing import NamedTuple
+from typing import Iterator, NamedTuple
 
 from strm_tools.faults import AFTER, GREATEST
 from strm_tools.model import HIGH_PRIORITY, ORDINARY
@@ -101,22 +101,22 @@ PLACES = {
 }
 
 
-def allowed(before):
+def allowed(before: str) -> str:
     """The lines that may follow such a line, in words."""
     return " or ".join("a command" if kind == "command" else kind for kind in AFTER[before])
 
 
-def misplaced(word, before):
+def misplaced(word: str, before: str) -> str:
     """That a line with this first word may not follow such a line."""
     return f"word 1 is {shown(word)} {PLACES[before]}; expected {allowed(before)}"
 
 
-def whole_form(word):
+def whole_form(word: str) -> str:
     """A word with what comes after it, such as `putq Q R`."""
     return f"{word} {WORDS[word].form}".rstrip()
 
 
-def table():
+def table() -> Iterator[str]:
     """Each line that a script may have, in groups: its form, and what it does. Then the types, by priority."""
     for group, words in {"The header and sections": HEADER, **COMMANDS}.items():
         yield f"{group}\n"
@@ -128,16 +128,16 @@ def table():
         yield filled(" ".join(types))
 
 
-def filled(text):
+def filled(text: str) -> str:
     """A paragraph of the table."""
     return textwrap.fill(text, 79, initial_indent=" " * 6, subsequent_indent=" " * 6, break_on_hyphens=False) + "\n"
 
 
-def counted(number, what):
+def counted(number: int, what: str) -> str:
     """A number with its noun, such as `1 line`."""
     return f"{number} {what}{'' if number == 1 else 's'}"
 
 
-def wrong_count(form, here):
+def wrong_count(form: str, here: int) -> str:
     """That a line has another number of words than its form, such as `putq Q R`."""
     return f"{form}: {counted(len(form.split()), 'word')}, here {here}"

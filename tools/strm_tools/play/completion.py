@@ -1,8 +1,12 @@
 """What may come next on a line: words of commands, registers, queues, types, and files."""
+from __future__ import annotations
+
 import glob
 import os
+from typing import Iterable
 
-from strm_tools.model import HIGH_PRIORITY, ORDINARY, WORDS
+from strm_tools.model import HIGH_PRIORITY, ORDINARY, WORDS, Queue
+from strm_tools.play.session import Play
 
 REGISTERS = "abcdefghijklmnopqrstuvwxyz"
 # The words of an item that are always the same.
@@ -17,23 +21,23 @@ WORDS_OF = {
 }
 
 
-def files(begin):
+def files(begin: str) -> list[str]:
     """The files and folders whose path begins so."""
     found = glob.glob(glob.escape(os.path.expanduser(begin)) + "*")
     return [path + ("/" if os.path.isdir(path) else " ") for path in sorted(found)]
 
 
-def blocks(play, before):
+def blocks(play: Play, before: list[str]) -> Iterable[str]:
     """The places of the blocks of the message that a line names."""
     return map(str, range(len(play.model.workers[play.turn].get(before[0], []))))
 
 
-def queues(play, before):
+def queues(play: Play, before: list[str]) -> list[Queue]:
     """The queue that a line names, if there is one."""
     return play.model.queues[int(before[0]) :][:1] if before[0].isdigit() else []
 
 
-def bands(play, before):
+def bands(play: Play, before: list[str]) -> Iterable[str]:
     """Band 0, and the bands of the queue that a line names that have messages, own marks or a sender that waits. For a message,
     some bands."""
     if before[0] in REGISTERS:
@@ -44,12 +48,12 @@ def bands(play, before):
     return map(str, sorted(found))
 
 
-def places(play, before):
+def places(play: Play, before: list[str]) -> list[str]:
     """The places of the messages on the queue that a line names, and the one after them."""
     return [str(place) for queue in queues(play, before) for place in range(len(queue.messages) + 1)]
 
 
-def fitting(play, item, before):
+def fitting(play: Play, item: str, before: list[str]) -> Iterable[str]:
     """The words that fit an item of a command, after the words before it."""
     held = play.model.workers[play.turn]
     if item == "from":
@@ -71,8 +75,9 @@ def fitting(play, item, before):
     return WORDS_OF.get(item, [])
 
 
-def completed(play, commands, before, begin):
+def completed(play: Play, commands: dict[str, str], before: list[str], begin: str) -> list[str]:
     """The words that begin so and may come after the words before. `commands` has the items of each command of the session."""
+    words: Iterable[str]
     if not before:
         words = [*WORDS, "worker", *commands]
     else:

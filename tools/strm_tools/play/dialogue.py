@@ -1,4 +1,7 @@
 """A session from its first line to its last, with interrupts and a closed output."""
+from __future__ import annotations
+
+import argparse
 import sys
 
 from strm_tools.ends import end, end_for, end_wrong, name_of
@@ -10,7 +13,7 @@ from strm_tools.play.shell import DEFAULT, Ended, Shell
 from strm_tools.script import Wrong
 
 
-def program_of(named, session, face):
+def program_of(named: str | None, session: Session, face: Face) -> str | None:
     """The program that answers a session: the named one, which has to work, or one that is found, or None."""
     program = named or proved.find()
     if program is None:
@@ -26,7 +29,7 @@ def program_of(named, session, face):
         return None
 
 
-def begin(words, face):
+def begin(words: argparse.Namespace, face: Face) -> Session:
     """The session that a script, or without one a small pool, begins."""
     try:
         return Session(changes_of(DEFAULT) if words.script is None else changes_of(face.read(words.script), words.script))
@@ -36,7 +39,7 @@ def begin(words, face):
         end_wrong(why, words)
 
 
-def go_on(shell, face):
+def go_on(shell: Shell, face: Face) -> None:
     """Takes lines until the end. A fault of a header ends the program if no terminal shows it."""
     number = 0
     while True:
@@ -60,7 +63,7 @@ def go_on(shell, face):
             shell.interrupted()
 
 
-def hold_session(words):
+def hold_session(words: argparse.Namespace) -> None:
     """Holds a session by the words of the command line."""
     face = Face()
     session = begin(words, face)
@@ -72,7 +75,7 @@ def hold_session(words):
     sys.stdout.flush()
 
 
-def talk(words):
+def talk(words: argparse.Namespace) -> None:
     """Holds a session, which ends if its output can't be written."""
     try:
         hold_session(words)

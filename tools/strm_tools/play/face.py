@@ -1,8 +1,13 @@
 """What a session reads and shows: a terminal with a prompt, completion and colour, or plain input and output."""
+from __future__ import annotations
+
+import io
 import os
 import shutil
 import sys
 import textwrap
+from types import ModuleType
+from typing import Callable, Iterable, Mapping, Sequence, Tuple
 
 from strm_tools.ends import end
 from strm_tools.given import script_of_bytes
@@ -13,7 +18,7 @@ COLOURS = {"bold": "1", "red": "1;31", "yellow": "1;33"}
 NARROW, LOW = 20, 4
 
 
-def readline():
+def readline() -> ModuleType | None:
     """Python's readline, or None where there is none."""
     try:
         import readline as found
@@ -22,14 +27,18 @@ def readline():
     return found
 
 
-def printable(text):
+def printable(text: str) -> str:
     """A text in which each character that can't be printed is escaped: it must not command the terminal."""
     return "".join(char if char.isprintable() else char.encode("unicode_escape").decode() for char in text)
 
 
-def named(path):
+def named(path: str) -> str:
     """A path as a session shows it: without characters it is two quotes."""
     return path or "''"
+
+
+# A piece of a line, and its colour.
+Piece = Tuple[str, str]
 
 
 class Unreadable(Wrong):
@@ -39,12 +48,11 @@ class Unreadable(Wrong):
 class Face:
     """Where a session's lines come from, and where its texts go."""
 
-    def __init__(self):
-        for stream, name in ((sys.stdin, "input"), (sys.stdout, "output")):
-            if stream is None:
+    def __init__(self) -> None:
+        for stream, name, errors in ((sys.stdin, "input", "surrogateescape"), (sys.stdout, "output", "backslashreplace")):
+            if not isinstance(stream, io.TextIOWrapper):
                 end(2, f"standard {name} is closed")
-        sys.stdin.reconfigure(errors="surrogateescape")
-        sys.stdout.reconfigure(errors="backslashreplace")
+            stream.reconfigure(errors=errors)
         self.reads_terminal = sys.stdin.isatty()
         self.is_terminal = self.reads_terminal and sys.stdout.isatty()
         is_plain = os.environ.get("NO_COLOR") or os.environ.get("TERM", "dumb") in ("", "dumb")
@@ -52,16 +60,17 @@ class Face:
 
     # ---- Input -------------------------------------------------------------------------------------------------------
 
-    def complete_by(self, complete):
+    def complete_by(self, complete: Callable[[list[str], str], list[str]]) -> None:
         """Has a terminal complete words by a function of the words before and the beginning of the word."""
         found = readline() if self.is_terminal else None
         if not found:
             return
-        words = []
+        editor = found
+        words: list[str] = []
 
-        def candidate(begin, number):
+        def candidate(begin: str, number: int) -> str | None:
             if number == 0:
-                line = found.get_line_buffer()[: found.get_begidx()]
+                line = editor.get_line_buffer()[: editor.get_begidx()]
                 words[:] = complete(line.split(), begin)
             return words[number] if number < len(words) else None
 
@@ -69,7 +78,7 @@ class Face:
         found.set_completer_delims(" ")
         found.parse_and_bind("bind ^I rl_complete" if "libedit" in (found.__doc__ or "") else "tab: complete")
 
-    def line(self, prompt):
+    def line(self, prompt: str) -> str | None:
         """The next line, or None at the end."""
         try:
             line = input(prompt) + "\n" if self.is_terminal else sys.stdin.readline()
@@ -80,7 +89,7 @@ class Face:
             end(2, f"standard input: {why.strerror}")
         return line or None
 
-    def read(self, path):
+    def read(self, path: str) -> str:
         """The text of a script. Raises `Unreadable` if its file can't be read, and `Wrong` if it is too long."""
         try:
             with open(os.path.expanduser(path), "rb") as file:
@@ -89,7 +98,7 @@ class Face:
             raise Unreadable(getattr(why, "strerror", None) or why)
         return script_of_bytes(octets, "surrogateescape")
 
-    def save(self, texts, overwrites):
+    def save(self, texts: Mapping[str, str], overwrites: bool) -> None:
         """Writes each text to its file. Raises `Wrong` if it can't, or if a file is there and may not be overwritten."""
         for path in [] if overwrites else texts:
             if os.path.lexists(path):
@@ -103,29 +112,29 @@ class Face:
 
     # ---- Output ------------------------------------------------------------------------------------------------------
 
-    def width(self):
+    def width(self) -> int:
         return max(NARROW, shutil.get_terminal_size().columns)
 
-    def height(self):
+    def height(self) -> int:
         return max(LOW, shutil.get_terminal_size().lines)
 
-    def coloured(self, text, colour):
+    def coloured(self, text: str, colour: str) -> str:
         return f"\033[{COLOURS[colour]}m{text}\033[0m" if colour and self.has_colour else text
 
-    def write(self, text):
+    def write(self, text: str) -> None:
         sys.stdout.write(text)
 
-    def say(self, text, colour=""):
+    def say(self, text: str, colour: str = "") -> None:
         """Shows a line."""
         self.write(self.coloured(printable(text), colour) + "\n")
 
-    def paragraph(self, head, text):
+    def paragraph(self, head: str, text: str) -> None:
         """Shows a text after a head, as wide as the window."""
         indent = min(len(head), self.width() // 3)
         wrapped = textwrap.wrap(printable(head + text), self.width(), subsequent_indent=" " * indent, break_on_hyphens=False)
         self.write("".join(f"{line}\n" for line in wrapped))
 
-    def show(self, lines):
+    def show(self, lines: Iterable[Sequence[Piece]]) -> None:
         """Shows lines that are pieces of text with their colour."""
         for pieces in lines:
             text = "".join(self.coloured(printable(text), colour) for text, colour in pieces)

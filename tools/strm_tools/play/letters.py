@@ -1,18 +1,20 @@
 """The registers of all workers as those of one, so that strm executes the lines of all in a given order as one section.
 
 A register that holds a message has a letter of its own. An empty one gets a free letter when a line names it."""
+from __future__ import annotations
+
 from string import ascii_lowercase
 
-from strm_tools.model import WORDS
+from strm_tools.model import WORDS, Model
 
 
 class Letters:
     """The letter of each register that holds a message, by worker and name."""
 
-    def __init__(self):
-        self.given = {}
+    def __init__(self) -> None:
+        self.given: dict[tuple[int, str], str] = {}
 
-    def letter(self, worker, name):
+    def letter(self, worker: int, name: str) -> str | None:
         """The letter of a register, which is its own name if that is free, or None if no letter is."""
         if (worker, name) not in self.given:
             free = [letter for letter in (name, *ascii_lowercase) if letter not in self.given.values()]
@@ -21,10 +23,11 @@ class Letters:
             self.given[worker, name] = free[0]
         return self.given[worker, name]
 
-    def renamed(self, model, worker, text):
+    def renamed(self, model: Model, worker: int, text: str) -> str | None:
         """A line of a worker, which the model executes next, with letters; or None if there are too few."""
         self.given = {pair: letter for pair, letter in self.given.items() if pair[1] in model.workers[pair[0]]}
         word, *rest = text.split(" ")
         items = WORDS[word][0].split()
         words = [self.letter(worker, value) if item in ("from", "to") else value for item, value in zip(items, rest)]
-        return None if None in words else " ".join([word, *words])
+        known = [word for word in words if word is not None]
+        return " ".join([word, *known]) if len(known) == len(words) else None

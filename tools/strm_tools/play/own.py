@@ -1,4 +1,6 @@
 """The session's own commands, what is wrong with a line, and a header that is typed line by line."""
+from __future__ import annotations
+
 import difflib
 from collections import Counter
 
@@ -34,26 +36,26 @@ OWN = {
 MEANT = {"exit": "quit", "q": "quit", "?": "help", "show": "state", "open": "new", "load": "new", "step": "next", "goto": "until", "break": "until", "continue": "run"}
 
 
-def is_on_types(word):
+def is_on_types(word: str) -> bool:
     """Whether help on this word is on types: one of them, or a word for all or for those of high priority."""
     return word.upper() in (*TYPES, "TYPE", "TYPES") or FOR_HIGH_PRIORITY.fullmatch(word) is not None
 
 
-def number_of(word, least=0):
+def number_of(word: str, least: int = 0) -> int:
     """The number that a word is, or `Wrong`."""
     if not (word.isascii() and word.isdigit() and least <= int(word) < 10**9):
         raise Wrong(f"{word} is no number from {least} to 999999999")
     return int(word)
 
 
-def hint_of(fault, first, rest):
+def hint_of(fault: str, first: str, rest: list[str]) -> str:
     """The first note of strm-check on a fault of a line, after a semicolon, or nothing."""
     octets = " ".join([first, *rest]).encode("utf-8", "surrogateescape")
     noted = hints(LineFault(1, fault, octets.decode("latin-1"), "command", 0), octets + b"\n")
     return f"; {noted[0]}" if noted else ""
 
 
-def explained(fault, first, rest):
+def explained(fault: str, first: str, rest: list[str]) -> str:
     """A fault of a line, with what was expected."""
     if fault == "unknown":
         known = None if first in MEANT else hint_for(first, WORDS)
@@ -74,7 +76,7 @@ def explained(fault, first, rest):
     return fault
 
 
-def wrong_form(word):
+def wrong_form(word: str) -> Wrong:
     """That a command of the session has other words after it than its form has."""
     form = OWN[word][0]
     return Wrong(f"shape: the form is {word} {form}" if form else f"shape: {word} takes no words")
@@ -83,7 +85,7 @@ def wrong_form(word):
 class HeaderFault(Wrong):
     """A fault of a header that is typed. `advice` is what the session says of it at a terminal; without one, the session ends."""
 
-    def __init__(self, why, advice=""):
+    def __init__(self, why: str, advice: str = "") -> None:
         super().__init__(why)
         self.advice = advice
 
@@ -91,10 +93,10 @@ class HeaderFault(Wrong):
 class TypedHeader:
     """The lines of a header that is typed, which a line `worker` ends."""
 
-    def __init__(self):
-        self.lines = []
+    def __init__(self) -> None:
+        self.lines: list[str] = []
 
-    def take(self, text):
+    def take(self, text: str) -> list[str] | None:
         """Takes a line. Returns the header if it is whole, and otherwise nothing. Raises `HeaderFault` for a fault."""
         kinds = [line_kind(line.split(" ")[0]) for line in filter(is_command, self.lines)]
         before = kinds[-1] if kinds else "nothing"

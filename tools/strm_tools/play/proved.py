@@ -1,4 +1,6 @@
 """The proved program strm: where it is, and what it replies to the lines of a session."""
+from __future__ import annotations
+
 import os
 import shutil
 import subprocess
@@ -11,14 +13,14 @@ SECONDS = 60
 TOP = os.path.dirname(os.path.dirname(os.path.dirname(os.path.dirname(os.path.realpath(__file__)))))
 
 
-def find():
+def find() -> str | None:
     """The program in build/ of the repository, or else the one beside this tool, or else the one on PATH, or None."""
     beside = os.path.join(os.path.dirname(os.path.abspath(sys.argv[0])), "strm")
     near = [path for path in (os.path.join(TOP, "build", "strm"), beside) if os.path.isfile(path) and os.access(path, os.X_OK)]
     return near[0] if near else shutil.which("strm")
 
 
-def text_of(program, script):
+def text_of(program: str, script: str) -> str:
     """What the program prints for a script. Raises `Wrong` if it does not execute it."""
     command = [program, "--serial", "--max", str(SCRIPT_BYTES)]
     given = script.encode("utf-8", "surrogateescape")
@@ -34,13 +36,13 @@ def text_of(program, script):
     return ran.stdout.decode("utf-8", "replace")
 
 
-def difference(text, wanted):
+def difference(text: str, wanted: str) -> tuple[str, str]:
     """The first line in which a text differs from the wanted one, as both have it."""
     lines = zip([*text.split("\n"), ""], [*wanted.split("\n"), ""])
     return next(((line, other) for line, other in lines if line != other), (text, wanted))
 
 
-def parts(text, replies):
+def parts(text: str, replies: list[str]) -> tuple[list[str], list[str]]:
     """The replies and the report of a text. Where it has no reply to a line, that is one of these."""
     lines = text.split("\n")[:-1]
     count = len(replies)

@@ -1,18 +1,22 @@
 """The session as a dialogue: reads a line, answers it, and draws the state."""
+from __future__ import annotations
+
 import os
 import shlex
 from collections import Counter
+from typing import Callable, Sequence, Tuple
 
 from strm_tools.faults import fault_in, first_fault
 from strm_tools.listing import listing
 from strm_tools.play import proved
 from strm_tools.play.completion import completed
-from strm_tools.play.face import named
+from strm_tools.model import Model
+from strm_tools.play.face import Face, Piece, named
 from strm_tools.play.own import OWN, HeaderFault, TypedHeader, explained, is_on_types, number_of, wrong_form
-from strm_tools.play.session import changes_of, is_command, opening, parted, text_of
+from strm_tools.play.session import Change, Session, changes_of, is_command, opening, parted, text_of
 from strm_tools.play.state import drawn, is_changed
 from strm_tools.play.turns import Turns
-from strm_tools.rules import EFFECTS, FLOW, explains, labelled, why
+from strm_tools.rules import EFFECTS, FLOW, Found, explains, labelled, why
 from strm_tools.script import Wrong
 from strm_tools.words import COMMANDS, HEADER, TYPES, WORDS, counted, whole_form
 
@@ -24,6 +28,8 @@ queue 10 4 s -
 bufcalls 2 1
 worker
 """
+# An executed line: worker and number in the script, text, reply.
+Row = Tuple[str, str, str]
 # Of how many changes that are taken back or done again the words are shown.
 NAMED = 5
 
@@ -32,19 +38,19 @@ class Ended(Exception):
     """The session is at its end."""
 
 
-def is_served(row):
+def is_served(row: Row) -> bool:
     """Whether a line took a queue off the run list."""
     _, text, reply = row
     return text == "service" and reply != "none"
 
 
-def is_explained(row):
+def is_explained(row: Row) -> bool:
     """Whether a rule explains what a line did, or another line does, which enabled a queue."""
     _, text, reply = row
     return is_served(row) or explains(text.split(" ")[0], reply)
 
 
-def shown(row):
+def shown(row: Row) -> str:
     """A line that was executed, with its reply."""
     return "{} {}: {}".format(*row)
 
@@ -53,26 +59,22 @@ class Shell(Turns):
     """A session with the program that answers it, if any, and the face that shows it. Each command of the session has a method
     whose name is `on_` and the command."""
 
-    def __init__(self, session, program, face):
+    def __init__(self, session: Session, program: str | None, face: Face) -> None:
         self.session = session
         self.program = program
         self.face = face
         self.say = face.say
         # The header that is typed, or None.
-        self.typed = None
-        self.is_drawn = None
-        self.said = set()
+        self.typed: TypedHeader | None = None
+        self.is_drawn: bool | None = None
+        self.said: set[str] = set()
 
-    @property
-    def play(self):
-        return self.session.play
-
-    def say_once(self, text):
+    def say_once(self, text: str) -> None:
         if text not in self.said:
             self.said.add(text)
             self.say(text)
 
-    def greet(self, path):
+    def greet(self, path: str | None) -> None:
         """Says what the session begins with."""
         pool = self.play.pool
         data = sum(count for _, count in pool.classes)
@@ -84,17 +86,17 @@ class Shell(Turns):
             self.say(f"{path}: {counted(len(replies), 'command')} executed; list shows them")
         self.draw()
 
-    def interrupted(self):
+    def interrupted(self) -> None:
         """A line was broken off: the session is as its changes make it."""
         self.typed = None
         self.session.play_again()
 
-    def prompt(self):
+    def prompt(self) -> str:
         if self.typed is not None:
             return "header> "
         return f"{self.play.place()}{' waits' if self.play.holds else ''}> "
 
-    def complete(self, before, begin):
+    def complete(self, before: list[str], begin: str) -> list[str]:
         """What may come next, for a terminal."""
         if self.typed is not None and not before:
             return [f"{word} " for word in HEADER if word.startswith(begin)]
@@ -103,7 +105,7 @@ class Shell(Turns):
 
     # ---- A line ------------------------------------------------------------------------------------------------------
 
-    def take(self, line):
+    def take(self, line: str) -> None:
         """Does what a line says. Raises `HeaderFault` if a header has a fault that no terminal can show, so that no command is executed in
         another pool."""
         text = line.strip() if line.strip().startswith("#") else " ".join(line.split())
@@ -112,7 +114,7 @@ class Shell(Turns):
             if word in OWN:
                 self.take_own(word, line.split(None, 1)[1:])
             elif self.typed is not None:
-                self.take_header(text)
+                self.take_header(self.typed, text)
             elif word == "pool":
                 self.begin_header(text)
             elif text.startswith("#"):
@@ -126,15 +128,15 @@ class Shell(Turns):
         except Wrong as reason:
             self.say(str(reason))
 
-    def take_end(self):
+    def take_end(self) -> None:
         """The input is at its end. Raises `HeaderFault` if a header is not, and no terminal shows it."""
         if self.typed is not None and not self.face.reads_terminal:
             raise HeaderFault("the input ends in a header, whose end is a line `worker`")
 
-    def take_own(self, word, rest):
+    def take_own(self, word: str, rest: list[str]) -> None:
         """Does a command of the session."""
         try:
-            words = shlex.split(*rest) if rest else []
+            words = shlex.split(rest[0]) if rest else []
         except ValueError:
             raise Wrong("a quotation mark has no end")
         form = OWN[word][0]
@@ -146,7 +148,7 @@ class Shell(Turns):
             raise Wrong("the header is not at its end yet, which is a line `worker`; undo keeps the pool that there was")
         getattr(self, f"on_{word}")(*words)
 
-    def take_command(self, text, word, rest):
+    def take_command(self, text: str, word: str, rest: list[str]) -> None:
         """Executes a line of the script, or has it wait."""
         sections = self.play.sections
         commands = len(self.play.executed) + sum(section.waiting() for section in sections)
@@ -161,7 +163,7 @@ class Shell(Turns):
         else:
             self.enter(text)
 
-    def enter(self, text):
+    def enter(self, text: str) -> None:
         """Executes a line, or has it wait."""
         if self.play.holds:
             self.session.do("wait", self.play.turn, text, named=text)
@@ -171,18 +173,19 @@ class Shell(Turns):
                 self.say_reply(self.answers()[0][-1])
                 self.draw(anew=False)
 
-    def say_reply(self, reply):
+    def say_reply(self, reply: str) -> None:
         self.say(reply, "red" if reply.startswith("refused") else "")
 
     # ---- The program -------------------------------------------------------------------------------------------------
 
-    def answers(self):
+    def answers(self) -> tuple[list[str], list[str]]:
         """The replies to all executed lines, and the report: those of strm, or without it those of the plain model."""
         replies, report = [line.reply for line in self.play.executed], self.play.model.report()
-        served = self.play.one_section() if self.program else None
+        if self.program is None:
+            return replies, report
+        served = self.play.one_section()
         if served is None:
-            if self.program:
-                self.say_once("more than 26 registers hold messages, too many for strm: the plain model replies alone")
+            self.say_once("more than 26 registers hold messages, too many for strm: the plain model replies alone")
             return replies, report
         try:
             text = proved.text_of(self.program, served[0])
@@ -193,7 +196,7 @@ class Shell(Turns):
             self.say("strm prints {!r}, and the plain model {!r}: one has a fault; please report it".format(*proved.difference(text, served[1])))
         return proved.parts(text, replies)
 
-    def draw(self, anew=True):
+    def draw(self, anew: bool = True) -> None:
         """Draws the state. Unless `state on` asks for it, it must fit the window, and have changed if it is not drawn anew."""
         by_itself = self.is_drawn is None
         if self.is_drawn is False or by_itself and not self.face.is_terminal:
@@ -206,27 +209,27 @@ class Shell(Turns):
         else:
             self.say_once("the state does not fit this window; state shows it")
 
-    def lines_of_state(self):
+    def lines_of_state(self) -> list[list[Piece]]:
         return list(drawn(self.play, self.session.before, self.face.width()))
 
     # ---- Another pool ------------------------------------------------------------------------------------------------
 
-    def open(self, changes, of):
+    def open(self, changes: list[Change], of: str) -> None:
         """Opens a pool, and shows its header."""
         self.session.open(changes)
         self.say(f"the pool of {of}:")
         self.on_header()
         self.draw()
 
-    def begin_header(self, text):
+    def begin_header(self, text: str) -> None:
         """Takes the first line of a header, if it is right."""
         typed = TypedHeader()
         typed.take(text)
         self.typed = typed
 
-    def take_header(self, text):
+    def take_header(self, typed: TypedHeader, text: str) -> None:
         """Takes a line of a header, and opens its pool if it is whole."""
-        header = self.typed.take(text)
+        header = typed.take(text)
         if header is not None:
             self.typed = None
             fault = first_fault(text_of([*header, "worker"]))
@@ -236,7 +239,7 @@ class Shell(Turns):
 
     # ---- Commands of the session -------------------------------------------------------------------------------------
 
-    def on_help(self, word=None):
+    def on_help(self, word: str | None = None) -> None:
         if word is None:
             self.say("Commands of strm; `help WORD` says what one does:")
             for group, words in COMMANDS.items():
@@ -258,16 +261,16 @@ class Shell(Turns):
         else:
             raise Wrong(explained("unknown", word, []))
 
-    def say_types(self):
+    def say_types(self) -> None:
         for priority, types in TYPES.items():
             self.say(f"{priority}:")
             self.face.paragraph("  ", " ".join(types))
 
-    def on_header(self):
+    def on_header(self) -> None:
         for line in self.play.header:
             self.say(f"  {line}".rstrip())
 
-    def on_new(self, path=None):
+    def on_new(self, path: str | None = None) -> None:
         if path is None:
             self.typed = TypedHeader()
             self.say("Type the header, each line in its form, and `worker` at its end; undo keeps the pool that there is:")
@@ -280,7 +283,7 @@ class Shell(Turns):
             raise Wrong(f"{named(path)}: {reason}")
         self.open(changes[:1], path)
 
-    def on_state(self, switch=None):
+    def on_state(self, switch: str | None = None) -> None:
         if switch not in (None, "on", "off"):
             raise wrong_form("state")
         if switch is None:
@@ -288,18 +291,18 @@ class Shell(Turns):
         else:
             self.is_drawn = switch == "on"
 
-    def on_report(self):
+    def on_report(self) -> None:
         for line in self.answers()[1]:
             self.say(line)
 
-    def on_list(self, count=None):
+    def on_list(self, count: str | None = None) -> None:
         rows = list(self.play.rows())
         self.say_rows(rows if count is None else rows[len(rows) - min(number_of(count), len(rows)) :])
 
-    def say_rows(self, rows):
+    def say_rows(self, rows: Sequence[Row]) -> None:
         self.face.write(listing(rows))
 
-    def on_why(self, line=None):
+    def on_why(self, line: str | None = None) -> None:
         rows = list(self.play.rows())
         if line is not None:
             self.explain(self.explained_at(rows, number_of(line, 1)), rows)
@@ -313,7 +316,7 @@ class Shell(Turns):
             self.say(f"nothing to explain in the last line, {shown(rows[-1])}; before it:")
         self.explain(place, rows)
 
-    def explained_at(self, rows, number):
+    def explained_at(self, rows: list[Row], number: int) -> int:
         """The place of the line that has this number in the script, if there is something to explain in it."""
         place = next((place for place, (at, _, _) in enumerate(rows) if at.endswith(f":{number}")), None)
         if place is None:
@@ -322,12 +325,12 @@ class Shell(Turns):
             raise Wrong(f"nothing to explain in {shown(rows[place])}")
         return place
 
-    def explain(self, place, rows):
+    def explain(self, place: int, rows: list[Row]) -> None:
         """Gives the rule for the executed line at a place. For one that took a queue off the run list, this is the line that enabled it."""
         if is_served(rows[place]):
             self.say(shown(rows[place]))
             number = int(rows[place][2].split(" ")[1])
-            place = self.session.since(place - 1, [lambda model: number in model.run])[0]
+            place = self.session.since(place - 1, [lambda model: number in model.run])[0] or 0
             self.say("queue {} was enabled by {} {}".format(labelled(number, self.play.labels()), *rows[place]))
         _, text, _ = rows[place]
         found = why(self.session.model_before(place), *parted(text))
@@ -336,10 +339,11 @@ class Shell(Turns):
         if found.rule.section == FLOW and "B" in found.numbers:
             self.say_since(found, place, rows)
 
-    def say_since(self, found, place, rows):
+    def say_since(self, found: Found, place: int, rows: list[Row]) -> None:
         """Says since which lines the band that a rule is about has been full and wanted, if it is."""
-        number, band = found.numbers["Q"], found.numbers["B"]
-        facts = {
+        number: int = found.numbers["Q"]
+        band: int = found.numbers["B"]
+        facts: dict[str, Callable[[Model], bool]] = {
             "full": lambda model: model.queues[number].is_full(band),
             "wanted": lambda model: band in model.queues[number].wanted,
         }
@@ -349,17 +353,17 @@ class Shell(Turns):
         if parts:
             self.face.paragraph("  ", f"Band {band} of queue {labelled(number, labels)} has been {', and '.join(parts)}.")
 
-    def on_undo(self, count="1"):
+    def on_undo(self, count: str = "1") -> None:
         if self.typed is not None:
             self.typed = None
             self.say("the header is given up, and the pool is as before")
             return
         self.say_changes("taken back", self.session.undo(number_of(count, 1)), "there is nothing to take back")
 
-    def on_redo(self, count="1"):
+    def on_redo(self, count: str = "1") -> None:
         self.say_changes("done again", self.session.redo(number_of(count, 1)), "there is nothing to do again")
 
-    def say_changes(self, what, changes, nothing):
+    def say_changes(self, what: str, changes: list[Change], nothing: str) -> None:
         named = [change.named for change in changes if change.named]
         if not named:
             raise Wrong(nothing)
@@ -367,7 +371,7 @@ class Shell(Turns):
         self.face.paragraph(f"{what}: ", "; ".join(named[:NAMED]) + (f"; and {more} more" if more > 0 else ""))
         self.draw()
 
-    def on_save(self, *words):
+    def on_save(self, *words: str) -> None:
         overwrites = words[:1] == ("-f",)
         paths = [os.path.expanduser(word) for word in words[overwrites:]]
         if len(paths) not in (1, 2) or not overwrites and len(words) > 2:
@@ -387,5 +391,5 @@ class Shell(Turns):
         if waiting:
             self.say(f"{counted(waiting, 'command')} waiting, so no text is written")
 
-    def on_quit(self):
+    def on_quit(self) -> None:
         raise Ended

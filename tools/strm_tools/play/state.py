@@ -1,10 +1,16 @@
 """The state of a pool as rows of words, and as text in which each word that a line changed has a star before it.
 
 A row has a key. Its words are compared one by one with those that had the same key before."""
-from itertools import zip_longest
-from typing import NamedTuple
+from __future__ import annotations
 
-from strm_tools.model import rank
+from itertools import zip_longest
+from typing import TYPE_CHECKING, Any, Collection, Dict, Iterable, Iterator, NamedTuple, Tuple
+
+from strm_tools.model import Message, Next, Pool, rank
+
+if TYPE_CHECKING:
+    from strm_tools.play.face import Piece
+    from strm_tools.play.session import Play
 
 BAR = 12
 # The most bytes of a block that are drawn.
@@ -17,19 +23,23 @@ class Row(NamedTuple):
     """A line of the state."""
 
     label: str
-    words: list
+    words: list[str]
     # The bar of a band.
     tail: str = ""
     # The message of the row. It is kept, so that no later message has the same identity.
     message: object = None
 
 
-def shown(octets):
+Key = Tuple[Any, ...]
+Rows = Dict[Key, Row]
+
+
+def shown(octets: bytes) -> str:
     """The first bytes of a block."""
     return (octets[:BYTES].hex() or "-") + (".." if len(octets) > BYTES else "")
 
 
-def words_of(play, message):
+def words_of(play: Play, message: Message) -> list[str]:
     """The words of a message: its band or its priority, and as many for each block."""
     words = ["high" if rank(message) == 256 else f"band={message[0].band}"]
     for block in message:
@@ -40,7 +50,7 @@ def words_of(play, message):
     return words
 
 
-def bar(count, high, low):
+def bar(count: int, high: int, low: int) -> str:
     """The bytes of a band as a bar up to its high water mark, in which `|` is the low one."""
     filled = min(BAR, -(-count * BAR // high))
     cells = "#" * filled + "." * (BAR - filled)
@@ -48,17 +58,17 @@ def bar(count, high, low):
     return f"[{cells[:place]}|{cells[place:]}]"
 
 
-def along_lines(pool):
+def along_lines(pool: Pool) -> Iterator[int]:
     """The queues along their lines: each queue that no other leads to, and those after it."""
     led_to = {following for *_, following in pool.queues}
     for first in range(len(pool.queues)):
-        number = "-" if first in led_to else first
+        number: Next = "-" if first in led_to else first
         while number != "-":
             yield number
             number = pool.queues[number][3]
 
 
-def rows_of_queue(play, number, label, bands_before):
+def rows_of_queue(play: Play, number: int, label: str, bands_before: Collection[int]) -> Iterator[tuple[Key, Row]]:
     """The rows of a queue, its bands and its messages, front to back."""
     queue = play.model.queues[number]
     counts = queue.bytes_of_bands()
@@ -77,7 +87,7 @@ def rows_of_queue(play, number, label, bands_before):
         yield ("message", number, id(message)), Row(f"  {place}", words_of(play, message), message=message)
 
 
-def rows_of_worker(play, worker, names_before):
+def rows_of_worker(play: Play, worker: int, names_before: Collection[str]) -> Iterator[tuple[Key, Row]]:
     """The rows of a worker, and of its registers that hold a message or held one before."""
     held = play.model.workers[worker]
     section = play.sections[worker]
@@ -87,15 +97,15 @@ def rows_of_worker(play, worker, names_before):
         yield ("register", worker, name), Row(f"  {name}", words_of(play, held[name]) if name in held else ["empty"])
 
 
-def rows_of(play, before=None):
+def rows_of(play: Play, before: Rows | None = None) -> Rows:
     """The state as rows by key, with a row too for each band and register that has one in the state before."""
     model = play.model
     labels = play.labels()
-    kept = {}
+    kept: dict[Key, list[Any]] = {}
     for kind, *place, last in filter(lambda key: key[0] in ("band", "register"), before or {}):
         kept.setdefault((kind, *place), []).append(last)
     free, queued, held = model.counts()
-    rows = {("blocks",): Row("blocks", [f"free={free}", f"queued={queued}", f"held={held}", f"total={model.pool.mblks}"])}
+    rows: Rows = {("blocks",): Row("blocks", [f"free={free}", f"queued={queued}", f"held={held}", f"total={model.pool.mblks}"])}
     for (size, count), left in zip(model.pool.classes, model.data):
         rows["data", size] = Row(f"data {size}", [f"free={left}", f"total={count}"])
     rows[("run",)] = Row("run list", [" ".join(map(str, model.run)) or "-"])
@@ -108,16 +118,16 @@ def rows_of(play, before=None):
     return rows
 
 
-def messages_left_out(rows):
+def messages_left_out(rows: Rows) -> list[list[Key]]:
     """The keys of the messages in the middle of each long queue, which are not drawn."""
-    queues = {}
+    queues: dict[int, list[Key]] = {}
     for key in rows:
         if key[0] == "message":
             queues.setdefault(key[1], []).append(key)
     return [keys[FRONT:-BACK] for keys in queues.values() if len(keys) > FRONT + BACK + 1]
 
 
-def lines_of_row(label, pieces, width):
+def lines_of_row(label: str, pieces: Iterable[Piece], width: int) -> Iterator[list[Piece]]:
     """A row in as many lines as a window of this width needs. Pieces are texts with their colour."""
     indent = min(12, width // 4)
     line, length = [(f"{label[:width - 1]:<{indent}}", "")], max(indent, len(label[: width - 1]))
@@ -130,7 +140,7 @@ def lines_of_row(label, pieces, width):
     yield line
 
 
-def pieces_of(row, old):
+def pieces_of(row: Row, old: Row | None) -> Iterator[Piece]:
     """The words of a row as texts with their colour. A changed word has a star before it."""
     for word, other in zip_longest(row.words, (old or row).words):
         is_changed = word != other
@@ -141,13 +151,13 @@ def pieces_of(row, old):
         yield row.tail, ""
 
 
-def is_changed(play, before):
+def is_changed(play: Play, before: Rows) -> bool:
     """Whether a state differs from the one before."""
     now = rows_of(play)
     return now.keys() != before.keys() or any(row.words != before[key].words for key, row in now.items())
 
 
-def drawn(play, before, width):
+def drawn(play: Play, before: Rows, width: int) -> Iterator[list[Piece]]:
     """The lines of the state for a window of this width, each as texts with their colour."""
     rows = rows_of(play, before)
     hidden = messages_left_out(rows)

@@ -13,12 +13,19 @@ has a row for each line of the page's list:
     @3                       the lines from here on are calls of another caller than before: of number 3, or after @ alone of none
 
 In rows `&` is `&amp;`, `<` is `&lt;`, and a carriage return is U+240D. Rows of labels (labels.py) are left out, since the page shows them elsewhere."""
+from __future__ import annotations
+
 import json
 from array import array
 from bisect import bisect_right
 from itertools import count
+from typing import TYPE_CHECKING, Callable
 
-from strm_tools.labels import form_of
+from strm_tools.labels import Labels, form_of
+from strm_tools.rules import Found
+
+if TYPE_CHECKING:
+    from strm_tools.view.film import Line
 
 # A chunk ends after this many lines, or with changes of this many bytes, if these are more than those of the pool before.
 MOST_LINES = 500
@@ -26,26 +33,26 @@ MOST_BYTES = 50_000
 HEADER = ("pool ", "class ", "queue ", "bufcalls ")
 
 
-def compact(value):
+def compact(value: object) -> str:
     return json.dumps(value, separators=(",", ":"))
 
 
-def shielded(text):
+def shielded(text: str) -> str:
     """A row that cannot end its element, or itself."""
     return text.replace("&", "&amp;").replace("<", "&lt;").replace("\r", "\u240d")
 
 
-def is_shown(line):
+def is_shown(line: str) -> bool:
     """Whether a line of the script that is not a command has a row."""
     return line.startswith(HEADER) or line.startswith("#") and not form_of(line)
 
 
-def text_of_rule(why):
+def text_of_rule(why: Found | None) -> str:
     """A rule with its numbers as a row has it, or nothing."""
     return " ".join([why.name, *(f"{name}={number}" for name, number in why.numbers.items())]) if why else ""
 
 
-def is_command(line):
+def is_command(line: str) -> bool:
     return bool(line) and line != "worker" and not line.startswith(("#", *HEADER))
 
 
@@ -53,7 +60,7 @@ class Chunks:
     """Takes the lines of a run, and hands on each chunk by `write`: its rows and its JSON. `script` is the lines of the script, `labels` its
     labels, and `state` returns the pool as it is."""
 
-    def __init__(self, script, labels, state, write):
+    def __init__(self, script: list[str], labels: Labels, state: Callable[[], object], write: Callable[[str, str], None]) -> None:
         self.script = script
         self.state = state
         self.write = write
@@ -63,31 +70,31 @@ class Chunks:
         self.names = labels.names_of_callers()
         self.caller = ""
         # The lines and the rows of each chunk.
-        self.lines = array("L")
-        self.rows = array("L")
+        self.lines: array[int] = array("L")
+        self.rows: array[int] = array("L")
         self.queues = count()
         self.begin()
         header = next(number for number, line in enumerate(self.script) if line.startswith("bufcalls ")) + 1
         self.rows_now = [*self.passed(0, header), ">"]
         self.end = max((number for number, line in enumerate(self.script, 1) if is_command(line)), default=header)
 
-    def begin(self):
+    def begin(self) -> None:
         """Begins a chunk with the pool as it is."""
         self.opening = compact(self.state())
         self.rows_now = []
-        self.changes = []
+        self.changes: list[str] = []
         self.bytes = 0
 
-    def passed(self, begin, end):
+    def passed(self, begin: int, end: int) -> list[str]:
         """The rows of lines that are no commands, from one place in the script to another."""
         return [self.row_of(line) for line in self.script[begin:end] if is_shown(line)]
 
-    def row_of(self, line):
+    def row_of(self, line: str) -> str:
         if line.startswith("#"):
             return shielded(line)
         return f"={line}\t{next(self.queues)}" if line.startswith("queue ") else f"={line}"
 
-    def rows_before(self, number):
+    def rows_before(self, number: int) -> list[str]:
         """The rows before that of a command: the comments up to the command before it in the script, and between them its caller, unless the
         line before has the same."""
         begin = number - 1
@@ -99,7 +106,7 @@ class Chunks:
         caller = [f"@{self.names.index(self.caller) if self.caller else ''}"] if before != self.caller else []
         return [*self.passed(begin, label), *caller, *self.passed(label, number - 1)]
 
-    def add(self, line):
+    def add(self, line: Line) -> None:
         """Takes the next line."""
         command, reply = self.script[line.number - 1], "" if line.reply == "ok" else line.reply
         fields = [f"{line.worker}:{line.number} {command}", reply, " ".join(line.events), text_of_rule(line.why)]
@@ -110,12 +117,12 @@ class Chunks:
             self.hand_on()
             self.begin()
 
-    def hand_on(self):
+    def hand_on(self) -> None:
         self.lines.append(len(self.changes))
         self.rows.append(len(self.rows_now))
         self.write("\n".join(self.rows_now), f"[{self.opening},[{','.join(self.changes)}]]")
 
-    def finish(self):
+    def finish(self) -> None:
         """Hands on the last chunk, with the comments after the last command."""
         self.rows_now += self.passed(self.end, len(self.script))
         self.hand_on()

@@ -17,18 +17,23 @@ place and band, and the number of its bytes. Message blocks and data blocks are 
 Bytes are numbered by the frame whose line made them; 0 means none. If they were made of others, the frame has a change of part -1:
 after a `write`, the number of the bytes before, and the place from which on the line's own follow; after a `pullupmsg`, pieces, each
 of a number, its beginning and its end."""
+from __future__ import annotations
+
 import operator
 from collections import Counter, defaultdict
 from itertools import count
-from typing import NamedTuple
+from typing import Any, Callable, Counter as Counts, Iterable, Iterator, List, NamedTuple, Sequence, TypeVar
 
 from strm_tools.judge import Replay
-from strm_tools.model import HIGH_PRIORITY, ORDINARY
+from strm_tools.model import HIGH_PRIORITY, ORDINARY, Block, Values
 from strm_tools.rules import SETTLES, Found, why_not, why_settled
 from strm_tools.script import lazily
-from strm_tools.view.queues import OF_BYTES, OF_DATA, READ, WANTED, WRITE, ShownQueue, flags_of, message_of
+from strm_tools.view.queues import OF_BYTES, OF_DATA, READ, WANTED, WRITE, Shown, ShownQueue, flags_of, message_of
 from strm_tools.view.tracks import Tracks
 
+Item = TypeVar("Item")
+# A change: the part, a place in it, how many items go there, and those that come.
+Change = List[Any]
 KINDS = ORDINARY + HIGH_PRIORITY
 PLACE_OF_KIND = {kind: place for place, kind in enumerate(KINDS)}
 REGISTERS = "abcdefghijklmnopqrstuvwxyz"
@@ -37,13 +42,13 @@ BYTES = -1
 CHANGES_NOTHING = ("refused", "empty", "taken")
 
 
-def alike(one, other, same):
+def alike(one: Sequence[Item], other: Sequence[Item], same: Callable[[Item, Item], bool]) -> int:
     """How many items at the beginning of two lists are the same."""
     pairs = enumerate(zip(one, other))
     return next((at for at, (left, right) in pairs if not same(left, right)), min(len(one), len(other)))
 
 
-def splice(before, after, same=operator.eq):
+def splice(before: Sequence[Item], after: Sequence[Item], same: Callable[[Item, Item], bool] = operator.eq) -> tuple[int, int, int]:
     """Where one list differs from another: the place, how many items go there, and how many come."""
     begin = alike(before, after, same)
     end = alike(before[begin:][::-1], after[begin:][::-1], same)
@@ -57,12 +62,12 @@ class Line(NamedTuple):
     worker: int
     number: int
     reply: str
-    events: list
-    changes: list
-    why: Found = None
+    events: list[str]
+    changes: list[Change]
+    why: Found | None = None
 
 
-def pieces_of(blocks, left):
+def pieces_of(blocks: Iterable[Shown], left: int) -> Iterator[list[int]]:
     """The pieces that a `pullupmsg` of so many bytes brings together: of each block its bytes, their beginning and their end."""
     for block in blocks:
         begin, end = block[READ], min(block[WRITE], block[READ] + left)
@@ -74,18 +79,19 @@ def pieces_of(blocks, left):
 class Film(Replay):
     """A replay that hands on each line with what it changes, by `keep`."""
 
-    def __init__(self, script, keep):
-        super().__init__(script, lazily)
+    def __init__(self, script: str, keep: Callable[[Line], None]) -> None:
+        pool, sections = lazily(script)
+        super().__init__(script, lambda _: (pool, sections))
         self.keep = keep
         # The lines of the script.
-        self.script = self.sections[0].lines
+        self.script = sections[0].lines
         self.frame = 0
         self.numbers = count(1)
         self.data_numbers = count(1)
         self.queues = [ShownQueue(queue) for queue in self.model.queues]
-        self.lists = {DATA: list(self.model.data), RUN: [], WISHES: []}
-        self.registers = defaultdict(list)
-        self.used_registers = defaultdict(set)
+        self.lists: dict[int, list[Any]] = {DATA: list(self.model.data), RUN: [], WISHES: []}
+        self.registers: dict[int, list[Shown]] = defaultdict(list)
+        self.used_registers: dict[int, set[str]] = defaultdict(set)
         # How many blocks are in each worker's registers, and the most there were. How many blocks were in use at most.
         self.held = [0] * len(self.sections)
         self.most_held = [0] * len(self.sections)
@@ -93,15 +99,15 @@ class Film(Replay):
         self.most_run = 0
         self.most_wishes = 0
         # How many references each data block has on each queue.
-        self.holders = defaultdict(Counter)
+        self.holders: dict[int, Counts[int]] = defaultdict(Counter)
         self.tracks = Tracks()
         # The names of the rules that lines have.
-        self.rules = set()
+        self.rules: set[str] = set()
         self.count_all()
 
     # ---- What is shown of a message --------------------------------------------------------------------------------------------
 
-    def shown(self, block):
+    def shown(self, block: Block) -> Shown:
         """A block as a list of numbers. The model's own objects keep their numbers."""
         data = block.data
         if not hasattr(data, "number"):
@@ -111,7 +117,7 @@ class Film(Replay):
         kind = PLACE_OF_KIND[data.kind]
         return [block.number, data.number, data.place, kind, block.read, block.write, block.band, data.bytes]
 
-    def make_bytes(self, word, values, before):
+    def make_bytes(self, word: str, values: Values, before: list[Shown]) -> list[Change]:
         """Numbers the bytes that a line made. Returns the change that has of what they are made, if they are made of others."""
         held = self.model.held
         if word == "write" and values[2]:
@@ -119,9 +125,9 @@ class Film(Replay):
             held[values[0]][values[1]].data.bytes = self.frame
             return [[BYTES, block[OF_BYTES], block[WRITE]]] if block[OF_BYTES] else []
         if word in ("copyb", "copymsg"):
-            for block, copy in zip(held[values[0]], held[values[1]]):
+            for source, copy in zip(held[values[0]], held[values[1]]):
                 self.shown(copy)
-                copy.data.bytes = block.data.bytes
+                copy.data.bytes = source.data.bytes
         if word == "pullupmsg" and held[values[0]] and not hasattr(held[values[0]][0].data, "number"):
             first = held[values[0]][0]
             self.shown(first)
@@ -131,10 +137,10 @@ class Film(Replay):
 
     # ---- What a line changes -----------------------------------------------------------------------------------------------------
 
-    def part_of_register(self, worker, letter):
+    def part_of_register(self, worker: int, letter: str) -> int:
         return FIRST_QUEUE + 2 * len(self.queues) + 26 * worker + REGISTERS.index(letter)
 
-    def changed_registers(self, worker, letters):
+    def changed_registers(self, worker: int, letters: list[str]) -> Iterator[Change]:
         """The changes of the registers that a line names."""
         for letter in letters:
             part = self.part_of_register(worker, letter)
@@ -149,7 +155,7 @@ class Film(Replay):
                 self.refer(after[place : place + come], 1)
                 yield [part, place, gone, *after[place : place + come]]
 
-    def changed_messages(self, number):
+    def changed_messages(self, number: int) -> Iterator[Change]:
         """The change of the messages of a queue, if any."""
         queue = self.queues[number]
         own = self.model.queues[number].messages
@@ -164,7 +170,7 @@ class Film(Replay):
                     self.refer(message.blocks, sign, number)
             yield [FIRST_QUEUE + 2 * number + 1, place, gone, *(message.blocks for message in came)]
 
-    def changed_flags(self, number):
+    def changed_flags(self, number: int) -> Iterator[Change]:
         """The change of a queue's flags, if any."""
         before, after = self.queues[number].flags, flags_of(self.model.queues[number])
         if before != after:
@@ -173,20 +179,21 @@ class Film(Replay):
                 self.tracks.step(f"wanted {number} {band}", self.frame, int(band in after[WANTED]))
             yield self.change(FIRST_QUEUE + 2 * number, before, after)
 
-    def changed_lists(self):
+    def changed_lists(self) -> Iterator[Change]:
         """The changes of the other parts."""
-        for part, after in ((DATA, self.model.data), (RUN, self.model.run), (WISHES, self.model.wishes)):
+        now: list[tuple[int, list[Any]]] = [(DATA, self.model.data), (RUN, self.model.run), (WISHES, self.model.wishes)]
+        for part, after in now:
             before = self.lists[part]
             if before != after:
                 self.lists[part] = list(after)
                 yield self.change(part, before, after)
 
     @staticmethod
-    def change(part, before, after):
+    def change(part: int, before: Sequence[Any], after: Sequence[Any]) -> Change:
         place, gone, come = splice(before, after)
         return [part, place, gone, *after[place : place + come]]
 
-    def refer(self, blocks, sign, number=None):
+    def refer(self, blocks: Iterable[Shown], sign: int, number: int | None = None) -> None:
         """Counts references that come or go, and those on a queue by its number."""
         for block in blocks:
             self.references[block[OF_DATA]] += sign
@@ -200,14 +207,15 @@ class Film(Replay):
 
     # ---- A line --------------------------------------------------------------------------------------------------------------------
 
-    def serve(self, worker):
+    def serve(self, worker: int) -> str:
         number, word, items, values = self.sections[worker][self.served[worker]]
         letters = [value for item, value in zip(items, values) if item in ("from", "to")]
         told = super().serve(worker)
         self.frame += 1
-        self.references = Counter()
+        self.references: Counts[int] = Counter()
         reply = told.partition(" ")[2]
-        changes, events = [], []
+        changes: list[Change] = []
+        events: list[str] = []
         why = self.why(word, items, values, reply)
         for letter in letters:
             self.tracks.mark(f"used {worker} {letter}", self.frame)
@@ -226,7 +234,7 @@ class Film(Replay):
         self.keep(Line(worker, number, reply, events, changes, why))
         return told
 
-    def why(self, word, items, values, reply):
+    def why(self, word: str, items: list[str], values: Values, reply: str) -> Found | None:
         """The rule that a line has, or None. What the frames show is still as before the line."""
         rule = None
         if reply.startswith(CHANGES_NOTHING) or (word, reply) == ("bcanput", "no"):
@@ -241,7 +249,7 @@ class Film(Replay):
             self.tracks.mark(f"no {rule.numbers['Q']}", self.frame)
         return rule
 
-    def changed_queues(self, word, named, changes):
+    def changed_queues(self, word: str, named: int | None, changes: list[Change]) -> list[str]:
         """Adds the changes of queues. Returns which bands became full."""
         if named is None:
             return []
@@ -254,7 +262,7 @@ class Film(Replay):
                 events += [f"F{number}.{band}" for band in self.settle(number)]
         return events
 
-    def settle(self, number):
+    def settle(self, number: int) -> list[int]:
         """Notes the bytes and the water marks of a queue's bands. Returns the bands that became full."""
         shown, queue = self.queues[number], self.model.queues[number]
         came = shown.settle(queue)
@@ -267,7 +275,7 @@ class Film(Replay):
             self.tracks.mark(f"full {number}", self.frame)
         return came
 
-    def enabled(self, word, before, after):
+    def enabled(self, word: str, before: set[int], after: set[int]) -> Iterator[str]:
         """Which queues a line enabled, and how."""
         for number in before ^ after:
             self.tracks.mark(f"changed {number}", self.frame)
@@ -278,28 +286,28 @@ class Film(Replay):
                 self.tracks.mark(f"back {number}", self.frame)
             yield f"{'B' if is_back else 'E'}{number}"
 
-    def note_references(self):
+    def note_references(self) -> None:
         """Marks the queues on which the reference count of a block changed."""
         for data, difference in self.references.items():
             if difference:
                 for number in self.holders.get(data, ()):
                     self.tracks.mark(f"changed {number}", self.frame)
 
-    def count_all(self):
+    def count_all(self) -> None:
         """Notes what the chart shows, and the most there is of what the picture keeps room for."""
         queued, held = sum(queue.blocks for queue in self.queues), sum(self.held)
         self.tracks.step("queued", self.frame, queued)
         self.tracks.step("held", self.frame, held)
         for place, (free, (_, total)) in enumerate(zip(self.model.data, self.model.pool.classes)):
             self.tracks.step(f"data {place}", self.frame, free, total)
-        self.most_held = list(map(max, self.most_held, self.held))
+        self.most_held = [most if most > held else held for most, held in zip(self.most_held, self.held)]
         self.most_in_use = max(self.most_in_use, queued + held)
         self.most_run = max(self.most_run, len(self.model.run))
         self.most_wishes = max(self.most_wishes, len(self.model.wishes))
 
     # ---- The whole pool ----------------------------------------------------------------------------------------------------------
 
-    def state(self):
+    def state(self) -> dict[int, list[Any]]:
         """All parts that are not empty, or that always are there."""
         parts = {part: list(items) for part, items in self.lists.items()}
         for number, queue in enumerate(self.queues):

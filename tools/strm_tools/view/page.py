@@ -1,12 +1,15 @@
 """The page of a run: one file, with its style, its program and the run."""
+from __future__ import annotations
+
 import html
 import os
 import re
+from typing import Protocol
 
-from strm_tools.judge import Wrong
-from strm_tools.labels import labels_of
+from strm_tools.labels import Labels, labels_of
 from strm_tools.model import ORDINARY
 from strm_tools.rules import RULES
+from strm_tools.script import Wrong
 from strm_tools.view.chunks import Chunks, compact
 from strm_tools.view.film import KINDS, Film
 from strm_tools.words import WORDS
@@ -18,12 +21,12 @@ MOST_BYTES = 250_000_000
 CHUNK = '<script class="rows" type="text/plain">{}</script>\n<script class="states" type="text/plain">{}</script>\n'
 
 
-def source(name):
+def source(name: str) -> str:
     with open(os.path.join(FOLDER, name), encoding="utf-8") as file:
         return file.read()
 
 
-def summary(labels, film, chunks):
+def summary(labels: Labels, film: Film, chunks: Chunks) -> dict[str, object]:
     """What the page's program needs of a whole run: how the pool was made, labels, rules, chunks, and what to keep room for. With
     the words whose lines name a queue."""
     pool = film.model.pool
@@ -56,21 +59,27 @@ def summary(labels, film, chunks):
     }
 
 
+class Output(Protocol):
+    """A file, or what is written to as one."""
+
+    def write(self, part: str, /) -> object: ...
+
+
 class Writer:
     """Writes the parts of a page to a file. Raises `Wrong` if the page becomes too large."""
 
-    def __init__(self, file):
+    def __init__(self, file: Output) -> None:
         self.file = file
         self.bytes = 0
 
-    def write(self, part):
+    def write(self, part: str) -> None:
         self.file.write(part)
         self.bytes += len(part)
         if self.bytes > MOST_BYTES:
             raise Wrong(f"the page would have more than {MOST_BYTES:,} bytes, which is the most that a page may have")
 
 
-def write_page(file, title, script, text=None):
+def write_page(file: Output, title: str, script: str, text: str | None = None) -> Film:
     """Writes the page of a run to a file, and returns the replay. Raises `Wrong` if the text is not one of the script, or the page
     becomes too large; then what the file has is no page."""
     write = Writer(file).write
@@ -89,6 +98,6 @@ def write_page(file, title, script, text=None):
     return film
 
 
-def filled(text, **parts):
+def filled(text: str, **parts: str) -> str:
     """A text with the named parts at their places."""
     return re.sub(r"<!-- (\w+) -->", lambda place: parts[place[1]], text)

@@ -1,11 +1,13 @@
 """A picture of one frame of a run, as SVG: what the page's program draws in Chromium, below the line of the frame."""
+from __future__ import annotations
+
 import html
 import os
 import re
 import tempfile
 
 from strm_tools.browser import Browser, chromium
-from strm_tools.judge import Wrong
+from strm_tools.script import Wrong
 from strm_tools.view.page import source, write_page
 
 # The width of a picture, which makes three columns; its margin at each side; the height of the line above.
@@ -39,17 +41,18 @@ SVG = """<svg xmlns="http://www.w3.org/2000/svg" width="{width}" height="{height
 """
 
 
-def style():
+def style() -> str:
     """The page's colours, and its style for pictures."""
     css = source("page.css")
     return "\n".join([*re.findall(r"^(?::root|@media \(pref).*?^}", css, re.MULTILINE | re.DOTALL), css.split("\n\n")[1].strip()])
 
 
-def found(pattern, dom):
-    return html.unescape(re.search(pattern, dom, re.DOTALL)[1])
+def found(pattern: str, dom: str) -> str:
+    text: str = re.findall(pattern, dom, re.DOTALL)[0]
+    return html.unescape(text)
 
 
-def drawn(title, script, text, frame):
+def drawn(title: str, script: str, text: str | None, frame: int) -> tuple[str, str, int]:
     """The line of a frame with its reply, the drawing of the frame, and its height."""
     with tempfile.TemporaryDirectory() as room:
         path = os.path.join(room, "page.html")
@@ -59,16 +62,16 @@ def drawn(title, script, text, frame):
         if frame not in range(film.frame + 1):
             raise Wrong(f"there is no frame {frame}, and the last one is {film.frame}", "script")
         dom = Browser(chromium(), room).dom(path)
-    shape = re.fullmatch(r'<svg [^>]*height="([\d.]+)"[^>]*>(.*)</svg>', found(r'<pre id="drawn">(.*?)</pre>', dom), re.DOTALL)
+    height, inner = re.findall(r'\A<svg [^>]*height="([\d.]+)"[^>]*>(.*)</svg>\Z', found(r'<pre id="drawn">(.*?)</pre>', dom), re.DOTALL)[0]
     command, reply = (found(rf'<code id="{name}">([^<]*)</code>', dom) for name in ("command", "reply"))
     place = found(r'<span id="where">[^<]*: ([^<]*)</span>', dom)
     # A tenth of a point is exact enough, and a line for each group has less of a change to a line.
-    inner = re.sub(r"\d+\.\d+", lambda number: re.sub(r"\.0$", "", f"{float(number[0]):.1f}"), shape[2])
+    inner = re.sub(r"\d+\.\d+", lambda number: re.sub(r"\.0$", "", f"{float(number[0]):.1f}"), inner)
     line = f"{':'.join(re.findall('[0-9]+', place)[:2])} {command} → {reply}" if frame else place
-    return line, inner.replace("</g><g", "</g>\n<g"), round(float(shape[1]))
+    return line, inner.replace("</g><g", "</g>\n<g"), round(float(height))
 
 
-def picture(title, script, text, frame, words):
+def picture(title: str, script: str, text: str | None, frame: int, words: str) -> str:
     """The picture, which has in it by which words it is drawn again."""
     line, inner, height = drawn(title, script, text, frame)
     line = html.escape(f"{title}, {line}")
