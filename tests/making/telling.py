@@ -1,4 +1,4 @@
-"""Prints what failed, and what a script leaves out."""
+"""Makes checks, and prints what failed and what a script leaves out."""
 import shutil
 
 
@@ -10,6 +10,21 @@ def indented(text):
 def not_run(what, why):
     """Says that the script leaves something out, and why."""
     print(f"not run: {what}: {why}", flush=True)
+
+
+def count_checks(checks, *wrong):
+    """Makes checks, each given as its name, a function and what that gets. One fails if it raises an exception of these types, and is printed.
+    Prints how many passed and failed, and returns the script's status."""
+    passed = failed = 0
+    for name, check, *given in checks:
+        try:
+            check(*given)
+            passed += 1
+        except wrong as why:
+            print(f"{name}: {indented(why)}", flush=True)
+            failed += 1
+    print(f"{passed} passed, {failed} failed")
+    return 1 if failed else 0
 
 
 def has(tool, of, what):
