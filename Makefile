@@ -79,7 +79,7 @@ gate-times:
 	$(NEEDS_RT)
 	@.ci/run && .ci/times put build/gate-times.md docs/GATE.md
 
-# Runs all of tests/cases, or those that CASES names. They run on the proved program; trying a new case takes seconds.
+# Proves strm, and runs tests/cases, or those that CASES names. Once it is proved, trying a new case takes seconds.
 cases: $(BUILT)
 	@tests/run_cases $(BUILT) $(CASES)
 
