@@ -229,10 +229,16 @@ build/libstrm.a: $(PROVED) c/strm.c c/strm_c.h c/strm.h tools/unwind_tables
 	cd build && for object in strm_c.o heap.pic.o; do $(OBJCOPY) $(foreach name,$(HEAP),--redefine-sym $(name)=strm_$(name)) $$object || exit; done
 	cd build && $(AR) rD libstrm.a strm_c.o strm.o heap.pic.o
 
-# The shared library has the same parts, and exports the names of c/libstrm.map alone.
-build/libstrm.so: build/libstrm.a c/libstrm.map
-	cd build && $(CC) -shared -Wl,-soname,$(SONAME),--version-script,../c/libstrm.map,-z,defs,-z,relro,-z,now -Wl,--whole-archive libstrm.a \
+# The shared library has the same parts, and exports the calls of strm.h alone.
+build/libstrm.so: build/libstrm.a tools/c_symbols
+	tools/c_symbols >build/libstrm.map
+	cd build && $(CC) -shared -Wl,-soname,$(SONAME),--version-script,libstrm.map,-z,defs,-z,relro,-z,now -Wl,--whole-archive libstrm.a \
 		-Wl,--no-whole-archive -o libstrm.so
+
+# What the Debian package says of it.
+build/libstrm.symbols: c/strm.h tools/c_symbols
+	@mkdir -p build
+	@tools/c_symbols --debian $(SONAME) >build/libstrm.symbols
 
 # Fills in a form of a file that says where the library is, as strm.pc.
 FORM = sed 's:@PREFIX@:$(PC_PREFIX):; s/@VERSION@/$(VERSION)/'
