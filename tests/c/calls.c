@@ -1,9 +1,17 @@
 #include "calls.h"
 
+#include <ctype.h>
 #include <string.h>
 
-#define FORM(verb, word, names, weight, answers) { word, names },
-const struct form forms[VERBS] = { CALLS(FORM) };
+#define CALL_FORM(verb, call, letters, arguments, weight, answers) { #verb, #call, letters, #arguments, 0, weight, answers },
+#define LOOK_FORM(verb, call, letters, arguments, weight, answers) { #verb, #call, letters, #arguments, 1, weight, answers },
+const struct form forms[VERBS] = { CALLS(CALL_FORM, LOOK_FORM) };
+
+#define WORD(kind, word, numbers) word,
+static const char *const words[KINDS_OF_REPLY] = { KINDS(WORD) };
+
+#define NUMBERS(kind, word, numbers) numbers,
+const int numbers_of[KINDS_OF_REPLY] = { KINDS(NUMBERS) };
 
 static const char *const types[STRM_TYPES] = {
 	"M_DATA", "M_PROTO", "M_BREAK", "M_PASSFP", "M_SIG", "M_DELAY", "M_CTL", "M_IOCTL", "M_SETOPTS", "M_IOCACK", "M_IOCNAK",
@@ -45,21 +53,52 @@ int same_reply(const struct reply *a, const struct reply *b)
 		&& memcmp(a->octets, b->octets, sizeof a->octets) == 0;
 }
 
-void put_block(struct reply *reply, int at, const struct strm_block_info *info)
+struct reply told_from(enum kind kind, const void *numbers)
 {
-	reply->numbers[at] = info->type;
-	reply->numbers[at + 1] = info->length;
-	reply->numbers[at + 2] = info->band;
-	reply->numbers[at + 3] = info->room;
-	reply->numbers[at + 4] = info->names;
+	struct reply reply = reply_of(kind);
+
+	memcpy(reply.numbers, numbers, (size_t)numbers_of[kind] * sizeof reply.numbers[0]);
+	return reply;
 }
 
-struct reply told_block(const struct strm_block_info *info)
+int names(int verb, const char *letters)
 {
-	struct reply reply = reply_of(TOLD_BLOCK);
+	return strpbrk(forms[verb].letters, letters) != NULL;
+}
 
-	put_block(&reply, 0, info);
-	return reply;
+int has_argument(int verb, const char *text)
+{
+	return strstr(forms[verb].arguments, text) != NULL;
+}
+
+void store_in(struct arguments *a, struct results *results)
+{
+	memset(results, UNTOUCHED, sizeof *results);
+	a->y = &results->y;
+	a->rest = &results->rest;
+	a->msgs = results->msgs;
+	a->out = &results->out;
+	a->done = &results->done;
+}
+
+/* Each row makes its call, or none. */
+#define MADE(verb, call, letters, arguments, weight, answers) case verb: return strm_##call arguments;
+#define NOT_MADE(verb, call, letters, arguments, weight, answers)
+
+int look_made(const struct call *c, const struct strm_pool *pool, const struct arguments *a)
+{
+	switch (c->verb) {
+	CALLS(NOT_MADE, MADE)
+	default: return STRM_BAD_ARGUMENT;
+	}
+}
+
+int call_made(const struct call *c, struct strm_pool *pool, struct strm_pool *other, const struct arguments *a)
+{
+	switch (c->verb) {
+	CALLS(MADE, NOT_MADE)
+	default: return look_made(c, pool, a);
+	}
 }
 
 void print_header(FILE *to, const struct strm_config *config)
@@ -102,49 +141,45 @@ static void print_many(FILE *to, const struct call *call)
 
 void print_call(FILE *to, const struct call *call)
 {
-	const char *name;
+	const char *at;
 
-	fprintf(to, "%s", forms[call->verb].word);
-	for (name = forms[call->verb].names; *name != 0; name++)
-		switch (*name) {
-		case 'x': fprintf(to, " %c", 'a' + call->x); break;
-		case 'y': fprintf(to, " %c", 'a' + call->y); break;
-		case 'z': fprintf(to, " %c", 'a' + call->z); break;
-		case 'w': fprintf(to, " %c", 'a' + call->y); break;
+	for (at = forms[call->verb].verb; *at != 0; at++)
+		fputc(tolower(*at), to);
+	for (at = forms[call->verb].letters; *at != 0; at++)
+		switch (*at) {
+		case 'x': case 'X': case 'v': fprintf(to, " %c", 'a' + call->x); break;
+		case 'y': case 'w': fprintf(to, " %c", 'a' + call->y); break;
+		case 'Z': fprintf(to, " %c", 'a' + call->z); break;
 		case 'g': case 'p': print_many(to, call); break;
 		case 'i': fprintf(to, " %lu", (unsigned long)call->items); break;
 		case 'q': fprintf(to, " %lu", (unsigned long)call->queue); break;
 		case 'k': fprintf(to, " %lu", (unsigned long)call->place); break;
 		case 'b': fprintf(to, " %lu", (unsigned long)call->band); break;
-		case 'n': fprintf(to, " %lu", (unsigned long)call->number); break;
 		case 's': fprintf(to, " %ld", (long)call->count); break;
 		case 't': fprintf(to, " %s", types[call->type]); break;
 		case 'f': fprintf(to, " %s", call->flush == STRM_FLUSHALL ? "all" : "data"); break;
 		case 'h': fprintf(to, " %lu", (unsigned long)call->hiwat); break;
 		case 'l': fprintf(to, " %lu", (unsigned long)call->lowat); break;
-		default: print_octets(to, call->octets, call->length); break;
+		case 'o': print_octets(to, call->octets, call->length); break;
+		default: fprintf(to, " %lu", (unsigned long)call->number); break;
 		}
 	fprintf(to, "\n");
 }
 
 void print_reply(FILE *to, const struct reply *reply)
 {
-	static const char *const words[] = {
-		"ok", "yes", "no", "none", "empty", "taken", "size", "bytes", "block", "id", "ready", "queue", "marks", "census", "blocks",
-		"name", "iov", "place", "queued", "head", "spec", "count", "refused"
-	};
-	static const int counts[] = { 0, 0, 0, 0, 0, 0, 1, 0, 0, 1, 2, 1, 2, 3, 1, 1, 1, 4, 5, 1, 4, 1, 1 };
 	int i;
 
 	fprintf(to, "%s", words[reply->kind]);
-	for (i = 0; i < counts[reply->kind]; i++)
-		fprintf(to, " %lu", (unsigned long)reply->numbers[i]);
+	if (reply->kind == TOLD_BLOCK)
+		fprintf(to, " %s len=%lu band=%lu room=%lu names=%lu", types[reply->numbers[0]], (unsigned long)reply->numbers[1],
+			(unsigned long)reply->numbers[2], (unsigned long)reply->numbers[3], (unsigned long)reply->numbers[4]);
+	else
+		for (i = 0; i < numbers_of[reply->kind]; i++)
+			fprintf(to, " %lu", (unsigned long)reply->numbers[i]);
 	if (reply->kind == REFUSED)
 		fprintf(to, " %s", refusals[reply->numbers[0]]);
 	if (reply->kind == TOLD_BYTES)
 		print_octets(to, reply->octets, reply->numbers[0]);
-	if (reply->kind == TOLD_BLOCK)
-		fprintf(to, " %s len=%lu band=%lu room=%lu names=%lu", types[reply->numbers[0]], (unsigned long)reply->numbers[1],
-			(unsigned long)reply->numbers[2], (unsigned long)reply->numbers[3], (unsigned long)reply->numbers[4]);
 	fprintf(to, "\n");
 }

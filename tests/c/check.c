@@ -42,6 +42,100 @@ int same_name(struct strm_msg a, struct strm_msg b)
 	return a.pool == b.pool && a.head == b.head && a.stamp == b.stamp;
 }
 
+void open_scene(struct scene *scene, struct strm_pool *pool, struct strm_pool *other, uint32_t id)
+{
+	static const struct strm_class_spec classes[] = { { 16, 12 }, { 64, 4 } };
+	static const struct strm_queue_spec queues[] = { { 10, 4, 1, 1 }, { 10, 4, 1, STRM_NO_QUEUE } };
+	static const struct strm_pool closed = STRM_POOL_INIT;
+	struct strm_config config = { 0, MBLKS, NULL, 2, NULL, 2, 4, 1 };
+	struct strm_msg empty;
+	uint32_t yes;
+
+	config.id = id;
+	config.classes = classes;
+	config.queues = queues;
+	scene->pool = pool;
+	scene->other = other;
+	*pool = *other = closed;
+	ANSWERS(strm_open(pool, &config), STRM_OK);
+	config.id++;
+	ANSWERS(strm_open(other, &config), STRM_OK);
+	ANSWERS(strm_allocb(pool, 16, &scene->x), STRM_OK);
+	ANSWERS(strm_reserve(pool, scene->x, 0, 4), STRM_OK);
+	ANSWERS(strm_write(pool, scene->x, 0, "held", 4), STRM_OK);
+	ANSWERS(strm_allocb(pool, 16, &empty), STRM_OK);
+	ANSWERS(strm_linkb(pool, scene->x, empty), STRM_OK);
+	ANSWERS(strm_linkb(pool, scene->x, message(pool, "too")), STRM_OK);
+	scene->z = message(pool, "tail");
+	scene->queued = message(pool, "one");
+	ANSWERS(strm_putq(pool, 0, scene->queued), STRM_OK);
+	ANSWERS(strm_putq(pool, 0, message(pool, "two")), STRM_OK);
+	ANSWERS(strm_putq(pool, 1, message(pool, "0123456789")), STRM_OK);
+	ANSWERS(strm_bcanput(pool, 1, 0, &yes), STRM_OK);
+	ANSWERS(strm_bufcall(pool, 16, &scene->wish), STRM_OK);
+	ANSWERS(strm_bufcall(pool, 16, &scene->wish), STRM_OK);
+}
+
+void close_scene(struct scene *scene)
+{
+	ANSWERS(strm_close(scene->pool), STRM_OK);
+	ANSWERS(strm_close(scene->other), STRM_OK);
+}
+
+void set_call(struct scene *scene, int verb)
+{
+	memset(&scene->call, 0, sizeof scene->call);
+	scene->call.verb = (enum verb)verb;
+	scene->call.place = 1;
+	scene->call.band = 1;
+	scene->call.number = names(verb, "d") ? scene->wish : names(verb, "m") ? scene->x.head : names(verb, "e") ? scene->queued.head : 1;
+	scene->call.type = STRM_M_PROTO;
+	scene->call.flush = STRM_FLUSHDATA;
+	scene->call.hiwat = 2;
+	scene->call.lowat = 1;
+	scene->call.count = 6;
+	store_in(&scene->a, &scene->results);
+	scene->a.x = scene->x;
+	scene->a.z = scene->z;
+	scene->a.octets = "ab";
+	scene->a.length = 2;
+	if (names(verb, "g")) {
+		scene->results.msgs[0] = scene->x;
+		scene->results.msgs[1] = scene->z;
+	}
+	memcpy(&scene->before, &scene->results, sizeof scene->before);
+}
+
+int spoil_call(struct scene *scene)
+{
+	int verb = scene->call.verb;
+
+	scene->a.x.stamp++;
+	scene->a.z.stamp++;
+	scene->call.queue = scene->call.place = 99;
+	if (names(verb, "dme"))
+		scene->call.number = 99;
+	if (names(verb, "g"))
+		scene->results.msgs[0] = scene->before.msgs[0] = scene->a.x;
+	return names(verb, "xXZgqkdme");
+}
+
+int make_call(struct scene *scene)
+{
+	return call_made(&scene->call, scene->pool, scene->other, &scene->a);
+}
+
+void refuse_call(struct scene *scene, int code, const char *how)
+{
+	const struct form *form = &forms[scene->call.verb];
+	char what[200];
+
+	sprintf(what, "strm_%s%s == %d, %s", form->call, form->arguments, code, how);
+	check(make_call(scene) == code, __FILE__, __LINE__, what);
+	sprintf(what, "strm_%s stored nothing, %s", form->call, how);
+	check(memcmp(&scene->results, &scene->before, sizeof scene->results) == 0, __FILE__, __LINE__, what);
+}
+
 int summary(void)
 {
 	printf("%lu passed, %lu failed\n", passed, failed);

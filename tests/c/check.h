@@ -1,10 +1,9 @@
-/* Counted checks, for tests that go on after a failed one. */
+/* Counted checks, for tests that go on after a failed one, and a scene in which each call of calls.h is done. */
 #ifndef CHECK_H
 #define CHECK_H
 
-#include "strm.h"
+#include "calls.h"
 
-#include <stdio.h>
 #include <string.h>
 
 /* Counts a check, and prints one that fails. */
@@ -27,6 +26,37 @@ struct strm_msg message(struct strm_pool *pool, const char *bytes);
 
 /* Whether two names are the same; strm_same_msg is tested itself. */
 int same_name(struct strm_msg a, struct strm_msg b);
+
+/*
+ * Two pools, of which the first has 16 message blocks, two classes, two wishes and two queues. Queue 0 has two messages, and its next is queue
+ * 1, whose band 0 is full and wanted. Both are enabled. Message x is held, with the blocks `held`, without bytes, and `too`, and so is z. The call is one of
+ * them, with what it needs.
+ */
+#define MBLKS 16
+
+struct scene {
+	struct strm_pool *pool, *other;
+	struct strm_msg x, z, queued;
+	uint32_t wish;
+	struct call call;
+	struct arguments a;
+	struct results results, before;
+};
+
+void open_scene(struct scene *scene, struct strm_pool *pool, struct strm_pool *other, uint32_t id);
+void close_scene(struct scene *scene);
+
+/* Puts a call into the scene. */
+void set_call(struct scene *scene, int verb);
+
+/* Has it name what is not there: other messages, queues, places and blocks. Returns 0 if it names none of them. */
+int spoil_call(struct scene *scene);
+
+/* Makes the call, and returns its code. */
+int make_call(struct scene *scene);
+
+/* Makes the call, which returns this code and stores nothing. `how` says what is wrong with it. */
+void refuse_call(struct scene *scene, int code, const char *how);
 
 /* Prints 'N passed, M failed', and returns the exit status. */
 int summary(void);

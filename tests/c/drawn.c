@@ -21,12 +21,6 @@
 /* Each answer of a row of CALLS must come within this number of calls. */
 #define CALLS_TO_EACH_ANSWER 1000000
 
-#define DRAWN(verb, word, names, weight, answers) { weight, answers },
-static const struct {
-	unsigned weight;
-	uint64_t answers;
-} drawn[VERBS] = { CALLS(DRAWN) };
-
 static const uint32_t drawn_bands[] = { 0, 0, 0, 1, 2, 7, 255 };
 #define DRAWN_BANDS (sizeof drawn_bands / sizeof drawn_bands[0])
 
@@ -124,10 +118,10 @@ static enum verb drawn_verb(int verbs)
 	int verb;
 
 	for (verb = 0; verb < verbs; verb++)
-		all += drawn[verb].weight;
+		all += forms[verb].weight;
 	at = below(all);
-	for (verb = 0; at >= drawn[verb].weight; verb++)
-		at -= drawn[verb].weight;
+	for (verb = 0; at >= forms[verb].weight; verb++)
+		at -= forms[verb].weight;
 	return (enum verb)verb;
 }
 
@@ -140,12 +134,12 @@ static struct call drawn_call(const struct model *model, const struct model *oth
 	memset(&call, 0, sizeof call);
 	call.verb = drawn_verb(verbs);
 	call.x = drawn_register(model, 1);
-	call.y = drawn_register(strchr(forms[call.verb].names, 'w') != NULL ? other : model, 0);
+	call.y = drawn_register(names(call.verb, "w") ? other : model, 0);
 	call.z = drawn_register(model, 1);
 	call.queue = below(20) == 0 ? below(256) : below((uint32_t)setup->config.queue_count);
 	call.place = below(below(4) > 0 ? 3 : 30);
 	call.band = drawn_band(setup);
-	call.number = call.verb == UNBUFCALL ? setup->config.first_id + below(20) : below(44);
+	call.number = names(call.verb, "d") ? setup->config.first_id + below(20) : below(44);
 	call.type = below(2) == 0 ? (uint32_t)STRM_M_DATA : below(STRM_TYPES);
 	call.flush = below(2);
 	call.hiwat = 1 + below(30);
@@ -153,11 +147,11 @@ static struct call drawn_call(const struct model *model, const struct model *oth
 	call.count = below(3) == 0 ? -1 : (int32_t)below(24) - 8;
 	call.length = below(4) == 0 ? below(MOST_OCTETS + 1) : below(10);
 	call.items = below(MOST_ITEMS + 1);
-	if (strpbrk(forms[call.verb].names, "gp") != NULL)
-		draw_many(model, &call, strchr(forms[call.verb].names, 'g') != NULL);
-	if ((call.verb == RESERVE || call.verb == ADVANCE) && below(4) > 0)
+	if (names(call.verb, "gp"))
+		draw_many(model, &call, names(call.verb, "g"));
+	if (names(call.verb, "r") && below(4) > 0)
 		call.number = below(8);
-	if (strchr(forms[call.verb].names, 'o') != NULL)
+	if (names(call.verb, "o"))
 		for (i = 0; i < call.length; i++)
 			call.octets[i] = (uint8_t)below(256);
 	return call;
@@ -313,8 +307,8 @@ static int had_each_answer(void)
 	int verb, lacking = 0;
 
 	for (verb = 0; verb < VERBS; verb++)
-		if ((drawn[verb].answers & ~had[verb]) != 0) {
-			printf("%s has not had each of its answers\n", forms[verb].word);
+		if ((forms[verb].answers & ~had[verb]) != 0) {
+			printf("%s has not had each of its answers\n", forms[verb].call);
 			lacking++;
 		}
 	return lacking == 0;
@@ -333,9 +327,8 @@ struct side {
 static int same_answer(struct side *side, struct side *other, const struct call *call, const struct reply *wanted)
 {
 	struct reply found, empty = reply_of(EMPTY);
-	const char *names = forms[call->verb].names;
-	int names_empty = (strchr(names, 'x') != NULL && !side->face.holds[call->x])
-		|| (strchr(names, 'g') != NULL && call->items > 0 && !side->face.holds[call->many[0]]);
+	int names_empty = (names(call->verb, "xX") && !side->face.holds[call->x])
+		|| (names(call->verb, "g") && call->items > 0 && !side->face.holds[call->many[0]]);
 
 	found = face_apply(&side->face, &other->face, call);
 	note_answer(call, &found);
@@ -386,7 +379,7 @@ static int does(struct side *side, struct side *other, const struct call *call, 
 		return 1;
 	if (!same_answer(side, other, call, &wanted))
 		return tell(call, number, "another answer");
-	return same_side(side, call, number) && (strchr(forms[call->verb].names, 'w') == NULL || same_side(other, call, number));
+	return same_side(side, call, number) && (!names(call->verb, "w") || same_side(other, call, number));
 }
 
 /* Takes each message off each queue into register a, which compares their order and content, and frees it. What the register held is

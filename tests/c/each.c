@@ -570,107 +570,56 @@ static void test_writev(void)
 	ANSWERS(strm_close(&pool), STRM_OK);
 }
 
-/* What strm_bytes and strm_iov gave of a message with the blocks `lion` and `wolf`. */
+/* What strm_bytes and strm_iov gave of message x of a scene. */
 struct lent {
 	const uint8_t *bytes;
-	struct strm_iov iov[2];
+	struct strm_iov iov[3];
 };
 
 /* Whether the bytes are still where they were. */
-static int is_still(struct strm_pool *pool, struct strm_msg msg, const struct lent *lent)
+static int is_still(struct scene *scene, const struct lent *lent)
 {
 	const uint8_t *bytes;
 	size_t length;
 
-	return memcmp(lent->bytes, "lion", 4) == 0 && memcmp(lent->iov[0].base, "lion", 4) == 0 && memcmp(lent->iov[1].base, "wolf", 4) == 0
-		&& strm_bytes(pool, msg, 0, &bytes, &length) == STRM_OK && bytes == lent->bytes && length == 4;
+	return memcmp(lent->bytes, "held", 4) == 0 && memcmp(lent->iov[0].base, "held", 4) == 0 && memcmp(lent->iov[2].base, "too", 3) == 0
+		&& strm_bytes(scene->pool, scene->x, 0, &bytes, &length) == STRM_OK && bytes == lent->bytes && length == 4;
 }
 
 /* A look leaves pointers good, whatever it returns. */
-#define LOOKS(call, code) CHECK((call) == (code) && is_still(pool, msg, lent))
-
-/* Makes each look on messages, at a message of two blocks. */
-static void look_at_messages(struct strm_pool *pool, struct strm_msg msg, const struct lent *lent)
+static void look(struct scene *scene, const struct lent *lent)
 {
-	struct strm_block_info blocks[2];
-	struct strm_block_place where;
-	struct strm_iov iov[2];
-	struct strm_msg name, none = STRM_NO_MSG;
-	const uint8_t *bytes;
-	uint32_t number;
-	size_t count;
-	char room[8];
+	int verb, fails;
 
-	LOOKS(strm_testb(pool, 64, &number), STRM_OK);
-	LOOKS(strm_read(pool, msg, 0, room, sizeof room, &count), STRM_OK);
-	LOOKS(strm_read(pool, none, 0, room, sizeof room, &count), STRM_INVALID);
-	LOOKS(strm_size(pool, msg, &number), STRM_OK);
-	LOOKS(strm_msgdsize(pool, msg, &number), STRM_OK);
-	LOOKS(strm_block(pool, msg, 1, &blocks[0]), STRM_OK);
-	LOOKS(strm_block(pool, msg, 2, &blocks[0]), STRM_NO_SUCH_BLOCK);
-	LOOKS(strm_blocks(pool, msg, 0, blocks, 2, &count), STRM_OK);
-	LOOKS(strm_bytes(pool, msg, 1, &bytes, &count), STRM_OK);
-	LOOKS(strm_iov(pool, msg, 0, iov, 2, &count), STRM_OK);
-	LOOKS(strm_place(pool, msg, 1, &where), STRM_OK);
-	LOOKS(strm_has(pool, none, &number), STRM_OK);
-	LOOKS(strm_name_at(pool, msg.head, &name), STRM_OK);
-}
-
-/* Makes each other look. Queue 2 has one message, and there is one wish. */
-static void look_at_the_rest(struct strm_pool *pool, struct strm_msg msg, const struct lent *lent)
-{
-	struct strm_queued queued;
-	struct strm_queue_spec spec;
-	struct strm_marks marks;
-	struct strm_wish wish;
-	struct strm_census census;
-	struct strm_class_info info;
-	struct strm_queue_info queue;
-	struct strm_band_info band;
-	uint32_t head, number;
-	size_t count;
-	char room[8];
-
-	LOOKS(strm_qsize(pool, 2, &number), STRM_OK);
-	LOOKS(strm_queued_at(pool, 2, 0, &queued), STRM_OK);
-	LOOKS(strm_read_queued(pool, 2, 0, 0, room, sizeof room, &count), STRM_OK);
-	LOOKS(strm_first_queued(pool, 2, &head), STRM_OK);
-	LOOKS(strm_first_queued(pool, 1, &number), STRM_NONE);
-	LOOKS(strm_queued_after(pool, head, &number), STRM_NONE);
-	LOOKS(strm_queue_spec(pool, 2, &spec), STRM_OK);
-	LOOKS(strm_strqget(pool, 2, 1, &marks), STRM_OK);
-	LOOKS(strm_run_at(pool, 0, &number), STRM_OK);
-	LOOKS(strm_wish_at(pool, 0, &wish), STRM_OK);
-	LOOKS(strm_census(pool, &census), STRM_OK);
-	LOOKS(strm_class_info(pool, 0, &info), STRM_OK);
-	LOOKS(strm_queue_info(pool, 2, &queue), STRM_OK);
-	LOOKS(strm_band_info(pool, 2, 1, &band), STRM_OK);
-	LOOKS(strm_is_open(pool), 1);
+	for (verb = 0; verb < VERBS; verb++)
+		if (forms[verb].is_look) {
+			set_call(scene, verb);
+			CHECK(make_call(scene) == STRM_OK && is_still(scene, lent));
+			fails = spoil_call(scene);
+			CHECK((make_call(scene) != STRM_OK) == fails && is_still(scene, lent));
+		}
+	CHECK(strm_is_open(scene->pool) && is_still(scene, lent));
 }
 
 /* Pointers into a pool are good over looks, and after its handle was moved. */
 static void test_pointers(void)
 {
-	struct strm_pool pool = opened(6), moved;
-	struct strm_msg msg = message(&pool, "lion");
+	struct scene scene;
+	struct strm_pool pool, other, moved;
 	struct lent lent;
-	uint32_t id;
 	size_t count;
 
-	ANSWERS(strm_linkb(&pool, msg, message(&pool, "wolf")), STRM_OK);
-	ANSWERS(strm_putq(&pool, 2, message(&pool, "hare")), STRM_OK);
-	ANSWERS(strm_bufcall(&pool, 16, &id), STRM_OK);
-	ANSWERS(strm_bytes(&pool, msg, 0, &lent.bytes, &count), STRM_OK);
-	ANSWERS(strm_iov(&pool, msg, 0, lent.iov, 2, &count), STRM_OK);
-	CHECK(count == 2 && is_still(&pool, msg, &lent));
-	look_at_messages(&pool, msg, &lent);
-	look_at_the_rest(&pool, msg, &lent);
+	open_scene(&scene, &pool, &other, 7);
+	ANSWERS(strm_bytes(&pool, scene.x, 0, &lent.bytes, &count), STRM_OK);
+	ANSWERS(strm_iov(&pool, scene.x, 0, lent.iov, 3, &count), STRM_OK);
+	CHECK(count == 3 && is_still(&scene, &lent));
+	look(&scene, &lent);
 	moved = pool;
 	memset(&pool, 0xA5, sizeof pool);
-	CHECK(is_still(&moved, msg, &lent));
-	look_at_messages(&moved, msg, &lent);
-	look_at_the_rest(&moved, msg, &lent);
-	ANSWERS(strm_close(&moved), STRM_OK);
+	scene.pool = &moved;
+	CHECK(is_still(&scene, &lent));
+	look(&scene, &lent);
+	close_scene(&scene);
 }
 
 static void test_place(void)

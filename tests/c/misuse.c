@@ -4,26 +4,6 @@
  */
 #include "check.h"
 
-static const struct strm_class_spec classes[] = { { 16, 8 } };
-static const struct strm_queue_spec queues[] = { { 10, 4, 1, 1 }, { 10, 4, 1, STRM_NO_QUEUE } };
-
-static struct strm_pool opened(uint32_t id)
-{
-	struct strm_pool pool = STRM_POOL_INIT;
-	struct strm_config config;
-
-	config.id = id;
-	config.mblks = 8;
-	config.classes = classes;
-	config.class_count = 1;
-	config.queues = queues;
-	config.queue_count = 2;
-	config.bufcalls = 2;
-	config.first_id = 1;
-	ANSWERS(strm_open(&pool, &config), STRM_OK);
-	return pool;
-}
-
 /* ---- all that a pool reports */
 
 #define MOST_SEEN 4096
@@ -40,25 +20,21 @@ static void see(struct seen *seen, const void *from, size_t size)
 	seen->count += size / 4;
 }
 
-/* Reads what the pool reports of everything but messages, and of the messages with these names. */
-static void look(struct strm_pool *pool, const struct strm_msg *names, size_t count, struct seen *seen)
+/* Reads what a pool reports of everything but messages. */
+static void see_pool(struct strm_pool *pool, struct seen *seen)
 {
 	struct strm_census census;
 	struct strm_class_info info;
 	struct strm_queue_info queue;
 	struct strm_band_info band;
-	struct strm_block_info block;
-	struct strm_block_place where;
 	struct strm_queue_spec spec;
 	struct strm_queued queued;
 	struct strm_wish wish;
 	uint32_t q, i;
-	size_t n;
 
-	memset(seen, 0, sizeof *seen);
 	if (strm_census(pool, &census) == STRM_OK)
 		see(seen, &census, sizeof census);
-	if (strm_class_info(pool, 0, &info) == STRM_OK)
+	for (i = 0; i < STRM_MOST_CLASSES && strm_class_info(pool, i, &info) == STRM_OK; i++)
 		see(seen, &info, sizeof info);
 	for (q = 0; q < STRM_MOST_QUEUES && strm_queue_info(pool, q, &queue) == STRM_OK; q++) {
 		see(seen, &queue, sizeof queue);
@@ -73,335 +49,292 @@ static void look(struct strm_pool *pool, const struct strm_msg *names, size_t co
 		see(seen, &q, sizeof q);
 	for (i = 0; i < STRM_MOST_WISHES && strm_wish_at(pool, i, &wish) == STRM_OK; i++)
 		see(seen, &wish, sizeof wish);
-	for (n = 0; n < count; n++)
-		for (i = 0; i < STRM_MOST_MBLKS && strm_block(pool, names[n], i, &block) == STRM_OK; i++) {
-			see(seen, &block, sizeof block);
-			if (strm_place(pool, names[n], i, &where) == STRM_OK)
-				see(seen, &where, sizeof where);
-		}
+}
+
+static void see_message(struct strm_pool *pool, struct strm_msg msg, struct seen *seen)
+{
+	struct strm_block_info block;
+	struct strm_block_place where;
+	uint32_t i;
+
+	for (i = 0; i < MBLKS && strm_block(pool, msg, i, &block) == STRM_OK; i++) {
+		see(seen, &block, sizeof block);
+		if (strm_place(pool, msg, i, &where) == STRM_OK)
+			see(seen, &where, sizeof where);
+	}
+}
+
+/* Reads what the pools of a scene report, and of its messages. */
+static void look(const struct scene *scene, struct seen *seen)
+{
+	memset(seen, 0, sizeof *seen);
+	see_pool(scene->pool, seen);
+	see_pool(scene->other, seen);
+	see_message(scene->pool, scene->x, seen);
+	see_message(scene->pool, scene->z, seen);
+	CHECK(seen->count <= MOST_SEEN);
+}
+
+/* Nothing has changed since then. */
+static void check_same(const struct scene *scene, const struct seen *before)
+{
+	struct seen after;
+
+	look(scene, &after);
+	CHECK(memcmp(before, &after, sizeof after) == 0);
+	CHECK(has_bytes(scene->pool, scene->x, "heldtoo"));
 }
 
 /* ---- a name that is not valid, in each call that takes one */
 
-/* A pool with a held message and one on a queue. Misuse must change nothing in it. */
-struct scene {
-	struct strm_pool pool;
-	struct strm_msg held;
-};
+/* The letters of names that a call takes, and where it takes them. */
+static const char *const sources[] = { "xX", "Z", "g" };
 
-static struct scene scene_of(uint32_t id)
+static void try_name_in(struct scene *scene, int verb, int source, struct strm_msg bad)
 {
-	struct scene scene;
-	uint32_t wish, yes;
+	struct strm_msg *places[3];
 
-	scene.pool = opened(id);
-	scene.held = message(&scene.pool, "held");
-	ANSWERS(strm_putq(&scene.pool, 1, message(&scene.pool, "0123456789")), STRM_OK);
-	ANSWERS(strm_bcanput(&scene.pool, 1, 0, &yes), STRM_OK);
-	ANSWERS(strm_bufcall(&scene.pool, 16, &wish), STRM_OK);
-	return scene;
+	set_call(scene, verb);
+	places[0] = &scene->a.x;
+	places[1] = &scene->a.z;
+	places[2] = &scene->results.msgs[0];
+	*places[source] = bad;
+	memcpy(&scene->before, &scene->results, sizeof scene->before);
+	refuse_call(scene, STRM_INVALID, "with a name that is not valid");
+	scene->call.queue = 99;
+	refuse_call(scene, STRM_INVALID, "since a name comes before a missing queue");
+	if (names(verb, "g"))
+		return;
+	scene->a.length = 0;
+	scene->a.octets = scene->a.out = NULL;
+	if (has_argument(verb, "->length"))
+		refuse_call(scene, STRM_INVALID, "also for a length of 0");
 }
 
 static void try_name(struct scene *scene, struct strm_msg bad)
 {
-	struct strm_pool *pool = &scene->pool, other = opened(6);
-	struct strm_msg out, rest, untouched;
-	struct strm_block_info block;
-	struct strm_block_place where;
-	struct strm_iov iov;
-	struct seen before, after;
-	const uint8_t *bytes = NULL;
-	uint32_t number = 77;
-	size_t count = 77;
-	char room[4];
+	struct seen before;
+	uint32_t yes = 77;
+	int verb, source;
 
-	memset(&untouched, 0xA5, sizeof untouched);
-	out = rest = untouched;
-	look(pool, &scene->held, 1, &before);
-	CHECK(before.count <= MOST_SEEN);
-	ANSWERS(strm_has(pool, bad, &number), STRM_OK);
-	CHECK(number == 0);
-	number = 77;
-	ANSWERS(strm_dupb(pool, bad, &out), STRM_INVALID);
-	ANSWERS(strm_dupmsg(pool, bad, &out), STRM_INVALID);
-	ANSWERS(strm_copyb(pool, bad, &out), STRM_INVALID);
-	ANSWERS(strm_copymsg(pool, bad, &out), STRM_INVALID);
-	ANSWERS(strm_freeb(pool, bad, &out), STRM_INVALID);
-	ANSWERS(strm_freemsg(pool, bad), STRM_INVALID);
-	ANSWERS(strm_write(pool, bad, 0, "x", 1), STRM_INVALID);
-	ANSWERS(strm_read(pool, bad, 0, room, sizeof room, &count), STRM_INVALID);
-	ANSWERS(strm_settype(pool, bad, 0, STRM_M_CTL), STRM_INVALID);
-	ANSWERS(strm_setband(pool, bad, 1), STRM_INVALID);
-	ANSWERS(strm_size(pool, bad, &number), STRM_INVALID);
-	ANSWERS(strm_msgdsize(pool, bad, &number), STRM_INVALID);
-	ANSWERS(strm_block(pool, bad, 0, &block), STRM_INVALID);
-	ANSWERS(strm_blocks(pool, bad, 0, &block, 1, &count), STRM_INVALID);
-	ANSWERS(strm_blocks(pool, bad, 0, NULL, 0, &count), STRM_INVALID);
-	ANSWERS(strm_bytes(pool, bad, 0, &bytes, &count), STRM_INVALID);
-	ANSWERS(strm_iov(pool, bad, 0, &iov, 1, &count), STRM_INVALID);
-	ANSWERS(strm_iov(pool, bad, 0, NULL, 0, &count), STRM_INVALID);
-	ANSWERS(strm_place(pool, bad, 0, &where), STRM_INVALID);
-	ANSWERS(strm_overwrite(pool, bad, 0, "x", 1), STRM_INVALID);
-	ANSWERS(strm_overwrite(pool, bad, 0, NULL, 0), STRM_INVALID);
-	ANSWERS(strm_reserve(pool, bad, 0, 1), STRM_INVALID);
-	ANSWERS(strm_prepend(pool, bad, "x", 1), STRM_INVALID);
-	ANSWERS(strm_advance(pool, bad, 0, 1), STRM_INVALID);
-	ANSWERS(strm_transfer(pool, &other, bad, &out), STRM_INVALID);
-	ANSWERS(strm_freemsg_n(pool, &bad, 1, &count), STRM_INVALID);
-	ANSWERS(strm_putq_n(pool, 0, &bad, 1, &count), STRM_INVALID);
-	ANSWERS(strm_linkb(pool, bad, scene->held), STRM_INVALID);
-	ANSWERS(strm_linkb(pool, scene->held, bad), STRM_INVALID);
-	ANSWERS(strm_linkb(pool, bad, bad), STRM_INVALID);
-	ANSWERS(strm_unlinkb(pool, bad, &out), STRM_INVALID);
-	ANSWERS(strm_rmvb(pool, bad, 0, &out, &rest), STRM_INVALID);
-	ANSWERS(strm_adjmsg(pool, bad, 0), STRM_INVALID);
-	ANSWERS(strm_pullupmsg(pool, bad, 0), STRM_INVALID);
-	ANSWERS(strm_putq(pool, 0, bad), STRM_INVALID);
-	ANSWERS(strm_putbq(pool, 0, bad), STRM_INVALID);
-	ANSWERS(strm_insq(pool, 0, 0, bad), STRM_INVALID);
-	/* a name comes before a missing queue */
-	ANSWERS(strm_putq(pool, 2, bad), STRM_INVALID);
-	ANSWERS(strm_putq_n(pool, 2, &bad, 1, &count), STRM_INVALID);
-	CHECK(same_name(out, untouched) && same_name(rest, untouched) && number == 77 && count == 77 && bytes == NULL);
-	CENSUS(&other, 8, 0, 0);
-	ANSWERS(strm_close(&other), STRM_OK);
-	look(pool, &scene->held, 1, &after);
-	CHECK(memcmp(&before, &after, sizeof before) == 0);
-	CHECK(has_bytes(pool, scene->held, "held"));
+	look(scene, &before);
+	ANSWERS(strm_has(scene->pool, bad, &yes), STRM_OK);
+	CHECK(yes == 0);
+	for (verb = 0; verb < VERBS; verb++)
+		for (source = 0; source < 3; source++)
+			if (names(verb, sources[source]))
+				try_name_in(scene, verb, source, bad);
+	ANSWERS(strm_linkb(scene->pool, bad, bad), STRM_INVALID);
+	check_same(scene, &before);
 }
 
 static void test_forged(void)
 {
-	struct scene scene = scene_of(7);
+	struct strm_pool pool, other;
+	struct scene scene;
 	struct strm_msg bad = STRM_NO_MSG;
 
+	open_scene(&scene, &pool, &other, 7);
 	try_name(&scene, bad);
-	bad = scene.held;
+	bad = scene.x;
 	bad.stamp++;
 	try_name(&scene, bad);
 	bad.stamp -= 2;
 	try_name(&scene, bad);
-	bad = scene.held;
+	bad = scene.x;
 	bad.stamp += (uint64_t)1 << 32;
 	try_name(&scene, bad);
-	bad = scene.held;
+	bad = scene.x;
 	bad.pool++;
 	try_name(&scene, bad);
-	bad = scene.held;
-	bad.head = 5;		/* a block that is free */
+	bad = scene.x;
+	bad.head = MBLKS - 1;	/* a block that is free */
 	try_name(&scene, bad);
-	bad.head = 8;		/* one past the last */
+	bad.head = MBLKS;	/* one past the last */
 	try_name(&scene, bad);
 	bad.head = 0xFFFFFFFFu;
 	try_name(&scene, bad);
 	memset(&bad, 0xFF, sizeof bad);
 	try_name(&scene, bad);
-	ANSWERS(strm_close(&scene.pool), STRM_OK);
+	close_scene(&scene);
 }
 
 /* Names whose message was handed over. */
 static void test_spent(void)
 {
-	struct scene scene = scene_of(7);
-	struct strm_pool *pool = &scene.pool;
+	struct strm_pool pool, other;
+	struct scene scene;
 	struct strm_msg a, b, block, rest;
 
+	open_scene(&scene, &pool, &other, 7);
 	/* freed twice */
-	a = message(pool, "a");
-	ANSWERS(strm_freemsg(pool, a), STRM_OK);
+	a = message(&pool, "a");
+	ANSWERS(strm_freemsg(&pool, a), STRM_OK);
 	try_name(&scene, a);
 	/* freed, and its block is the head of another message */
-	b = message(pool, "b");
+	b = message(&pool, "b");
 	CHECK(b.head == a.head);
 	try_name(&scene, a);
 	/* linked to itself */
-	ANSWERS(strm_linkb(pool, b, b), STRM_INVALID);
-	CHECK(has_bytes(pool, b, "b"));
+	ANSWERS(strm_linkb(&pool, b, b), STRM_INVALID);
+	CHECK(has_bytes(&pool, b, "b"));
 	/* linked twice: the tail has no name any more */
-	a = message(pool, "a");
-	ANSWERS(strm_linkb(pool, a, b), STRM_OK);
+	a = message(&pool, "a");
+	ANSWERS(strm_linkb(&pool, a, b), STRM_OK);
 	try_name(&scene, b);
 	/* unlinked: the rest has another name than the tail had */
-	ANSWERS(strm_unlinkb(pool, a, &rest), STRM_OK);
+	ANSWERS(strm_unlinkb(&pool, a, &rest), STRM_OK);
 	CHECK(rest.head == b.head);
 	try_name(&scene, b);
-	ANSWERS(strm_linkb(pool, a, rest), STRM_OK);
+	ANSWERS(strm_linkb(&pool, a, rest), STRM_OK);
 	/* the rest, once it is linked again */
 	try_name(&scene, rest);
 	/* a block was taken out of the name's message */
-	ANSWERS(strm_rmvb(pool, a, 1, &block, &rest), STRM_OK);
+	ANSWERS(strm_rmvb(&pool, a, 1, &block, &rest), STRM_OK);
 	try_name(&scene, a);
-	ANSWERS(strm_linkb(pool, rest, block), STRM_OK);
+	ANSWERS(strm_linkb(&pool, rest, block), STRM_OK);
 	a = rest;
-	ANSWERS(strm_freeb(pool, a, &rest), STRM_OK);
+	ANSWERS(strm_freeb(&pool, a, &rest), STRM_OK);
 	try_name(&scene, a);
-	ANSWERS(strm_freeb(pool, rest, &block), STRM_NONE);
+	ANSWERS(strm_freeb(&pool, rest, &block), STRM_NONE);
 	try_name(&scene, rest);
-	ANSWERS(strm_close(pool), STRM_OK);
+	close_scene(&scene);
 }
 
+/* Puts a message on a queue and takes it off, each in each way. */
 static void test_queued(void)
 {
-	struct scene scene = scene_of(7);
-	struct strm_pool *pool = &scene.pool;
+	struct strm_pool pool, other;
+	struct scene scene;
 	struct strm_msg a, b;
 
-	a = message(pool, "a");
-	ANSWERS(strm_putq(pool, 0, a), STRM_OK);
+	open_scene(&scene, &pool, &other, 7);
+	ANSWERS(strm_flushq(&pool, 0, STRM_FLUSHALL), STRM_OK);
+	a = message(&pool, "a");
+	ANSWERS(strm_putq(&pool, 0, a), STRM_OK);
 	try_name(&scene, a);
-	ANSWERS(strm_name_at(pool, a.head, &b), STRM_NONE);
-	ANSWERS(strm_getq(pool, 0, &b), STRM_OK);
+	ANSWERS(strm_name_at(&pool, a.head, &b), STRM_NONE);
+	ANSWERS(strm_getq(&pool, 0, &b), STRM_OK);
 	CHECK(b.head == a.head);
 	try_name(&scene, a);
-	ANSWERS(strm_putbq(pool, 0, b), STRM_OK);
+	ANSWERS(strm_putbq(&pool, 0, b), STRM_OK);
 	try_name(&scene, b);
-	ANSWERS(strm_rmvq(pool, 0, 0, &a), STRM_OK);
+	ANSWERS(strm_rmvq(&pool, 0, 0, &a), STRM_OK);
 	try_name(&scene, b);
-	ANSWERS(strm_insq(pool, 0, 0, a), STRM_OK);
+	ANSWERS(strm_insq(&pool, 0, 0, a), STRM_OK);
 	try_name(&scene, a);
-	ANSWERS(strm_flushq(pool, 0, STRM_FLUSHALL), STRM_OK);
+	ANSWERS(strm_flushq(&pool, 0, STRM_FLUSHALL), STRM_OK);
 	try_name(&scene, a);
-	ANSWERS(strm_close(pool), STRM_OK);
+	close_scene(&scene);
 }
 
 /* A call that takes over a message leaves all other names valid, and a call that takes over none leaves all. */
 static void test_others(void)
 {
-	struct scene scene = scene_of(7);
-	struct strm_pool *pool = &scene.pool;
-	struct strm_msg a = message(pool, "ab"), copy, rest;
+	struct strm_pool pool, other;
+	struct scene scene;
+	struct strm_msg a, copy, rest;
 	uint32_t yes;
 
-	ANSWERS(strm_dupmsg(pool, a, &copy), STRM_OK);
-	ANSWERS(strm_linkb(pool, a, copy), STRM_OK);
-	ANSWERS(strm_setband(pool, a, 1), STRM_OK);
-	ANSWERS(strm_adjmsg(pool, a, 1), STRM_OK);
-	ANSWERS(strm_pullupmsg(pool, a, -1), STRM_OK);
-	ANSWERS(strm_copymsg(pool, a, &copy), STRM_OK);
-	ANSWERS(strm_unlinkb(pool, a, &rest), STRM_NONE);
-	ANSWERS(strm_has(pool, a, &yes), STRM_OK);
-	CHECK(yes == 1 && has_bytes(pool, a, "bab") && has_bytes(pool, copy, "bab"));
-	CHECK(has_bytes(pool, scene.held, "held"));
-	ANSWERS(strm_close(pool), STRM_OK);
+	open_scene(&scene, &pool, &other, 7);
+	a = message(&pool, "ab");
+	ANSWERS(strm_dupmsg(&pool, a, &copy), STRM_OK);
+	ANSWERS(strm_linkb(&pool, a, copy), STRM_OK);
+	ANSWERS(strm_setband(&pool, a, 1), STRM_OK);
+	ANSWERS(strm_adjmsg(&pool, a, 1), STRM_OK);
+	ANSWERS(strm_pullupmsg(&pool, a, -1), STRM_OK);
+	ANSWERS(strm_copymsg(&pool, a, &copy), STRM_OK);
+	ANSWERS(strm_unlinkb(&pool, a, &rest), STRM_NONE);
+	ANSWERS(strm_has(&pool, a, &yes), STRM_OK);
+	CHECK(yes == 1 && has_bytes(&pool, a, "bab") && has_bytes(&pool, copy, "bab"));
+	CHECK(has_bytes(&pool, scene.x, "heldtoo"));
+	close_scene(&scene);
 }
 
-/* A name is spent by a transfer, and the new one is a name of the other pool alone. */
+/* A name is spent by a transfer, and the new one is a name of the other pool alone. Names of pools that are closed are of no other pool. */
 static void test_transferred(void)
 {
-	struct scene scene = scene_of(7), other = scene_of(8);
-	struct strm_msg a = message(&scene.pool, "a"), moved;
+	struct strm_pool pools[4];
+	struct scene scene, other;
+	struct strm_msg a, moved;
 
-	ANSWERS(strm_transfer(&scene.pool, &other.pool, a, &moved), STRM_OK);
+	open_scene(&scene, &pools[0], &pools[1], 7);
+	open_scene(&other, &pools[2], &pools[3], 9);
+	a = message(scene.pool, "a");
+	ANSWERS(strm_transfer(scene.pool, other.pool, a, &moved), STRM_OK);
 	try_name(&scene, a);
 	try_name(&other, a);
 	try_name(&scene, moved);
-	CHECK(has_bytes(&other.pool, moved, "a"));
-	ANSWERS(strm_close(&other.pool), STRM_OK);
-	ANSWERS(strm_close(&scene.pool), STRM_OK);
-}
-
-static void test_foreign(void)
-{
-	struct scene scene = scene_of(7), other = scene_of(8);
-
-	try_name(&scene, other.held);
-	try_name(&other, scene.held);
-	ANSWERS(strm_close(&other.pool), STRM_OK);
-	try_name(&scene, other.held);
-	ANSWERS(strm_close(&scene.pool), STRM_OK);
+	CHECK(has_bytes(other.pool, moved, "a"));
+	try_name(&scene, other.x);
+	try_name(&other, scene.x);
+	close_scene(&other);
+	try_name(&scene, other.x);
+	close_scene(&scene);
 	/* opened again, under another id */
-	other = scene_of(9);
-	try_name(&other, scene.held);
-	ANSWERS(strm_close(&other.pool), STRM_OK);
+	a = scene.x;
+	open_scene(&scene, &pools[0], &pools[1], 11);
+	try_name(&scene, a);
+	close_scene(&scene);
 }
 
-/* ---- a handle that is not open, in each call; null pointers come after it */
+/* ---- pointers to each thing that a call takes or stores */
+
+static const struct {
+	const char *argument;
+	size_t at;
+} pointers[] = {
+	{ "->y", offsetof(struct arguments, y) }, { "->rest", offsetof(struct arguments, rest) },
+	{ "->msgs", offsetof(struct arguments, msgs) }, { "->octets", offsetof(struct arguments, octets) },
+	{ "TO(", offsetof(struct arguments, out) }, { "->done", offsetof(struct arguments, done) }
+};
+#define POINTERS ((int)(sizeof pointers / sizeof pointers[0]))
+
+/* The place of a pointer among the arguments of the scene's call. */
+static unsigned char *pointer_at(struct scene *scene, int i)
+{
+	return (unsigned char *)&scene->a + pointers[i].at;
+}
+
+/* ---- a handle that is not open, in each call; all other misuse comes after it */
 
 static void try_handle(struct strm_pool *bad)
 {
-	struct strm_pool before, open = opened(6);
-	struct strm_msg msg = STRM_NO_MSG, held = message(&open, "held");
+	struct strm_pool before, pool, other;
+	struct scene scene;
+	struct strm_msg msg = STRM_NO_MSG;
+	int verb, i;
 
 	memset(&before, 0, sizeof before);
 	if (bad != NULL)
 		before = *bad;
+	open_scene(&scene, &pool, &other, 6);
 	CHECK(strm_is_open(bad) == 0);
 	ANSWERS(strm_close(bad), STRM_NOT_OPEN);
-	ANSWERS(strm_allocb(bad, 1, NULL), STRM_NOT_OPEN);
-	ANSWERS(strm_testb(bad, 1, NULL), STRM_NOT_OPEN);
-	ANSWERS(strm_dupb(bad, msg, NULL), STRM_NOT_OPEN);
-	ANSWERS(strm_dupmsg(bad, msg, NULL), STRM_NOT_OPEN);
-	ANSWERS(strm_copyb(bad, msg, NULL), STRM_NOT_OPEN);
-	ANSWERS(strm_copymsg(bad, msg, NULL), STRM_NOT_OPEN);
-	ANSWERS(strm_freeb(bad, msg, NULL), STRM_NOT_OPEN);
-	ANSWERS(strm_freemsg(bad, msg), STRM_NOT_OPEN);
-	ANSWERS(strm_write(bad, msg, 0, NULL, 1), STRM_NOT_OPEN);
-	ANSWERS(strm_read(bad, msg, 0, NULL, 1, NULL), STRM_NOT_OPEN);
-	ANSWERS(strm_settype(bad, msg, 0, 99), STRM_NOT_OPEN);
-	ANSWERS(strm_setband(bad, msg, 999), STRM_NOT_OPEN);
-	ANSWERS(strm_size(bad, msg, NULL), STRM_NOT_OPEN);
-	ANSWERS(strm_msgdsize(bad, msg, NULL), STRM_NOT_OPEN);
-	ANSWERS(strm_block(bad, msg, 0, NULL), STRM_NOT_OPEN);
-	ANSWERS(strm_has(bad, msg, NULL), STRM_NOT_OPEN);
-	ANSWERS(strm_blocks(bad, msg, 0, NULL, 1, NULL), STRM_NOT_OPEN);
-	ANSWERS(strm_name_at(bad, 0, NULL), STRM_NOT_OPEN);
-	ANSWERS(strm_bytes(bad, msg, 0, NULL, NULL), STRM_NOT_OPEN);
-	ANSWERS(strm_iov(bad, msg, 0, NULL, 1, NULL), STRM_NOT_OPEN);
-	ANSWERS(strm_place(bad, msg, 0, NULL), STRM_NOT_OPEN);
-	ANSWERS(strm_overwrite(bad, msg, 0, NULL, 1), STRM_NOT_OPEN);
-	ANSWERS(strm_reserve(bad, msg, 0, 0), STRM_NOT_OPEN);
-	ANSWERS(strm_prepend(bad, msg, NULL, 1), STRM_NOT_OPEN);
-	ANSWERS(strm_advance(bad, msg, 0, 0), STRM_NOT_OPEN);
-	ANSWERS(strm_linkb(bad, msg, msg), STRM_NOT_OPEN);
-	ANSWERS(strm_unlinkb(bad, msg, NULL), STRM_NOT_OPEN);
-	ANSWERS(strm_rmvb(bad, msg, 0, NULL, NULL), STRM_NOT_OPEN);
-	ANSWERS(strm_adjmsg(bad, msg, 0), STRM_NOT_OPEN);
-	ANSWERS(strm_pullupmsg(bad, msg, 0), STRM_NOT_OPEN);
-	ANSWERS(strm_transfer(bad, bad, msg, NULL), STRM_NOT_OPEN);
-	ANSWERS(strm_transfer(bad, &open, msg, NULL), STRM_NOT_OPEN);
-	ANSWERS(strm_transfer(&open, bad, msg, NULL), STRM_NOT_OPEN);
-	ANSWERS(strm_transfer(&open, bad, held, &msg), STRM_NOT_OPEN);
-	ANSWERS(strm_putq(bad, 0, msg), STRM_NOT_OPEN);
-	ANSWERS(strm_putbq(bad, 0, msg), STRM_NOT_OPEN);
-	ANSWERS(strm_insq(bad, 0, 0, msg), STRM_NOT_OPEN);
-	ANSWERS(strm_getq(bad, 0, NULL), STRM_NOT_OPEN);
-	ANSWERS(strm_rmvq(bad, 0, 0, NULL), STRM_NOT_OPEN);
-	ANSWERS(strm_qsize(bad, 0, NULL), STRM_NOT_OPEN);
-	ANSWERS(strm_queued_at(bad, 0, 0, NULL), STRM_NOT_OPEN);
-	ANSWERS(strm_read_queued(bad, 0, 0, 0, NULL, 1, NULL), STRM_NOT_OPEN);
-	ANSWERS(strm_first_queued(bad, 0, NULL), STRM_NOT_OPEN);
-	ANSWERS(strm_queued_after(bad, 0, NULL), STRM_NOT_OPEN);
-	ANSWERS(strm_allocb_n(bad, 1, NULL, 1, NULL), STRM_NOT_OPEN);
-	ANSWERS(strm_freemsg_n(bad, NULL, 1, NULL), STRM_NOT_OPEN);
-	ANSWERS(strm_putq_n(bad, 0, NULL, 1, NULL), STRM_NOT_OPEN);
-	ANSWERS(strm_getq_n(bad, 0, NULL, 1, NULL), STRM_NOT_OPEN);
-	ANSWERS(strm_flushq(bad, 0, 9), STRM_NOT_OPEN);
-	ANSWERS(strm_flushband(bad, 0, 0, 9), STRM_NOT_OPEN);
-	ANSWERS(strm_bcanput(bad, 0, 0, NULL), STRM_NOT_OPEN);
-	ANSWERS(strm_strqset(bad, 0, 0, 2, 1), STRM_NOT_OPEN);
-	ANSWERS(strm_strqget(bad, 0, 0, NULL), STRM_NOT_OPEN);
-	ANSWERS(strm_qenable(bad, 0), STRM_NOT_OPEN);
-	ANSWERS(strm_noenable(bad, 0), STRM_NOT_OPEN);
-	ANSWERS(strm_enableok(bad, 0), STRM_NOT_OPEN);
-	ANSWERS(strm_next_service(bad, NULL), STRM_NOT_OPEN);
-	ANSWERS(strm_run_at(bad, 0, NULL), STRM_NOT_OPEN);
-	ANSWERS(strm_bufcall(bad, 0, NULL), STRM_NOT_OPEN);
-	ANSWERS(strm_unbufcall(bad, 0), STRM_NOT_OPEN);
-	ANSWERS(strm_take_ready(bad, NULL), STRM_NOT_OPEN);
-	ANSWERS(strm_wish_at(bad, 0, NULL), STRM_NOT_OPEN);
-	ANSWERS(strm_census(bad, NULL), STRM_NOT_OPEN);
-	ANSWERS(strm_class_info(bad, 0, NULL), STRM_NOT_OPEN);
-	ANSWERS(strm_queue_info(bad, 0, NULL), STRM_NOT_OPEN);
-	ANSWERS(strm_band_info(bad, 0, 0, NULL), STRM_NOT_OPEN);
-	ANSWERS(strm_queue_spec(bad, 0, NULL), STRM_NOT_OPEN);
+	scene.pool = scene.other = bad;
+	for (verb = 0; verb < VERBS; verb++) {
+		set_call(&scene, verb);
+		refuse_call(&scene, STRM_NOT_OPEN, "since the handle is not open");
+		spoil_call(&scene);
+		scene.call.band = scene.call.type = scene.call.flush = 999;
+		for (i = 0; i < POINTERS; i++)
+			memset(pointer_at(&scene, i), 0, sizeof(void *));
+		refuse_call(&scene, STRM_NOT_OPEN, "which comes first");
+	}
+	scene.pool = &pool;
+	scene.other = &other;
+	ANSWERS(strm_transfer(bad, &other, msg, NULL), STRM_NOT_OPEN);
+	ANSWERS(strm_transfer(&pool, bad, msg, NULL), STRM_NOT_OPEN);
+	ANSWERS(strm_transfer(&pool, bad, scene.x, &msg), STRM_NOT_OPEN);
 	CHECK(bad == NULL || memcmp(bad, &before, sizeof before) == 0);
-	CHECK(msg.stamp == 0 && has_bytes(&open, held, "held"));
-	ANSWERS(strm_close(&open), STRM_OK);
+	CHECK(msg.stamp == 0 && has_bytes(&pool, scene.x, "heldtoo"));
+	close_scene(&scene);
 }
 
 static void test_handles(void)
 {
-	struct strm_pool pool = STRM_POOL_INIT, moved;
+	struct strm_pool pool = STRM_POOL_INIT, other, moved;
+	struct scene scene;
 	struct strm_msg msg;
 
 	ANSWERS(strm_open(NULL, NULL), STRM_NOT_OPEN);
@@ -413,170 +346,127 @@ static void test_handles(void)
 	try_handle(&pool);
 	pool.state = STRM_POOL_OPEN + 1;
 	try_handle(&pool);
-	pool = opened(7);
-	ANSWERS(strm_close(&pool), STRM_OK);
+	open_scene(&scene, &pool, &other, 7);
+	close_scene(&scene);
 	try_handle(&pool);
 	/* a handle may be moved */
-	pool = opened(7);
+	open_scene(&scene, &pool, &other, 7);
 	moved = pool;
 	memset(&pool, 0, sizeof pool);
 	try_handle(&pool);
 	ANSWERS(strm_allocb(&moved, 1, &msg), STRM_OK);
-	ANSWERS(strm_close(&moved), STRM_OK);
+	scene.pool = &moved;
+	close_scene(&scene);
 }
 
 /* ---- null pointers, and numbers that are out of range, on an open pool; names come after them */
 
-/* The same for the calls on bytes in place, the looks that fill arrays, and strm_transfer. */
-static void try_arrays(struct strm_pool *pool, struct strm_msg held)
+/* The call of the scene is refused, also if it names what is not there. */
+static void try_argument(struct scene *scene, const char *how)
 {
-	struct strm_msg msg = STRM_NO_MSG, out = STRM_NO_MSG;
-	struct strm_pool other = opened(6);
-	struct strm_block_info block;
-	struct strm_iov iov;
-	const uint8_t *bytes = NULL;
-	size_t count = 77, long_length = (size_t)-1 / 2 + 1;
-	char room[4];
-	union {
-		size_t count;
-		const uint8_t *bytes;
-		struct strm_block_info block;
-		struct strm_iov iov;
-		struct strm_msg msg;
-	} both;
+	refuse_call(scene, STRM_BAD_ARGUMENT, how);
+	spoil_call(scene);
+	refuse_call(scene, STRM_BAD_ARGUMENT, how);
+}
 
-	memset(&both, 0xA5, sizeof both);
-	ANSWERS(strm_blocks(pool, held, 0, NULL, 1, &count), STRM_BAD_ARGUMENT);
-	ANSWERS(strm_blocks(pool, held, 0, &block, 1, NULL), STRM_BAD_ARGUMENT);
-	ANSWERS(strm_blocks(pool, held, 0, NULL, 0, NULL), STRM_BAD_ARGUMENT);
-	ANSWERS(strm_blocks(pool, held, 0, &block, long_length, &count), STRM_BAD_ARGUMENT);
-	ANSWERS(strm_blocks(pool, held, 0, &block, long_length / sizeof block + 1, &count), STRM_BAD_ARGUMENT);
-	ANSWERS(strm_blocks(pool, msg, 0, &block, (size_t)-1, &count), STRM_BAD_ARGUMENT);
-	ANSWERS(strm_blocks(pool, held, 0, &both.block, 1, &both.count), STRM_BAD_ARGUMENT);
-	ANSWERS(strm_iov(pool, held, 0, NULL, 1, &count), STRM_BAD_ARGUMENT);
-	ANSWERS(strm_iov(pool, held, 0, &iov, 1, NULL), STRM_BAD_ARGUMENT);
-	ANSWERS(strm_iov(pool, held, 0, NULL, 0, NULL), STRM_BAD_ARGUMENT);
-	ANSWERS(strm_iov(pool, held, 0, &iov, long_length, &count), STRM_BAD_ARGUMENT);
-	ANSWERS(strm_iov(pool, held, 0, &iov, long_length / sizeof iov, &count), STRM_BAD_ARGUMENT);
-	ANSWERS(strm_iov(pool, msg, 0, &iov, (size_t)-1, &count), STRM_BAD_ARGUMENT);
-	ANSWERS(strm_iov(pool, held, 0, &both.iov, 1, &both.count), STRM_BAD_ARGUMENT);
-	ANSWERS(strm_bytes(pool, held, 0, NULL, &count), STRM_BAD_ARGUMENT);
-	ANSWERS(strm_bytes(pool, held, 0, &bytes, NULL), STRM_BAD_ARGUMENT);
-	ANSWERS(strm_bytes(pool, msg, 9, &both.bytes, &both.count), STRM_BAD_ARGUMENT);
-	ANSWERS(strm_place(pool, msg, 0, NULL), STRM_BAD_ARGUMENT);
-	ANSWERS(strm_overwrite(pool, held, 0, NULL, 1), STRM_BAD_ARGUMENT);
-	ANSWERS(strm_overwrite(pool, held, 0, "x", long_length), STRM_BAD_ARGUMENT);
-	ANSWERS(strm_overwrite(pool, msg, 0, "x", (size_t)-1), STRM_BAD_ARGUMENT);
-	ANSWERS(strm_prepend(pool, held, NULL, 1), STRM_BAD_ARGUMENT);
-	ANSWERS(strm_prepend(pool, held, "x", long_length), STRM_BAD_ARGUMENT);
-	ANSWERS(strm_prepend(pool, msg, "x", (size_t)-1), STRM_BAD_ARGUMENT);
-	ANSWERS(strm_name_at(pool, held.head, NULL), STRM_BAD_ARGUMENT);
-	ANSWERS(strm_queued_at(pool, 9, 9, NULL), STRM_BAD_ARGUMENT);
-	ANSWERS(strm_read_queued(pool, 1, 0, 0, NULL, 1, &count), STRM_BAD_ARGUMENT);
-	ANSWERS(strm_read_queued(pool, 1, 0, 0, room, sizeof room, NULL), STRM_BAD_ARGUMENT);
-	ANSWERS(strm_read_queued(pool, 9, 0, 0, room, long_length, &count), STRM_BAD_ARGUMENT);
-	ANSWERS(strm_read_queued(pool, 1, 0, 0, &both, sizeof both, &both.count), STRM_BAD_ARGUMENT);
-	ANSWERS(strm_first_queued(pool, 9, NULL), STRM_BAD_ARGUMENT);
-	ANSWERS(strm_queued_after(pool, 99, NULL), STRM_BAD_ARGUMENT);
-	ANSWERS(strm_queue_spec(pool, 9, NULL), STRM_BAD_ARGUMENT);
-	ANSWERS(strm_allocb_n(pool, 1, NULL, 1, &count), STRM_BAD_ARGUMENT);
-	ANSWERS(strm_allocb_n(pool, 1, &out, 1, NULL), STRM_BAD_ARGUMENT);
-	ANSWERS(strm_allocb_n(pool, 1, &out, long_length / sizeof out, &count), STRM_BAD_ARGUMENT);
-	ANSWERS(strm_allocb_n(pool, 1, &both.msg, 1, &both.count), STRM_BAD_ARGUMENT);
-	ANSWERS(strm_freemsg_n(pool, NULL, 1, &count), STRM_BAD_ARGUMENT);
-	ANSWERS(strm_freemsg_n(pool, &held, 1, NULL), STRM_BAD_ARGUMENT);
-	ANSWERS(strm_freemsg_n(pool, &held, long_length / sizeof held, &count), STRM_BAD_ARGUMENT);
-	ANSWERS(strm_putq_n(pool, 9, NULL, 1, &count), STRM_BAD_ARGUMENT);
-	ANSWERS(strm_putq_n(pool, 9, &held, 1, NULL), STRM_BAD_ARGUMENT);
-	ANSWERS(strm_putq_n(pool, 1, &held, long_length / sizeof held, &count), STRM_BAD_ARGUMENT);
-	ANSWERS(strm_getq_n(pool, 9, NULL, 1, &count), STRM_BAD_ARGUMENT);
-	ANSWERS(strm_getq_n(pool, 1, &out, 1, NULL), STRM_BAD_ARGUMENT);
-	ANSWERS(strm_getq_n(pool, 1, &out, long_length / sizeof out, &count), STRM_BAD_ARGUMENT);
-	ANSWERS(strm_getq_n(pool, 1, &both.msg, 1, &both.count), STRM_BAD_ARGUMENT);
-	ANSWERS(strm_transfer(pool, &other, held, NULL), STRM_BAD_ARGUMENT);
-	ANSWERS(strm_transfer(pool, pool, held, &out), STRM_BAD_ARGUMENT);
-	ANSWERS(strm_transfer(pool, pool, msg, NULL), STRM_BAD_ARGUMENT);
-	CHECK(count == 77 && bytes == NULL && out.stamp == 0);
-	/* places of results that are equal do not count where the length is 0 */
-	ANSWERS(strm_blocks(pool, held, 0, &both.block, 0, &both.count), STRM_OK);
-	CHECK(both.count == 0);
-	ANSWERS(strm_iov(pool, held, 0, &both.iov, 0, &both.count), STRM_OK);
-	ANSWERS(strm_read_queued(pool, 1, 0, 0, &both, 0, &both.count), STRM_OK);
-	ANSWERS(strm_allocb_n(pool, 1, &both.msg, 0, &both.count), STRM_OK);
-	ANSWERS(strm_getq_n(pool, 1, &both.msg, 0, &both.count), STRM_OK);
-	CENSUS(&other, 8, 0, 0);
-	ANSWERS(strm_close(&other), STRM_OK);
+static void try_null(struct scene *scene, int verb, int i)
+{
+	set_call(scene, verb);
+	memset(pointer_at(scene, i), 0, sizeof(void *));
+	try_argument(scene, pointers[i].argument);
+	if (scene->a.done == NULL) {
+		scene->a.length = 0;
+		refuse_call(scene, STRM_BAD_ARGUMENT, "also for a length of 0");
+	}
+}
+
+/* Two places for results are the same one. */
+static void try_both(struct scene *scene, int verb, int i, int j)
+{
+	set_call(scene, verb);
+	memcpy(pointer_at(scene, j), pointer_at(scene, i), sizeof(void *));
+	try_argument(scene, "since two pointers are equal");
+	if (has_argument(verb, "->length")) {
+		set_call(scene, verb);
+		memcpy(pointer_at(scene, j), pointer_at(scene, i), sizeof(void *));
+		scene->a.length = 0;
+		CHECK(make_call(scene) == STRM_OK && *scene->a.done == 0);
+	}
+}
+
+/* A number is out of range. */
+static void try_number(struct scene *scene, int verb, const char *letter, uint32_t number)
+{
+	if (!names(verb, letter))
+		return;
+	set_call(scene, verb);
+	*(*letter == 'b' ? &scene->call.band : *letter == 't' ? &scene->call.type : &scene->call.flush) = number;
+	try_argument(scene, letter);
+}
+
+static void try_length(struct scene *scene, int verb, size_t length)
+{
+	set_call(scene, verb);
+	scene->a.length = length;
+	try_argument(scene, "since no object is so long");
+}
+
+static void try_arguments(struct scene *scene, int verb)
+{
+	int i, j;
+
+	for (i = 0; i < POINTERS; i++)
+		if (has_argument(verb, pointers[i].argument)) {
+			try_null(scene, verb, i);
+			for (j = i + 1; j < POINTERS && !names(verb, "og"); j++)
+				if (has_argument(verb, pointers[j].argument))
+					try_both(scene, verb, i, j);
+		}
+	try_number(scene, verb, "b", STRM_BANDS);
+	try_number(scene, verb, "t", STRM_TYPES);
+	try_number(scene, verb, "f", STRM_FLUSHDATA + 1);
+	try_number(scene, verb, "b", 0xFFFFFFFFu);
+	try_number(scene, verb, "t", 0xFFFFFFFFu);
+	try_number(scene, verb, "f", 0xFFFFFFFFu);
+	if (has_argument(verb, "->length")) {
+		try_length(scene, verb, (size_t)-1 / 2 + 1);
+		try_length(scene, verb, (size_t)-1);
+	}
+}
+
+/* Arrays of more bytes than an object has. */
+static void try_arrays(struct scene *scene)
+{
+	size_t most = (size_t)-1 / 2;
+
+	try_length(scene, BLOCKS, most / sizeof(struct strm_block_info) + 1);
+	try_length(scene, IOV, most / sizeof(struct strm_iov) + 1);
+	try_length(scene, ALLOCB_N, most / sizeof(struct strm_msg) + 1);
+	try_length(scene, FREEMSG_N, most / sizeof(struct strm_msg) + 1);
+	try_length(scene, PUTQ_N, most / sizeof(struct strm_msg) + 1);
+	try_length(scene, GETQ_N, most / sizeof(struct strm_msg) + 1);
 }
 
 static void test_arguments(void)
 {
-	struct scene scene = scene_of(7);
-	struct strm_pool *pool = &scene.pool;
+	struct strm_pool pool, other;
+	struct scene scene;
 	struct strm_msg msg = STRM_NO_MSG, out = STRM_NO_MSG;
-	struct strm_marks marks;
-	struct strm_band_info band;
-	struct seen before, after;
-	size_t count, long_length = (size_t)-1 / 2 + 1;
-	uint32_t yes;
-	char room[4];
+	struct seen before;
+	int verb;
 
-	look(pool, &scene.held, 1, &before);
-	ANSWERS(strm_open(pool, NULL), STRM_IS_OPEN);
-	ANSWERS(strm_allocb(pool, 1, NULL), STRM_BAD_ARGUMENT);
-	ANSWERS(strm_testb(pool, 1, NULL), STRM_BAD_ARGUMENT);
-	ANSWERS(strm_dupb(pool, msg, NULL), STRM_BAD_ARGUMENT);
-	ANSWERS(strm_dupmsg(pool, msg, NULL), STRM_BAD_ARGUMENT);
-	ANSWERS(strm_copyb(pool, msg, NULL), STRM_BAD_ARGUMENT);
-	ANSWERS(strm_copymsg(pool, msg, NULL), STRM_BAD_ARGUMENT);
-	ANSWERS(strm_freeb(pool, scene.held, NULL), STRM_BAD_ARGUMENT);
-	ANSWERS(strm_write(pool, scene.held, 0, NULL, 1), STRM_BAD_ARGUMENT);
-	ANSWERS(strm_write(pool, scene.held, 0, "x", long_length), STRM_BAD_ARGUMENT);
-	ANSWERS(strm_write(pool, scene.held, 0, "x", (size_t)-1), STRM_BAD_ARGUMENT);
-	ANSWERS(strm_read(pool, scene.held, 0, NULL, 1, &count), STRM_BAD_ARGUMENT);
-	ANSWERS(strm_read(pool, scene.held, 0, room, long_length, &count), STRM_BAD_ARGUMENT);
-	ANSWERS(strm_read(pool, scene.held, 0, room, sizeof room, NULL), STRM_BAD_ARGUMENT);
-	ANSWERS(strm_read(pool, scene.held, 0, &count, sizeof count, &count), STRM_BAD_ARGUMENT);
-	ANSWERS(strm_settype(pool, scene.held, 0, STRM_TYPES), STRM_BAD_ARGUMENT);
-	ANSWERS(strm_settype(pool, msg, 0, 0xFFFFFFFFu), STRM_BAD_ARGUMENT);
-	ANSWERS(strm_setband(pool, scene.held, 256), STRM_BAD_ARGUMENT);
-	ANSWERS(strm_setband(pool, msg, 0xFFFFFFFFu), STRM_BAD_ARGUMENT);
-	ANSWERS(strm_size(pool, msg, NULL), STRM_BAD_ARGUMENT);
-	ANSWERS(strm_msgdsize(pool, msg, NULL), STRM_BAD_ARGUMENT);
-	ANSWERS(strm_block(pool, msg, 0, NULL), STRM_BAD_ARGUMENT);
-	ANSWERS(strm_has(pool, msg, NULL), STRM_BAD_ARGUMENT);
-	ANSWERS(strm_unlinkb(pool, msg, NULL), STRM_BAD_ARGUMENT);
-	ANSWERS(strm_rmvb(pool, scene.held, 0, NULL, &out), STRM_BAD_ARGUMENT);
-	ANSWERS(strm_rmvb(pool, scene.held, 0, &out, NULL), STRM_BAD_ARGUMENT);
-	ANSWERS(strm_rmvb(pool, scene.held, 0, &out, &out), STRM_BAD_ARGUMENT);
-	ANSWERS(strm_getq(pool, 1, NULL), STRM_BAD_ARGUMENT);
-	ANSWERS(strm_rmvq(pool, 1, 0, NULL), STRM_BAD_ARGUMENT);
-	ANSWERS(strm_qsize(pool, 1, NULL), STRM_BAD_ARGUMENT);
-	ANSWERS(strm_flushq(pool, 1, 2), STRM_BAD_ARGUMENT);
-	ANSWERS(strm_flushq(pool, 9, 0xFFFFFFFFu), STRM_BAD_ARGUMENT);
-	ANSWERS(strm_flushband(pool, 1, 0, 2), STRM_BAD_ARGUMENT);
-	ANSWERS(strm_flushband(pool, 1, 256, STRM_FLUSHALL), STRM_BAD_ARGUMENT);
-	ANSWERS(strm_bcanput(pool, 1, 0, NULL), STRM_BAD_ARGUMENT);
-	ANSWERS(strm_bcanput(pool, 9, 256, &yes), STRM_BAD_ARGUMENT);
-	ANSWERS(strm_strqset(pool, 1, 256, 2, 1), STRM_BAD_ARGUMENT);
-	ANSWERS(strm_strqget(pool, 1, 256, &marks), STRM_BAD_ARGUMENT);
-	ANSWERS(strm_strqget(pool, 1, 0, NULL), STRM_BAD_ARGUMENT);
-	ANSWERS(strm_next_service(pool, NULL), STRM_BAD_ARGUMENT);
-	ANSWERS(strm_run_at(pool, 0, NULL), STRM_BAD_ARGUMENT);
-	ANSWERS(strm_bufcall(pool, 1, NULL), STRM_BAD_ARGUMENT);
-	ANSWERS(strm_take_ready(pool, NULL), STRM_BAD_ARGUMENT);
-	ANSWERS(strm_wish_at(pool, 0, NULL), STRM_BAD_ARGUMENT);
-	ANSWERS(strm_census(pool, NULL), STRM_BAD_ARGUMENT);
-	ANSWERS(strm_class_info(pool, 0, NULL), STRM_BAD_ARGUMENT);
-	ANSWERS(strm_queue_info(pool, 0, NULL), STRM_BAD_ARGUMENT);
-	ANSWERS(strm_band_info(pool, 0, 0, NULL), STRM_BAD_ARGUMENT);
-	ANSWERS(strm_band_info(pool, 0, 256, &band), STRM_BAD_ARGUMENT);
-	try_arrays(pool, scene.held);
+	open_scene(&scene, &pool, &other, 7);
+	look(&scene, &before);
+	ANSWERS(strm_open(&pool, NULL), STRM_IS_OPEN);
+	for (verb = 0; verb < VERBS; verb++)
+		try_arguments(&scene, verb);
+	try_arrays(&scene);
+	ANSWERS(strm_transfer(&pool, &pool, scene.x, &out), STRM_BAD_ARGUMENT);
+	ANSWERS(strm_transfer(&pool, &pool, msg, NULL), STRM_BAD_ARGUMENT);
 	CHECK(strm_text(0, NULL, 1) == 0 && strm_name(0, NULL, 1) == 0 && strm_version(NULL, 1) == 0);
 	CHECK(out.stamp == 0);
-	look(pool, &scene.held, 1, &after);
-	CHECK(memcmp(&before, &after, sizeof before) == 0);
-	CHECK(has_bytes(pool, scene.held, "held"));
-	ANSWERS(strm_close(pool), STRM_OK);
+	check_same(&scene, &before);
+	close_scene(&scene);
 }
 
 /* A configuration is refused by both calls that take one. */
@@ -593,6 +483,8 @@ static void refuse(const struct strm_config *config, int code)
 
 static void test_configurations(void)
 {
+	static const struct strm_class_spec classes[] = { { 16, 8 } };
+	static const struct strm_queue_spec queues[] = { { 10, 4, 1, STRM_NO_QUEUE } };
 	struct strm_config config;
 
 	refuse(NULL, STRM_BAD_ARGUMENT);
@@ -620,7 +512,6 @@ int main(void)
 	test_queued();
 	test_others();
 	test_transferred();
-	test_foreign();
 	test_handles();
 	test_arguments();
 	test_configurations();

@@ -797,7 +797,7 @@ static struct reply block_told(const struct model *v, const struct call *call)
 	if (cell_at(v->registers[call->x], call->place) == NULL)
 		return refused(STRM_NO_SUCH_BLOCK);
 	info = model_block(v, call->x, call->place);
-	return told_block(&info);
+	return told_from(TOLD_BLOCK, &info);
 }
 
 static struct reply blocks_told(const struct model *v, const struct call *call)
@@ -808,7 +808,7 @@ static struct reply blocks_told(const struct model *v, const struct call *call)
 	for (; count < call->items && cell_at(v->registers[call->x], call->place + count) != NULL; count++) {
 		struct strm_block_info info = model_block(v, call->x, call->place + count);
 
-		put_block(&reply, 1 + 5 * (int)count, &info);
+		memcpy(reply.numbers + 1 + 5 * count, &info, sizeof info);
 	}
 	reply.numbers[0] = count;
 	return reply;
@@ -847,17 +847,12 @@ static struct reply iov_told(const struct model *v, const struct call *call)
 
 static struct reply place_told(const struct model *v, const struct call *call)
 {
-	struct reply reply = reply_of(TOLD_PLACE);
 	struct strm_block_place where;
 
 	if (cell_at(v->registers[call->x], call->place) == NULL)
 		return refused(STRM_NO_SUCH_BLOCK);
 	where = model_place(v, call->x, call->place);
-	reply.numbers[0] = where.data;
-	reply.numbers[1] = where.at;
-	reply.numbers[2] = where.length;
-	reply.numbers[3] = where.capacity;
-	return reply;
+	return told_from(TOLD_PLACE, &where);
 }
 
 static struct reply bytes_told(const struct model *v, const struct call *call)
@@ -1042,18 +1037,12 @@ struct strm_queued model_queued(const struct model *v, uint32_t queue, uint32_t 
 
 static struct reply queued_told(struct model *v, const struct call *call)
 {
-	struct reply reply = reply_of(TOLD_QUEUED);
 	struct strm_queued queued;
 
 	if (*link_at(v, call->queue, call->place) == NULL)
 		return refused(STRM_NO_SUCH_PLACE);
 	queued = model_queued(v, call->queue, call->place);
-	reply.numbers[0] = queued.head;
-	reply.numbers[1] = queued.type;
-	reply.numbers[2] = queued.band;
-	reply.numbers[3] = queued.bytes;
-	reply.numbers[4] = queued.blocks;
-	return reply;
+	return told_from(TOLD_QUEUED, &queued);
 }
 
 static struct reply queued_bytes_told(struct model *v, const struct call *call)
@@ -1072,18 +1061,17 @@ static struct reply head_told(const struct item *item)
 	return item != NULL ? told(TOLD_HEAD, item->message->number, 0) : reply_of(NOTHING);
 }
 
-static struct reply spec_told(const struct strm_queue_spec *spec)
+static struct reply spec_told(struct strm_queue_spec spec)
 {
-	struct reply reply = told(TOLD_SPEC, spec->hiwat, spec->lowat);
-
-	reply.numbers[2] = spec->service != 0;
-	reply.numbers[3] = spec->next;
-	return reply;
+	spec.service = spec.service != 0;
+	return told_from(TOLD_SPEC, &spec);
 }
 
 static struct reply act_on_queue(struct model *v, const struct call *call)
 {
 	struct line *line = &v->queues[call->queue];
+	struct strm_queue_info info;
+	struct strm_band_info band;
 
 	switch (call->verb) {
 	case PUTQ: case PUTBQ:
@@ -1104,7 +1092,7 @@ static struct reply act_on_queue(struct model *v, const struct call *call)
 		settled(v, call->queue);
 		return reply_of(DONE);
 	case STRQGET:
-		return told(TOLD_MARKS, line->marks[call->band].hiwat, line->marks[call->band].lowat);
+		return told_from(TOLD_MARKS, &line->marks[call->band]);
 	case QSIZE:
 		return told(TOLD_SIZE, model_queue(v, call->queue).msgs, 0);
 	case QUEUED_AT:
@@ -1114,7 +1102,13 @@ static struct reply act_on_queue(struct model *v, const struct call *call)
 	case FIRST_QUEUED:
 		return head_told(line->items);
 	case QUEUE_SPEC:
-		return spec_told(&line->spec);
+		return spec_told(line->spec);
+	case QUEUE_INFO:
+		info = model_queue(v, call->queue);
+		return told_from(TOLD_STATE, &info);
+	case BAND_INFO:
+		band = model_band(v, call->queue, call->band);
+		return told_from(TOLD_BAND, &band);
 	case QENABLE:
 		enabled(v, call->queue);
 		return reply_of(DONE);
@@ -1223,11 +1217,24 @@ static struct reply transferred(struct model *v, struct model *other, const stru
 static struct reply act_on_pool(struct model *v, const struct call *call)
 {
 	struct strm_census census = model_census(v);
-	struct reply reply;
+	struct strm_class_info info;
+	struct strm_wish wish;
+	uint32_t queue;
 
 	switch (call->verb) {
 	case TESTB:
 		return reply_of(can_allocate(v, call->number) ? YES : NO);
+	case HAS:
+		return reply_of(v->registers[call->x] != NULL ? YES : NO);
+	case RUN_AT:
+		return model_run_at(v, call->place, &queue) ? told(TOLD_QUEUE, queue, 0) : reply_of(NOTHING);
+	case WISH_AT:
+		return model_wish_at(v, call->place, &wish) ? told_from(TOLD_READY, &wish) : reply_of(NOTHING);
+	case CLASS_INFO:
+		if (call->place >= v->class_count)
+			return reply_of(NOTHING);
+		info = model_class(v, call->place);
+		return told_from(TOLD_CLASS, &info);
 	case SERVICE:
 		return served_next(v);
 	case BUFCALL:
@@ -1239,9 +1246,7 @@ static struct reply act_on_pool(struct model *v, const struct call *call)
 	case QUEUED_AFTER:
 		return after_told(v, call->number);
 	default:
-		reply = told(TOLD_CENSUS, census.free, census.queued);
-		reply.numbers[2] = census.held;
-		return reply;
+		return told_from(TOLD_CENSUS, &census);
 	}
 }
 
@@ -1278,7 +1283,7 @@ static struct reply done_one_by_one(struct model *v, const struct call *call)
 	struct reply reply;
 	uint32_t count;
 
-	if (strchr(forms[call->verb].names, 'p') != NULL && is_some_taken(v, call))
+	if (names(call->verb, "p") && is_some_taken(v, call))
 		return reply_of(TAKEN);
 	single.verb = single_of(call->verb);
 	for (count = 0; count < call->items; count++) {
@@ -1294,23 +1299,23 @@ static struct reply done_one_by_one(struct model *v, const struct call *call)
 
 struct reply model_apply(struct model *v, struct model *other, const struct call *call)
 {
-	const char *names = forms[call->verb].names;
+	int verb = call->verb;
 
-	if (strpbrk(names, "gp") != NULL)
+	if (names(verb, "gp"))
 		return done_one_by_one(v, call);
-	if (strchr(names, 'q') != NULL && call->queue >= v->queue_count)
+	if (names(verb, "q") && call->queue >= v->queue_count)
 		return refused(STRM_NO_SUCH_QUEUE);
-	if (strchr(names, 'x') != NULL && v->registers[call->x] == NULL)
+	if (names(verb, "xX") && v->registers[call->x] == NULL)
 		return reply_of(EMPTY);
-	if (strchr(names, 'z') != NULL && (v->registers[call->z] == NULL || call->x == call->z))
+	if (names(verb, "Z") && (v->registers[call->z] == NULL || call->x == call->z))
 		return reply_of(EMPTY);
-	if (strchr(names, 'y') != NULL && v->registers[call->y] != NULL)
+	if (names(verb, "y") && v->registers[call->y] != NULL)
 		return reply_of(TAKEN);
-	if (strchr(names, 'w') != NULL)
+	if (names(verb, "w"))
 		return other->registers[call->y] != NULL ? reply_of(TAKEN) : transferred(v, other, call);
-	if (strchr(names, 'q') != NULL)
+	if (names(verb, "q"))
 		return act_on_queue(v, call);
-	if (strpbrk(names, "xy") != NULL)
+	if (names(verb, "xXy"))
 		return act_on_messages(v, call);
 	return act_on_pool(v, call);
 }

@@ -13,16 +13,12 @@
 #include <stdlib.h>
 #include <sys/mman.h>
 
-enum { FIRST, LAST, QUEUES };
-
-#define MBLKS 16
 #define READERS 4
 #define LOOKS 2000
 #define CHANGES 200
-#define CODES 64
 #define ROOM ((size_t)1 << 20)
 
-/* The pages of the pool: its handle is first, and what malloc returned follows. */
+/* The pages of the scene's pools: their handles are first, and what malloc returned follows. */
 static unsigned char *pages;
 static size_t used;
 
@@ -56,115 +52,42 @@ void __wrap_free(void *block)
 	(void)block;
 }
 
-/* What all looks answer at one time. */
+/* What all looks answer at one time: each as it is in the scene, and each that can name what is not there. */
 struct sight {
-	int codes[CODES];
-	int count;
+	int codes[2][VERBS];
+	struct results results[2][VERBS];
 	int open;
-	uint32_t yes[3], numbers[6];
-	size_t lengths[6];
-	char copied[8], queued_bytes[8], in_place[8];
-	const uint8_t *bytes;
-	struct strm_block_info block, blocks[4];
-	struct strm_block_place where;
-	struct strm_iov iov[4];
-	struct strm_msg named;
-	struct strm_queued queued;
-	struct strm_queue_spec spec;
-	struct strm_marks marks;
-	struct strm_wish wish;
-	struct strm_census census;
-	struct strm_class_info class_info;
-	struct strm_queue_info queue_info;
-	struct strm_band_info band;
+	char in_place[4];
 };
 
-/* The pool, a message that is held there, and what all looks answer. A thread that reads them has the read lock. */
+/* The scene, and what all looks answer. A thread that reads them has the read lock. */
 static struct {
 	pthread_rwlock_t lock;
-	struct strm_pool *pool;
-	struct strm_msg msg;
+	struct scene scene;
 	struct sight sight;
 } shared;
 
-#define SEE(call) s.codes[s.count++] = (call)
-
-/* The looks at the held message. */
-static struct sight seen_of_message(const struct strm_pool *pool, struct strm_msg msg, struct sight s)
+static void see(struct sight *sight)
 {
-	struct strm_msg other = msg;
+	struct scene scene = shared.scene;
+	int verb, is_spoilt;
 
-	other.stamp++;
-	SEE(strm_read(pool, msg, 1, s.copied, sizeof s.copied, &s.lengths[0]));
-	SEE(strm_read(pool, other, 1, s.copied, sizeof s.copied, &s.lengths[0]));
-	SEE(strm_size(pool, msg, &s.numbers[0]));
-	SEE(strm_size(pool, other, &s.numbers[0]));
-	SEE(strm_msgdsize(pool, msg, &s.numbers[1]));
-	SEE(strm_block(pool, msg, 1, &s.block));
-	SEE(strm_block(pool, msg, 9, &s.block));
-	SEE(strm_blocks(pool, msg, 0, s.blocks, 4, &s.lengths[1]));
-	SEE(strm_blocks(pool, other, 0, s.blocks, 4, &s.lengths[1]));
-	SEE(strm_has(pool, msg, &s.yes[0]));
-	SEE(strm_has(pool, other, &s.yes[1]));
-	SEE(strm_name_at(pool, msg.head, &s.named));
-	SEE(strm_name_at(pool, MBLKS, &s.named));
-	SEE(strm_bytes(pool, msg, 0, &s.bytes, &s.lengths[2]));
-	SEE(strm_bytes(pool, msg, 9, &s.bytes, &s.lengths[2]));
-	if (s.bytes != NULL)
-		memcpy(s.in_place, s.bytes, s.lengths[2] < sizeof s.in_place ? s.lengths[2] : sizeof s.in_place);
-	SEE(strm_iov(pool, msg, 0, s.iov, 4, &s.lengths[3]));
-	SEE(strm_iov(pool, other, 0, s.iov, 4, &s.lengths[3]));
-	SEE(strm_place(pool, msg, 1, &s.where));
-	SEE(strm_place(pool, msg, 9, &s.where));
-	return s;
-}
-
-/* The looks at queues. */
-static struct sight seen_of_queues(const struct strm_pool *pool, struct sight s)
-{
-	SEE(strm_qsize(pool, FIRST, &s.numbers[2]));
-	SEE(strm_qsize(pool, QUEUES, &s.numbers[2]));
-	SEE(strm_queued_at(pool, FIRST, 1, &s.queued));
-	SEE(strm_queued_at(pool, FIRST, 99, &s.queued));
-	SEE(strm_read_queued(pool, FIRST, 0, 0, s.queued_bytes, sizeof s.queued_bytes, &s.lengths[4]));
-	SEE(strm_read_queued(pool, LAST, 0, 0, s.queued_bytes, sizeof s.queued_bytes, &s.lengths[4]));
-	SEE(strm_first_queued(pool, FIRST, &s.numbers[3]));
-	SEE(strm_first_queued(pool, LAST, &s.numbers[3]));
-	SEE(strm_queued_after(pool, s.numbers[3], &s.numbers[4]));
-	SEE(strm_queued_after(pool, MBLKS, &s.numbers[4]));
-	SEE(strm_queue_spec(pool, LAST, &s.spec));
-	SEE(strm_queue_spec(pool, QUEUES, &s.spec));
-	SEE(strm_strqget(pool, FIRST, 3, &s.marks));
-	SEE(strm_strqget(pool, FIRST, STRM_BANDS, &s.marks));
-	SEE(strm_queue_info(pool, FIRST, &s.queue_info));
-	SEE(strm_queue_info(pool, QUEUES, &s.queue_info));
-	SEE(strm_band_info(pool, FIRST, 0, &s.band));
-	SEE(strm_band_info(pool, QUEUES, 0, &s.band));
-	SEE(strm_run_at(pool, 0, &s.numbers[5]));
-	SEE(strm_run_at(pool, 9, &s.numbers[5]));
-	return s;
-}
-
-/* What all looks answer, also some that are refused. */
-static struct sight seen_of(const struct strm_pool *pool, struct strm_msg msg)
-{
-	struct sight s;
-
-	memset(&s, 0, sizeof s);
-	s = seen_of_message(pool, msg, s);
-	s = seen_of_queues(pool, s);
-	s.open = strm_is_open(pool);
-	SEE(strm_testb(pool, 4, &s.yes[2]));
-	SEE(strm_wish_at(pool, 0, &s.wish));
-	SEE(strm_wish_at(pool, 9, &s.wish));
-	SEE(strm_census(pool, &s.census));
-	SEE(strm_class_info(pool, 1, &s.class_info));
-	SEE(strm_class_info(pool, 9, &s.class_info));
-	return s;
+	memset(sight, 0, sizeof *sight);
+	sight->open = strm_is_open(scene.pool);
+	for (verb = 0; verb < VERBS; verb++)
+		for (is_spoilt = 0; is_spoilt < 2 && forms[verb].is_look; is_spoilt++) {
+			set_call(&scene, verb);
+			if (is_spoilt && !spoil_call(&scene))
+				continue;
+			sight->codes[is_spoilt][verb] = look_made(&scene.call, scene.pool, &scene.a);
+			memcpy(&sight->results[is_spoilt][verb], &scene.results, sizeof scene.results);
+			if (verb == IOV && sight->codes[is_spoilt][verb] == STRM_OK)
+				memcpy(sight->in_place, scene.results.out.iov[1].base, scene.results.out.iov[1].length);
+		}
 }
 
 /* Looks many times, under the read lock. Returns null if each look answered as it does alone. */
-static void *look(void *given)
+static void *look_often(void *given)
 {
 	void *wrong = NULL;
 	struct sight sight;
@@ -172,7 +95,7 @@ static void *look(void *given)
 
 	for (round = 0; round < LOOKS; round++) {
 		pthread_rwlock_rdlock(&shared.lock);
-		sight = seen_of(shared.pool, shared.msg);
+		see(&sight);
 		if (memcmp(&sight, &shared.sight, sizeof sight) != 0)
 			wrong = given;
 		pthread_rwlock_unlock(&shared.lock);
@@ -184,20 +107,21 @@ static void *look(void *given)
 /* Changes the pool, and looks alone. */
 static void change(int round)
 {
-	struct strm_pool *pool = shared.pool;
+	struct strm_pool *pool = shared.scene.pool;
 	struct strm_msg msg = STRM_NO_MSG;
 	uint32_t id = 0;
-	char byte = (char)('a' + round % 26);
+	char bytes[7];
 
-	ANSWERS(strm_getq(pool, FIRST, &msg), STRM_OK);
+	memset(bytes, 'a' + round % 26, sizeof bytes);
+	ANSWERS(strm_getq(pool, 0, &msg), STRM_OK);
 	ANSWERS(strm_freemsg(pool, msg), STRM_OK);
 	ANSWERS(strm_allocb(pool, 8, &msg), STRM_OK);
-	ANSWERS(strm_write(pool, msg, 0, &byte, 1), STRM_OK);
-	ANSWERS(strm_putq(pool, FIRST, msg), STRM_OK);
-	ANSWERS(strm_overwrite(pool, shared.msg, 0, &byte, 1), STRM_OK);
+	ANSWERS(strm_write(pool, msg, 0, bytes, 1), STRM_OK);
+	ANSWERS(strm_putq(pool, 0, msg), STRM_OK);
+	ANSWERS(strm_overwrite(pool, shared.scene.x, 0, bytes, sizeof bytes), STRM_OK);
 	ANSWERS(strm_bufcall(pool, 8, &id), STRM_OK);
 	ANSWERS(strm_unbufcall(pool, id), STRM_OK);
-	shared.sight = seen_of(pool, shared.msg);
+	see(&shared.sight);
 }
 
 /* Looks in several threads, while this one makes this number of changes. */
@@ -207,9 +131,9 @@ static void look_together(int changes)
 	void *wrong;
 	int i;
 
-	shared.sight = seen_of(shared.pool, shared.msg);
+	see(&shared.sight);
 	for (i = 0; i < READERS; i++)
-		ANSWERS(pthread_create(&readers[i], NULL, look, &shared), 0);
+		ANSWERS(pthread_create(&readers[i], NULL, look_often, &shared), 0);
 	for (i = 0; i < changes; i++) {
 		pthread_rwlock_wrlock(&shared.lock);
 		change(i);
@@ -222,55 +146,38 @@ static void look_together(int changes)
 	}
 }
 
-/* The codes of the looks, if this many looks gave each code. */
-static int codes_are(int done, int none, int refused)
+/* Each look is done in the scene, unless it names what is not there; or the handle is not open. */
+static void check_codes(int is_open)
 {
-	int i, of_done = 0, of_none = 0;
+	int (*codes)[VERBS] = shared.sight.codes, verb;
 
-	for (i = 0; i < shared.sight.count; i++) {
-		of_done += shared.sight.codes[i] == STRM_OK;
-		of_none += shared.sight.codes[i] == STRM_NONE;
-	}
-	return of_done == done && of_none == none && shared.sight.count == done + none + refused;
-}
-
-/* Opens the pool, with a message that is held, two on a queue, and a wish. */
-static void prepare(void)
-{
-	static const struct strm_class_spec classes[] = { { 4, 8 }, { 8, 8 } };
-	static const struct strm_queue_spec queues[] = { { 64, 16, 1, LAST }, { 32, 8, 1, STRM_NO_QUEUE } };
-	static const struct strm_pool closed = STRM_POOL_INIT;
-	struct strm_config config = { 7, MBLKS, NULL, 2, NULL, QUEUES, 4, 1 };
-	uint32_t id;
-
-	config.classes = classes;
-	config.queues = queues;
-	*shared.pool = closed;
-	ANSWERS(strm_open(shared.pool, &config), STRM_OK);
-	shared.msg = message(shared.pool, "held");
-	ANSWERS(strm_linkb(shared.pool, shared.msg, message(shared.pool, "too")), STRM_OK);
-	ANSWERS(strm_putq(shared.pool, FIRST, message(shared.pool, "one")), STRM_OK);
-	ANSWERS(strm_putq(shared.pool, FIRST, message(shared.pool, "two")), STRM_OK);
-	ANSWERS(strm_bufcall(shared.pool, 8, &id), STRM_OK);
+	CHECK(shared.sight.open == is_open);
+	for (verb = 0; verb < VERBS; verb++)
+		if (forms[verb].is_look) {
+			ANSWERS(codes[0][verb], is_open ? STRM_OK : STRM_NOT_OPEN);
+			CHECK(!names(verb, "xqkme") || (is_open ? codes[1][verb] != STRM_OK : codes[1][verb] == STRM_NOT_OPEN));
+		}
 }
 
 int main(void)
 {
+	struct strm_pool *pools;
+
 	pages = (unsigned char *)mmap(NULL, ROOM, PROT_READ | PROT_WRITE, MAP_PRIVATE | MAP_ANONYMOUS, -1, 0);
 	CHECK(pages != (unsigned char *)MAP_FAILED && pthread_rwlock_init(&shared.lock, NULL) == 0);
-	shared.pool = (struct strm_pool *)pages;
-	used = sizeof *shared.pool;
-	prepare();
+	pools = (struct strm_pool *)pages;
+	used = 2 * sizeof *pools;
+	open_scene(&shared.scene, &pools[0], &pools[1], 7);
 	CHECK(used > 10000);
 	ANSWERS(mprotect(pages, ROOM, PROT_READ), 0);
 	look_together(0);
-	CHECK(shared.sight.open == 1 && shared.sight.lengths[2] == 4 && memcmp(shared.sight.in_place, "held", 4) == 0);
-	CHECK(codes_are(25, 5, 15));
+	CHECK(memcmp(shared.sight.in_place, "too", 3) == 0);
+	check_codes(1);
 	ANSWERS(mprotect(pages, ROOM, PROT_READ | PROT_WRITE), 0);
 	look_together(CHANGES);
-	ANSWERS(strm_close(shared.pool), STRM_OK);
+	ANSWERS(strm_close(shared.scene.pool), STRM_OK);
 	look_together(0);
-	CHECK(shared.sight.open == 0 && codes_are(0, 0, 45));
+	check_codes(0);
 	pthread_rwlock_destroy(&shared.lock);
 	munmap(pages, ROOM);
 	return summary();
