@@ -26,15 +26,21 @@ VERSION := $(shell cat VERSION)
 BUILT := crates/strm_driver/out/strm_driver
 # What is installed of what is built. tools/uninstall has another file installed, to learn the names of all that is.
 STRM := $(BUILT)
-ARCHIVE := build/libstrm.a
-SHARED := build/libstrm.so
+ARCHIVE = $(BUILD)/libstrm.a
+SHARED = $(BUILD)/libstrm.so
 # How benchmarks are started, which read the limits of strm in tools/strm_tools.
 BENCH := PYTHONPATH="$(CURDIR)/tools" python3
 # The program that measures rounds of calls, for bench-library and bench-c.
 ROUNDS := crates/strm_bench/out/strm_bench
 SOURCES := crates.txt HANDLES $(shell find crates -path '*/out' -prune -o \( -name '*.rt' -o -name '*.antt' \) -print)
+# The target of the library: nothing for x86-64, or aarch64-unknown-linux-gnu. Its processor, the tools that compile for it, and the folder of
+# what is built for it.
+TARGET ?=
+PROCESSOR := $(firstword $(subst -, ,$(TARGET)))
+TOOLS_FOR := $(addsuffix -linux-gnu-,$(PROCESSOR))
+BUILD := $(if $(TARGET),build/$(PROCESSOR),build)
 # The proved part of libstrm.a, which `rt lib` builds.
-PROVED := crates/strm_c/out/libstrm_c.a
+PROVED := $(if $(TARGET),$(BUILD)/libstrm_c.a,crates/strm_c/out/libstrm_c.a)
 # What programs that are linked with the shared library need when they run. The number rises if programs that were linked before would not run.
 SONAME := libstrm.so.0
 # The output of `rt` when it last proved and built the program.
@@ -47,7 +53,7 @@ MODULES := $(shell cd tools && find strm_tools -name __pycache__ -prune -o -type
 # Stops make with one line if there is no `rt`.
 NEEDS_RT = $(if $(shell command -v rt 2>/dev/null),,$(error no rt on PATH, so nothing is proved or built; the archive of a release has strm and libstrm.a, and make install-tools installs the tools that need Python alone (README.md, "Without rt")))
 
-.PHONY: run help try test check gate-times cases edits lint soak field view-test pages pictures bench bench-lines bench-library bench-batches bench-census bench-header bench-lock bench-c bench-peers strm install install-pages install-tools install-docs uninstall lib install-lib dist vendor
+.PHONY: run help try test test-arm check gate-times cases edits lint soak field view-test pages pictures bench bench-lines bench-library bench-batches bench-census bench-header bench-lock bench-c bench-peers strm install install-pages install-tools install-docs uninstall lib install-lib dist vendor
 
 # Runs examples/first_run.strm on the proved program (default). `make` alone does this and does not list rules, so that people who type `make`
 # and then `sudo make install` do not prove the program as root.
@@ -57,6 +63,11 @@ run: $(BUILT)
 # Lists these rules. What a line says is the first sentence of the comment above the rule.
 help:
 	@awk '/^#/ { text = text substr($$0, 2); next } /^[a-z-]+:/ && text { sub(/\. .*|\.$$/, "", text); sub(/:.*/, ""); printf "%-14s%s\n", $$0, text } { text = "" }' Makefile
+
+# Runs the tests of the library for ARM in an emulator. It needs Debian's gcc-aarch64-linux-gnu and qemu-user.
+test-arm:
+	@$(MAKE) -s lib TARGET=aarch64-unknown-linux-gnu
+	@tests/c/run --arm build/aarch64/libstrm.a
 
 # Executes SCRIPT, by default examples/first_run.strm, unproved. Of what `rt` says this shows only a failure.
 try:
@@ -211,29 +222,33 @@ install-docs:
 	install -d $(SHARE)/doc/strm
 	for name in README.md LICENSE docs examples; do rm -rf $(SHARE)/doc/strm/$$name && ln -s ../../strm/$$name $(SHARE)/doc/strm || exit; done
 
-# Builds the library for C, build/libstrm.a and build/libstrm.so. The pkg-config file is build/strm.pc.
-lib: build/libstrm.a build/libstrm.so build/strm.pc
+# Builds the library for C, build/libstrm.a and build/libstrm.so. With TARGET=aarch64-unknown-linux-gnu they are for ARM, in build/aarch64, by
+# Debian's gcc-aarch64-linux-gnu. The pkg-config file is build/strm.pc.
+lib: $(ARCHIVE) $(SHARED) build/strm.pc
 
-# The functions of the toolchain's heap, which get names that begin with strm_.
-HEAP := rattle_alloc rattle_realloc rattle_dealloc
-OBJCOPY ?= objcopy
+ifneq ($(TARGET),)
+CC := $(TOOLS_FOR)gcc
+AR := $(TOOLS_FOR)ar
+endif
+OBJCOPY ?= $(TOOLS_FOR)objcopy
 
-# The library is the proved part with tables for backtraces, c/strm.c, which checks pointers, and the toolchain's heap over malloc.
-build/libstrm.a: $(PROVED) c/strm.c c/strm_c.h c/strm.h tools/unwind_tables
-	$(NEEDS_RT)
-	@mkdir -p build
-	$(CC) -std=c89 -O2 -fPIC -Wall -Wextra -pedantic -Ic -c c/strm.c -o build/strm.o
-	cp $(PROVED) build/libstrm.a
-	cd build && $(AR) x libstrm.a strm_c.o && { ../tools/unwind_tables strm_c.o strm_c.o || echo "no backtraces from inside libstrm.a" >&2; }
-	cd build && $(AR) x "$$(dirname "$$(rt doc)")/c/liblibc_c.a" heap.pic.o
-	cd build && for object in strm_c.o heap.pic.o; do $(OBJCOPY) $(foreach name,$(HEAP),--redefine-sym $(name)=strm_$(name)) $$object || exit; done
-	cd build && $(AR) rD libstrm.a strm_c.o strm.o heap.pic.o
+# The library is the proved part, with tables for backtraces on x86-64, and the objects of C around it: one that checks pointers, the heap, and
+# what needs libc. The functions of the heap get the names that c/heap.c has.
+PARTS := strm heap malloc
+$(BUILD)/libstrm.a: $(PROVED) $(PARTS:%=c/%.c) c/heap.h c/strm_c.h c/strm.h tools/unwind_tables
+	@mkdir -p $(BUILD)
+	cp $(PROVED) $@
+	cd $(BUILD) && $(AR) x libstrm.a strm_c.o
+	$(if $(TARGET),,tools/unwind_tables build/strm_c.o build/strm_c.o || echo "no backtraces from inside libstrm.a" >&2)
+	cd $(BUILD) && $(OBJCOPY) $(foreach call,alloc realloc dealloc,--redefine-sym rattle_$(call)=strm_heap_$(call)) strm_c.o
+	for part in $(PARTS); do $(CC) -std=c89 -O2 -fPIC -Wall -Wextra -pedantic -Ic -c c/$$part.c -o $(BUILD)/$$part.o || exit; done
+	cd $(BUILD) && $(AR) rD libstrm.a strm_c.o $(PARTS:%=%.o)
 
 # The shared library has the same parts, and exports the calls of strm.h alone.
-build/libstrm.so: build/libstrm.a tools/c_symbols
-	tools/c_symbols >build/libstrm.map
-	cd build && $(CC) -shared -Wl,-soname,$(SONAME),--version-script,libstrm.map,-z,defs,-z,relro,-z,now -Wl,--whole-archive libstrm.a \
-		-Wl,--no-whole-archive -o libstrm.so
+$(BUILD)/libstrm.so: $(BUILD)/libstrm.a tools/c_symbols
+	tools/c_symbols >$(BUILD)/libstrm.map
+	cd $(BUILD) && $(CC) -shared -Wl,-soname,$(SONAME),--version-script,libstrm.map,-z,defs,-z,relro,-z,now \
+		-Wl,--whole-archive libstrm.a -Wl,--no-whole-archive -o libstrm.so
 
 # What the Debian package says of it.
 build/libstrm.symbols: c/strm.h tools/c_symbols
@@ -279,10 +294,17 @@ dist:
 vendor:
 	@$(if $(TO),,$(error make vendor TO=DIR wants the top of a repository))tools/vendor $(CRATE) $(TO)
 
-# Only a proved library is built.
+# Only a proved library is built. `rt lib` has one place for all targets, where what it built for x86-64 stays.
 $(PROVED): $(SOURCES)
 	$(NEEDS_RT)
+ifeq ($(TARGET),)
 	@tools/prove strm_c build/proving_library.log rt lib
+else
+	@mkdir -p $(BUILD)
+	@at=crates/strm_c/out/libstrm_c.a; { [ ! -f $$at ] || mv $$at $(BUILD)/kept.a; } && \
+		tools/prove strm_c build/proving_library.log rt lib --target $(TARGET) && mv $$at $@; status=$$?; \
+		{ [ ! -f $(BUILD)/kept.a ] || mv $(BUILD)/kept.a $$at; } && exit $$status
+endif
 
 # Only a proved program is built. `rt run` keeps its work, and runs the program once.
 $(BUILT): $(SOURCES)

@@ -5,6 +5,7 @@
  * would clear a handle that is not open. Calls that need no pool are here alone: they compare names, and return a text that the
  * crate could only copy.
  */
+#include "heap.h"
 #include "strm_c.h"
 
 /* The greatest length of an object. */
@@ -141,24 +142,39 @@ int strm_is_open(const struct strm_pool *pool)
 	return is_open(pool);
 }
 
-int strm_open(struct strm_pool *pool, const struct strm_config *config)
+int strm_memory(const struct strm_config *config, size_t *bytes)
 {
+	int code;
+
+	if (!is_config(config) || bytes == NULL)
+		return STRM_BAD_ARGUMENT;
+	code = strm_c_memory(config->id, config->mblks, classes_of(config), config->class_count, queues_of(config),
+		config->queue_count, config->bufcalls, config->first_id, bytes);
+	if (code == STRM_OK)
+		*bytes += strm_region_more(config);
+	return code;
+}
+
+int strm_open_with(struct strm_pool *pool, const struct strm_config *config, const struct strm_allocator *allocator)
+{
+	size_t bytes;
+	int code;
+
 	if (pool == NULL)
 		return STRM_NOT_OPEN;
 	if (is_open(pool))
 		return STRM_IS_OPEN;
-	if (!is_config(config))
+	if (allocator == NULL || allocator->allocate == NULL || allocator->release == NULL)
 		return STRM_BAD_ARGUMENT;
-	return strm_c_open(pool, config->id, config->mblks, classes_of(config), config->class_count, queues_of(config),
+	code = strm_memory(config, &bytes);
+	if (code != STRM_OK)
+		return code;
+	if (!strm_region_begin(allocator, bytes))
+		return STRM_NO_MEMORY;
+	code = strm_c_open(pool, config->id, config->mblks, classes_of(config), config->class_count, queues_of(config),
 		config->queue_count, config->bufcalls, config->first_id);
-}
-
-int strm_memory(const struct strm_config *config, size_t *bytes)
-{
-	if (!is_config(config) || bytes == NULL)
-		return STRM_BAD_ARGUMENT;
-	return strm_c_memory(config->id, config->mblks, classes_of(config), config->class_count, queues_of(config),
-		config->queue_count, config->bufcalls, config->first_id, bytes);
+	strm_region_end();
+	return code;
 }
 
 int strm_close(struct strm_pool *pool)

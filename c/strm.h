@@ -147,9 +147,9 @@
  *     `state` is STRM_POOL_OPEN counts as open, even if by chance; any other is not open.
  *   - An open handle may be moved, but not used at two places: the library can't tell a copy from
  *     the handle. The caller does not write to its fields.
- *   - malloc, realloc and free are of one allocator. It aligns what it returns for any object that
- *     fits.
- *   - Memory that malloc returned is there. A system that promises more memory than it has
+ *   - malloc and free are of one allocator, which aligns to 16 bytes. No other code uses memory that
+ *     an allocator of the caller's returned, until it is released.
+ *   - Memory that an allocator returned is there. A system that promises more memory than it has
  *     (overcommit) may end the process instead.
  *
  *
@@ -327,6 +327,17 @@ struct strm_config {
 	uint32_t first_id;		/* the id of the first wish, above 0, also if bufcalls is 0 */
 };
 
+/* Where strm_open_with takes a pool's memory from. */
+struct strm_allocator {
+	/*
+	 * Returns an address of `bytes` bytes for this pool alone, at a multiple of `align`, or null. It may
+	 * be called from each thread that opens a pool with it, as may the next.
+	 */
+	void *(*allocate)(void *context, size_t bytes, size_t align);
+	void (*release)(void *context, void *at, size_t bytes);	/* takes back what allocate returned */
+	void *context;			/* passed to both; it must be there until the pool is closed */
+};
+
 /* The numbers of message blocks. */
 struct strm_census {
 	uint32_t free;
@@ -436,9 +447,18 @@ int strm_iov_(const struct strm_pool *pool, struct strm_msg msg, uint32_t from, 
 int strm_open(struct strm_pool *pool, const struct strm_config *config);
 
 /*
- * Sets *bytes to the number of bytes that strm_open allocates for this configuration: the sum of
- * what it asks of malloc, in at most 32 calls of it. What malloc itself adds is not counted. This
- * call allocates nothing.
+ * Opens a pool as strm_open does, in memory of the caller's. It calls `allocate` once, for as many
+ * bytes as strm_memory returns and 16 as the alignment. strm_close calls `release` once, and so does
+ * this call if it fails after that. The allocator is copied. The bytes of each size class begin at
+ * a multiple of 64. Since 0.3.0.
+ * Refused as strm_open. A null allocator, or a null function in it, is STRM_BAD_ARGUMENT. A null
+ * address is STRM_NO_MEMORY, as is one that is no multiple of 16, which is released.
+ */
+int strm_open_with(struct strm_pool *pool, const struct strm_config *config, const struct strm_allocator *allocator);
+
+/*
+ * Sets *bytes to the number of bytes that strm_open allocates for this configuration, by one call
+ * of malloc. What malloc itself adds is not counted. This call allocates nothing.
  * Refused as STRM_BAD_ARGUMENT, or the first fault from STRM_BAD_MBLKS to STRM_BAD_FIRST_ID, as by
  * strm_open.
  */

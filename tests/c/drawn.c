@@ -5,7 +5,12 @@
  *     drawn CALLS SEED            compares. The last line is 'N passed, M failed', which counts pairs of pools. One more fails if an answer
  *                                 never came in a million calls.
  *     drawn CALLS SEED SCRIPT     writes a script of calls on one pool, and prints the model's replies, a line each.
+ *
+ * With -DIN_ARRAY pools are in static arrays, with -DIN_HUGE_PAGE in huge pages.
  */
+#if defined IN_HUGE_PAGE && !defined _GNU_SOURCE
+#define _GNU_SOURCE
+#endif
 #include "face.h"
 #include "model.h"
 
@@ -426,7 +431,89 @@ static int run_calls(struct side *sides, unsigned long calls)
 	return all_empty(sides, calls);
 }
 
-static int opens(struct side *side, uint32_t id)
+/* ---- where pools are */
+
+#if defined IN_ARRAY || defined IN_HUGE_PAGE
+#include "arena.h"
+
+#define ROOM ((size_t)1 << 21)
+
+/* The memory of each pool of a pair. */
+static struct arena arenas[2];
+
+#ifdef IN_HUGE_PAGE
+#include <sys/mman.h>
+
+/* Whether each arena is in a huge page, which it gets with its first byte. */
+static int find_memory(void)
+{
+	unsigned char *at = (unsigned char *)mmap(NULL, 3 * ROOM, PROT_READ | PROT_WRITE, MAP_PRIVATE | MAP_ANONYMOUS, -1, 0);
+	FILE *maps = fopen("/proc/self/smaps", "r");
+	unsigned long kilobytes, huge = 0;
+	char line[256];
+	int i;
+
+	if (at == MAP_FAILED || maps == NULL)
+		return 0;
+	at += (ROOM - (size_t)at % ROOM) % ROOM;
+	madvise(at, 2 * ROOM, MADV_HUGEPAGE);
+	for (i = 0; i < 2; i++) {
+		arenas[i].at = at + (size_t)i * ROOM;
+		arenas[i].at[0] = 0;
+	}
+	while (fgets(line, sizeof line, maps) != NULL)
+		if (sscanf(line, "AnonHugePages: %lu kB", &kilobytes) == 1)
+			huge += kilobytes;
+	fclose(maps);
+	return huge >= 2 * ROOM / 1024;
+}
+#else
+static int find_memory(void)
+{
+	static unsigned char array[2][ROOM];
+	int i;
+
+	for (i = 0; i < 2; i++)
+		arenas[i].at = array[i];
+	return 1;
+}
+#endif
+
+static int open_pool(struct strm_pool *pool, const struct strm_config *config, int at)
+{
+	struct strm_allocator allocator = allocator_of(&arenas[at]);
+
+	arenas[at].size = ROOM;
+	return strm_open_with(pool, config, &allocator);
+}
+
+/* Whether all memory of a closed pool came back, and nothing around it was touched. */
+static int is_whole(int at)
+{
+	return arenas[at].kept == 0 && arenas[at].broken == 0 && arenas[at].asked > 0;
+}
+#else
+static int find_memory(void)
+{
+	return 1;
+}
+
+static int open_pool(struct strm_pool *pool, const struct strm_config *config, int at)
+{
+	(void)at;
+	return strm_open(pool, config);
+}
+
+static int is_whole(int at)
+{
+	(void)at;
+	return 1;
+}
+#endif
+
+/* ---- runs */
+
+static int opens(struct side *side, uint32_t id, int at)
 {
 	static const struct strm_pool closed = STRM_POOL_INIT;
 
@@ -434,7 +521,7 @@ static int opens(struct side *side, uint32_t id)
 	side->face.pool = closed;
 	draw_setup(&side->setup, id);
 	side->model = model_open(&side->setup.config);
-	if (side->model != NULL && strm_open(&side->face.pool, &side->setup.config) == STRM_OK)
+	if (side->model != NULL && open_pool(&side->face.pool, &side->setup.config, at) == STRM_OK)
 		return 1;
 	printf("no memory\n");
 	return 0;
@@ -452,11 +539,11 @@ static int run_pools(uint32_t id, unsigned long calls)
 	int passed, at;
 
 	for (at = 0; at < 2; at++)
-		if (!opens(&sides[at], 2 * id + (uint32_t)at))
+		if (!opens(&sides[at], 2 * id + (uint32_t)at, at))
 			return 0;
 	passed = run_calls(sides, calls);
 	for (at = 0; at < 2; at++)
-		passed &= closes(&sides[at]);
+		passed &= closes(&sides[at]) && is_whole(at);
 	return passed;
 }
 
@@ -493,6 +580,10 @@ int main(int argc, char **argv)
 	state = 0x9E3779B97F4A7C15u ^ strtoul(argv[2], NULL, 10);
 	if (argc > 3)
 		return write_script(argv[3], calls);
+	if (!find_memory()) {
+		printf("not run: the system gives no huge page\n");
+		return EXIT_FAILURE;
+	}
 	for (done = 0; done < calls; done += CALLS_OF_A_POOL)
 		if (run_pools((uint32_t)(passed + 1), calls - done < CALLS_OF_A_POOL ? calls - done : CALLS_OF_A_POOL))
 			passed++;

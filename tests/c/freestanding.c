@@ -1,47 +1,39 @@
 /*
- * A program without libc, which brings the six functions that the library needs. It passes a message through a queue and frees it, and its
+ * A program without libc, which brings the four functions that the library needs. It passes a message through a queue and frees it, and its
  * status is 0 if each call did what it should. x86-64 Linux only, since it begins and ends without libc, too.
  *
  *     cc -ffreestanding -nostdlib -static freestanding.c libstrm.a
  */
 #include "strm.h"
 
-/* All memory that there is, which malloc hands out once from front to back. */
-static unsigned char memory[1 << 18] __attribute__((aligned(16)));
-static size_t taken, calls;
+/* All memory that there is, for one pool. */
+static unsigned char memory[1 << 14] __attribute__((aligned(16)));
+static size_t taken;
+static int is_released;
 
-void *malloc(size_t size);
-void *realloc(void *block, size_t size);
-void free(void *block);
 void *memcpy(void *to, const void *from, size_t size);
 void *memmove(void *to, const void *from, size_t size);
 void *memset(void *to, int byte, size_t size);
 void start(void);
 
-void *malloc(size_t size)
+static void *take(void *context, size_t size, size_t align)
 {
-	size_t at = (taken + 15) / 16 * 16;
-
-	if (size > sizeof memory - at)
-		return NULL;
-	calls++;
-	taken = at + size;
-	return (unsigned char *)memory + at;
+	(void)align;
+	taken = size;
+	return size <= sizeof memory ? context : NULL;
 }
 
-/* The new place may lie behind the end of the old one, so this copies too much, but nothing from outside. */
-void *realloc(void *block, size_t size)
+static void release(void *context, void *at, size_t size)
 {
-	unsigned char *from = (unsigned char *)block, *to = (unsigned char *)malloc(size);
-
-	if (to == NULL || from == NULL)
-		return to;
-	return memmove(to, from, size < (size_t)(to - from) ? size : (size_t)(to - from));
+	is_released = at == context && size == taken;
 }
 
-void free(void *block)
+/* There is one thread. */
+void **strm_opening(void)
 {
-	(void)block;
+	static void *place;
+
+	return &place;
 }
 
 void *memcpy(void *to, const void *from, size_t size)
@@ -78,6 +70,7 @@ static int run(void)
 {
 	static const struct strm_class_spec classes[] = { { 16, 4 } };
 	static const struct strm_queue_spec queues[] = { { 10, 4, 1, STRM_NO_QUEUE } };
+	static const struct strm_allocator allocator = { take, release, memory };
 	struct strm_pool pool = STRM_POOL_INIT;
 	struct strm_config config = { 1, 4, NULL, 1, NULL, 1, 0, 1 };
 	struct strm_msg msg;
@@ -88,10 +81,9 @@ static int run(void)
 
 	config.classes = classes;
 	config.queues = queues;
-	if (strm_open(&pool, &config) != STRM_OK)
+	if (strm_open_with(&pool, &config, &allocator) != STRM_OK)
 		return 1;
-	/* what this malloc adds is at most 15 bytes for each call */
-	if (strm_memory(&config, &count) != STRM_OK || taken < count || taken > count + 15 * calls || calls > 32)
+	if (strm_memory(&config, &count) != STRM_OK || count != taken)
 		return 9;
 	if (strm_allocb(&pool, 4, &msg) != STRM_OK || strm_write(&pool, msg, 0, "lion", 4) != STRM_OK)
 		return 2;
@@ -105,7 +97,7 @@ static int run(void)
 		return 6;
 	if (strm_census(&pool, &census) != STRM_OK || census.free != 4)
 		return 7;
-	return strm_close(&pool) == STRM_OK ? 0 : 8;
+	return strm_close(&pool) == STRM_OK && is_released ? 0 : 8;
 }
 
 /* Where the program begins, with the stack where a call leaves it. It ends by the system call exit. */

@@ -1,0 +1,38 @@
+/* The memory of pools, for heap.c, strm.c and malloc.c only. */
+#ifndef HEAP_H
+#define HEAP_H
+
+#include "strm.h"
+
+/* libstrm.so keeps these to itself. */
+#pragma GCC visibility push(hidden)
+
+/* What the three functions of the toolchain's heap return: whether it is done, and an address that is never null. */
+struct strm_tried {
+	size_t is_done;
+	void *at;
+};
+
+struct strm_tried strm_heap_alloc(size_t size, size_t align);
+struct strm_tried strm_heap_realloc(void *at, size_t kept, size_t size, size_t align);
+void strm_heap_dealloc(void *at);
+
+/*
+ * Takes a region of `size` bytes from an allocator for the pieces that this thread allocates until strm_region_end. Returns 0 if it
+ * gets none. The region is released with its last piece, or by strm_region_end if there is none.
+ */
+int strm_region_begin(const struct strm_allocator *allocator, size_t size);
+void strm_region_end(void);
+
+/*
+ * Returns the address of a pointer that is null at first, and another one for each thread that may open a pool meanwhile. A program without
+ * libc defines it.
+ */
+void **strm_opening(void);
+
+/* The bytes that a region needs beside those of its pieces. */
+size_t strm_region_more(const struct strm_config *config);
+
+#pragma GCC visibility pop
+
+#endif

@@ -1,0 +1,324 @@
+/*
+ * The memory of pools: strm_open_with takes all of a pool's from its allocator, in one piece as large as strm_memory returns, and it comes back
+ * once. Pools of different allocators stay apart, also in threads. The linker puts the functions below between the proved code and c/heap.c:
+ * they look at each piece, and refuse one. The last line is as in each.c.
+ */
+#include "arena.h"
+#include "check.h"
+
+#include <pthread.h>
+#include <stdint.h>
+
+#define ROOM ((size_t)1 << 21)
+#define THREADS 4
+#define MOST_PIECES 64
+
+struct tried {
+	size_t is_done;
+	void *at;
+};
+
+#ifdef __cplusplus
+extern "C" {
+#endif
+struct tried __real_strm_heap_alloc(size_t size, size_t align);
+struct tried __real_strm_heap_realloc(void *at, size_t kept, size_t size, size_t align);
+void __real_strm_heap_dealloc(void *at);
+struct tried __wrap_strm_heap_alloc(size_t size, size_t align);
+struct tried __wrap_strm_heap_realloc(void *at, size_t kept, size_t size, size_t align);
+void __wrap_strm_heap_dealloc(void *at);
+#ifdef __cplusplus
+}
+#endif
+
+static unsigned char rooms[THREADS][ROOM];
+
+/* The pieces of the pool that is watched, how many were asked for, and which is refused, counted from 1. */
+static struct {
+	unsigned char *at;
+	size_t size;
+} pieces[MOST_PIECES];
+static int watched, asked, refused, moved;
+static const struct arena *home;
+
+/* A piece is aligned, in what the allocator returned, and overlaps no other; then each of its bytes is written. */
+static void look_at(unsigned char *at, size_t size, size_t align)
+{
+	int i;
+
+	CHECK(at != NULL && (size_t)at % align == 0);
+	CHECK(at >= home->at + FENCE && at + size <= home->at + home->used);
+	for (i = 0; i < asked; i++)
+		CHECK(pieces[i].at == NULL || at + size <= pieces[i].at || pieces[i].at + pieces[i].size <= at);
+	memset(at, 0x5A, size);
+}
+
+struct tried __wrap_strm_heap_alloc(size_t size, size_t align)
+{
+	struct tried tried;
+
+	if (!watched)
+		return __real_strm_heap_alloc(size, align);
+	CHECK(align > 0 && 16 % align == 0 && asked < MOST_PIECES);
+	tried = __real_strm_heap_alloc(size, align);
+	CHECK(tried.is_done == 1);
+	look_at((unsigned char *)tried.at, size, align);
+	if (asked + 1 == refused) {
+		__real_strm_heap_dealloc(tried.at);
+		tried.is_done = 0;
+		pieces[asked].at = NULL;
+	} else {
+		pieces[asked].at = (unsigned char *)tried.at;
+	}
+	pieces[asked++].size = size;
+	return tried;
+}
+
+struct tried __wrap_strm_heap_realloc(void *at, size_t kept, size_t size, size_t align)
+{
+	moved++;
+	return __real_strm_heap_realloc(at, kept, size, align);
+}
+
+void __wrap_strm_heap_dealloc(void *at)
+{
+	int i, known = 0;
+
+	for (i = 0; watched && i < asked; i++)
+		if (pieces[i].at == at) {
+			pieces[i].at = NULL;
+			known++;
+		}
+	if (watched)
+		CHECK(known == 1);
+	__real_strm_heap_dealloc(at);
+}
+
+/* A configuration with so many classes and queues. */
+struct form {
+	struct strm_config config;
+	struct strm_class_spec classes[STRM_MOST_CLASSES];
+	struct strm_queue_spec queues[STRM_MOST_QUEUES];
+};
+
+static void fill(struct form *form, size_t classes, size_t queues, uint32_t mblks)
+{
+	size_t i;
+
+	for (i = 0; i < classes; i++) {
+		form->classes[i].size = (uint32_t)(64 * (i + 1) - i % 2);
+		form->classes[i].count = (uint32_t)(9 - i);
+	}
+	for (i = 0; i < queues; i++) {
+		form->queues[i].hiwat = 2;
+		form->queues[i].lowat = 1;
+		form->queues[i].service = 0;
+		form->queues[i].next = STRM_NO_QUEUE;
+	}
+	form->config.id = 7;
+	form->config.mblks = mblks;
+	form->config.classes = form->classes;
+	form->config.class_count = classes;
+	form->config.queues = form->queues;
+	form->config.queue_count = queues;
+	form->config.bufcalls = STRM_MOST_WISHES;
+	form->config.first_id = 1;
+}
+
+/* Opens, uses and closes a pool whose pieces are watched. */
+static void open_watched(const struct strm_config *config, struct arena *arena)
+{
+	struct strm_allocator allocator = allocator_of(arena);
+	struct strm_pool pool = STRM_POOL_INIT;
+	size_t bytes;
+
+	asked = 0;
+	watched = 1;
+	ANSWERS(strm_memory(config, &bytes), STRM_OK);
+	ANSWERS(strm_open_with(&pool, config, &allocator), STRM_OK);
+	CHECK(arena->asked_bytes == bytes && arena->kept == 1);
+	watched = 0;
+	ANSWERS(strm_freemsg(&pool, message(&pool, "strm")), STRM_OK);
+	watched = 1;
+	ANSWERS(strm_close(&pool), STRM_OK);
+	watched = 0;
+	CHECK(arena->kept == 0);
+}
+
+/* Each piece refused in turn: no pool, and no memory is kept. */
+static void refuse_each_piece(const struct strm_config *config, struct arena *arena)
+{
+	struct strm_allocator allocator = allocator_of(arena);
+	struct strm_pool pool = STRM_POOL_INIT;
+	int last = asked;
+
+	for (refused = 1; refused <= last; refused++) {
+		asked = 0;
+		watched = 1;
+		ANSWERS(strm_open_with(&pool, config, &allocator), STRM_NO_MEMORY);
+		watched = 0;
+		CHECK(!strm_is_open(&pool) && arena->kept == 0 && asked == refused);
+	}
+	refused = 0;
+}
+
+/* Pools with each number of classes and of queues, and the pieces of each. */
+static void open_each(struct arena *arena)
+{
+	struct form form;
+	size_t i;
+
+	for (i = 0; i < STRM_MOST_CLASSES * STRM_MOST_QUEUES; i++) {
+		fill(&form, 1 + i % STRM_MOST_CLASSES, 1 + i / STRM_MOST_CLASSES, (uint32_t)(1 + 128 * i));
+		open_watched(&form.config, arena);
+		if (i % 41 == 0)
+			refuse_each_piece(&form.config, arena);
+	}
+	CHECK(moved == 0);
+}
+
+static void *misaligned(void *context, size_t bytes, size_t align)
+{
+	return (unsigned char *)arena_allocate(context, bytes, align) + align / 2;
+}
+
+static void release_misaligned(void *context, void *at, size_t bytes)
+{
+	arena_release(context, (unsigned char *)at - 8, bytes);
+}
+
+/* What is refused, and in which order. */
+static void refuse(struct arena *arena)
+{
+	struct strm_allocator allocator = allocator_of(arena), none = allocator;
+	struct strm_pool pool = STRM_POOL_INIT;
+	struct form form;
+	long before = arena->asked;
+
+	fill(&form, 1, 1, 1);
+	form.config.first_id = 0;
+	ANSWERS(strm_open_with(NULL, NULL, NULL), STRM_NOT_OPEN);
+	ANSWERS(strm_open_with(&pool, NULL, &allocator), STRM_BAD_ARGUMENT);
+	ANSWERS(strm_open_with(&pool, &form.config, NULL), STRM_BAD_ARGUMENT);
+	none.allocate = NULL;
+	ANSWERS(strm_open_with(&pool, &form.config, &none), STRM_BAD_ARGUMENT);
+	none = allocator;
+	none.release = NULL;
+	ANSWERS(strm_open_with(&pool, &form.config, &none), STRM_BAD_ARGUMENT);
+	ANSWERS(strm_open_with(&pool, &form.config, &allocator), STRM_BAD_FIRST_ID);
+	CHECK(arena->asked == before);
+	form.config.first_id = 1;
+	arena->refused = before + 1;
+	ANSWERS(strm_open_with(&pool, &form.config, &allocator), STRM_NO_MEMORY);
+	CHECK(arena->asked == before + 1 && arena->kept == 0);
+	none.allocate = misaligned;
+	none.release = release_misaligned;
+	ANSWERS(strm_open_with(&pool, &form.config, &none), STRM_NO_MEMORY);
+	CHECK(arena->asked == before + 2 && arena->kept == 0 && !strm_is_open(&pool));
+	ANSWERS(strm_open_with(&pool, &form.config, &allocator), STRM_OK);
+	ANSWERS(strm_open_with(&pool, NULL, NULL), STRM_IS_OPEN);
+	ANSWERS(strm_close(&pool), STRM_OK);
+}
+
+/* The bytes of a class begin at a multiple of 64, so those of each block do where the class's size is one. */
+static void find_lines(struct arena *arena)
+{
+	struct strm_allocator allocator = allocator_of(arena);
+	struct strm_pool pool = STRM_POOL_INIT;
+	struct strm_msg msg;
+	const uint8_t *bytes;
+	struct form form;
+	size_t length, i;
+
+	fill(&form, STRM_MOST_CLASSES, 1, 40);
+	form.config.first_id = 1;
+	ANSWERS(strm_open_with(&pool, &form.config, &allocator), STRM_OK);
+	for (i = 0; i < STRM_MOST_CLASSES; i += 2)
+		do {
+			ANSWERS(strm_allocb(&pool, form.classes[i].size, &msg), STRM_OK);
+			ANSWERS(strm_bytes(&pool, msg, 0, &bytes, &length), STRM_OK);
+			CHECK((size_t)bytes % 64 == 0);
+		} while (--form.classes[i].count > 0);
+	ANSWERS(strm_close(&pool), STRM_OK);
+}
+
+/* A thread opens pools in memory of its own, and finds all bytes there. It returns what it got, or null. */
+static void *open_in(void *context)
+{
+	struct arena *arena = (struct arena *)context;
+	struct strm_allocator allocator = allocator_of(arena);
+	struct strm_pool pool = STRM_POOL_INIT;
+	const uint8_t *bytes;
+	struct strm_msg msg;
+	struct form form;
+	size_t length, i;
+
+	for (i = 0; i < 2000; i++) {
+		fill(&form, 1 + i % 3, 1 + i % 5, (uint32_t)(1 + i % 70));
+		if (strm_open_with(&pool, &form.config, &allocator) != STRM_OK || strm_allocb(&pool, 8, &msg) != STRM_OK
+		    || strm_write(&pool, msg, 0, &i, sizeof i) != STRM_OK || strm_bytes(&pool, msg, 0, &bytes, &length) != STRM_OK
+		    || bytes < arena->at || bytes + length > arena->at + arena->size || memcmp(bytes, &i, sizeof i) != 0
+		    || strm_close(&pool) != STRM_OK || arena->kept != 0)
+			return NULL;
+	}
+	return context;
+}
+
+static void open_in_threads(struct arena *arenas)
+{
+	pthread_t threads[THREADS];
+	void *found;
+	int i;
+
+	for (i = 0; i < THREADS; i++)
+		CHECK(pthread_create(&threads[i], NULL, open_in, &arenas[i]) == 0);
+	for (i = 0; i < THREADS; i++) {
+		CHECK(pthread_join(threads[i], &found) == 0);
+		CHECK(found == &arenas[i] && arenas[i].broken == 0);
+	}
+}
+
+/* Two pools with two allocators, and one with malloc, open at the same time. */
+static void stay_apart(struct arena *arenas)
+{
+	struct strm_allocator first = allocator_of(&arenas[0]), second = allocator_of(&arenas[1]);
+	struct strm_pool pools[3] = { STRM_POOL_INIT, STRM_POOL_INIT, STRM_POOL_INIT };
+	struct strm_msg msgs[3];
+	struct form form;
+	int i;
+
+	fill(&form, 2, 2, 10);
+	ANSWERS(strm_open_with(&pools[0], &form.config, &first), STRM_OK);
+	form.config.id++;
+	ANSWERS(strm_open(&pools[1], &form.config), STRM_OK);
+	form.config.id++;
+	ANSWERS(strm_open_with(&pools[2], &form.config, &second), STRM_OK);
+	memset(&first, 0, sizeof first);
+	for (i = 0; i < 3; i++)
+		msgs[i] = message(&pools[i], "apart");
+	ANSWERS(strm_transfer(&pools[0], &pools[2], msgs[0], &msgs[0]), STRM_OK);
+	ANSWERS(strm_close(&pools[0]), STRM_OK);
+	CHECK(arenas[0].kept == 0 && arenas[1].kept == 1);
+	CHECK(has_bytes(&pools[1], msgs[1], "apart") && has_bytes(&pools[2], msgs[0], "apart"));
+	ANSWERS(strm_close(&pools[2]), STRM_OK);
+	CHECK(arenas[1].kept == 0);
+	ANSWERS(strm_close(&pools[1]), STRM_OK);
+}
+
+int main(void)
+{
+	static struct arena arenas[THREADS];
+	int i;
+
+	for (i = 0; i < THREADS; i++) {
+		arenas[i].at = rooms[i];
+		arenas[i].size = ROOM;
+	}
+	home = &arenas[0];
+	open_each(&arenas[0]);
+	refuse(&arenas[0]);
+	find_lines(&arenas[0]);
+	stay_apart(arenas);
+	open_in_threads(arenas);
+	return summary();
+}
