@@ -6,26 +6,23 @@
 #include "arena.h"
 #include "check.h"
 
+#include "../../c/heap.h"
+
 #include <pthread.h>
-#include <stdint.h>
+#include <stdlib.h>
 
 #define ROOM ((size_t)1 << 21)
 #define THREADS 4
 #define MOST_PIECES 64
 
-struct tried {
-	size_t is_done;
-	void *at;
-};
-
 #ifdef __cplusplus
 extern "C" {
 #endif
-struct tried __real_strm_heap_alloc(size_t size, size_t align);
-struct tried __real_strm_heap_realloc(void *at, size_t kept, size_t size, size_t align);
+struct strm_tried __real_strm_heap_alloc(size_t size, size_t align);
+struct strm_tried __real_strm_heap_realloc(void *at, size_t kept, size_t size, size_t align);
 void __real_strm_heap_dealloc(void *at);
-struct tried __wrap_strm_heap_alloc(size_t size, size_t align);
-struct tried __wrap_strm_heap_realloc(void *at, size_t kept, size_t size, size_t align);
+struct strm_tried __wrap_strm_heap_alloc(size_t size, size_t align);
+struct strm_tried __wrap_strm_heap_realloc(void *at, size_t kept, size_t size, size_t align);
 void __wrap_strm_heap_dealloc(void *at);
 #ifdef __cplusplus
 }
@@ -38,8 +35,16 @@ static struct {
 	unsigned char *at;
 	size_t size;
 } pieces[MOST_PIECES];
-static int watched, asked, refused, moved;
+static int watched, asked, refused_piece, moved;
 static const struct arena *home;
+
+/* A check without which the program can't go on. */
+#define NEED(what) \
+	do { \
+		CHECK(what); \
+		if (!(what)) \
+			exit(summary()); \
+	} while (0)
 
 /* A piece is aligned, in what the allocator returned, and overlaps no other; then each of its bytes is written. */
 static void look_at(unsigned char *at, size_t size, size_t align)
@@ -47,23 +52,50 @@ static void look_at(unsigned char *at, size_t size, size_t align)
 	int i;
 
 	CHECK(at != NULL && (size_t)at % align == 0);
-	CHECK(at >= home->at + FENCE && at + size <= home->at + home->used);
+	NEED(at >= home->at + FENCE && at + size <= home->at + home->used);
 	for (i = 0; i < asked; i++)
-		CHECK(pieces[i].at == NULL || at + size <= pieces[i].at || pieces[i].at + pieces[i].size <= at);
+		NEED(pieces[i].at == NULL || at + size <= pieces[i].at || pieces[i].at + pieces[i].size <= at);
 	memset(at, 0x5A, size);
 }
 
-struct tried __wrap_strm_heap_alloc(size_t size, size_t align)
+static void *opening_elsewhere(void *context)
 {
-	struct tried tried;
+	(void)context;
+	return *strm_opening();
+}
+
+/* Too large a piece is refused, but its address is not null. Another thread opens no pool meanwhile. */
+static void ask_beside(size_t align)
+{
+	static const size_t sizes[] = { ROOM, (size_t)-1 / 2, (size_t)-1 };
+	struct strm_tried tried;
+	pthread_t thread;
+	void *found;
+	size_t i;
+
+	for (i = 0; i < sizeof sizes / sizeof sizes[0]; i++) {
+		tried = __real_strm_heap_alloc(sizes[i], align);
+		NEED(tried.is_done == 0 && tried.at != NULL);
+	}
+	if (asked == 0 && *strm_opening() != NULL) {
+		CHECK(pthread_create(&thread, NULL, opening_elsewhere, NULL) == 0);
+		CHECK(pthread_join(thread, &found) == 0);
+		NEED(found == NULL);
+	}
+}
+
+struct strm_tried __wrap_strm_heap_alloc(size_t size, size_t align)
+{
+	struct strm_tried tried;
 
 	if (!watched)
 		return __real_strm_heap_alloc(size, align);
-	CHECK(align > 0 && 16 % align == 0 && asked < MOST_PIECES);
+	NEED(align > 0 && 16 % align == 0 && asked < MOST_PIECES);
+	ask_beside(align);
 	tried = __real_strm_heap_alloc(size, align);
-	CHECK(tried.is_done == 1);
+	NEED(tried.is_done == 1);
 	look_at((unsigned char *)tried.at, size, align);
-	if (asked + 1 == refused) {
+	if (asked + 1 == refused_piece) {
 		__real_strm_heap_dealloc(tried.at);
 		tried.is_done = 0;
 		pieces[asked].at = NULL;
@@ -74,7 +106,7 @@ struct tried __wrap_strm_heap_alloc(size_t size, size_t align)
 	return tried;
 }
 
-struct tried __wrap_strm_heap_realloc(void *at, size_t kept, size_t size, size_t align)
+struct strm_tried __wrap_strm_heap_realloc(void *at, size_t kept, size_t size, size_t align)
 {
 	moved++;
 	return __real_strm_heap_realloc(at, kept, size, align);
@@ -90,39 +122,39 @@ void __wrap_strm_heap_dealloc(void *at)
 			known++;
 		}
 	if (watched)
-		CHECK(known == 1);
+		CHECK(known == 1 && home->kept == 1);
 	__real_strm_heap_dealloc(at);
 }
 
 /* A configuration with so many classes and queues. */
-struct form {
+struct setting {
 	struct strm_config config;
 	struct strm_class_spec classes[STRM_MOST_CLASSES];
 	struct strm_queue_spec queues[STRM_MOST_QUEUES];
 };
 
-static void fill(struct form *form, size_t classes, size_t queues, uint32_t mblks)
+static void fill(struct setting *setting, size_t classes, size_t queues, uint32_t mblks)
 {
 	size_t i;
 
 	for (i = 0; i < classes; i++) {
-		form->classes[i].size = (uint32_t)(64 * (i + 1) - i % 2);
-		form->classes[i].count = (uint32_t)(9 - i);
+		setting->classes[i].size = (uint32_t)(64 * (i + 1) - i % 2);
+		setting->classes[i].count = (uint32_t)(9 - i);
 	}
 	for (i = 0; i < queues; i++) {
-		form->queues[i].hiwat = 2;
-		form->queues[i].lowat = 1;
-		form->queues[i].service = 0;
-		form->queues[i].next = STRM_NO_QUEUE;
+		setting->queues[i].hiwat = 2;
+		setting->queues[i].lowat = 1;
+		setting->queues[i].service = 0;
+		setting->queues[i].next = STRM_NO_QUEUE;
 	}
-	form->config.id = 7;
-	form->config.mblks = mblks;
-	form->config.classes = form->classes;
-	form->config.class_count = classes;
-	form->config.queues = form->queues;
-	form->config.queue_count = queues;
-	form->config.bufcalls = STRM_MOST_WISHES;
-	form->config.first_id = 1;
+	setting->config.id = 7;
+	setting->config.mblks = mblks;
+	setting->config.classes = setting->classes;
+	setting->config.class_count = classes;
+	setting->config.queues = setting->queues;
+	setting->config.queue_count = queues;
+	setting->config.bufcalls = STRM_MOST_WISHES;
+	setting->config.first_id = 1;
 }
 
 /* Opens, uses and closes a pool whose pieces are watched. */
@@ -152,27 +184,27 @@ static void refuse_each_piece(const struct strm_config *config, struct arena *ar
 	struct strm_pool pool = STRM_POOL_INIT;
 	int last = asked;
 
-	for (refused = 1; refused <= last; refused++) {
+	for (refused_piece = 1; refused_piece <= last; refused_piece++) {
 		asked = 0;
 		watched = 1;
 		ANSWERS(strm_open_with(&pool, config, &allocator), STRM_NO_MEMORY);
 		watched = 0;
-		CHECK(!strm_is_open(&pool) && arena->kept == 0 && asked == refused);
+		CHECK(!strm_is_open(&pool) && arena->kept == 0 && asked == refused_piece);
 	}
-	refused = 0;
+	refused_piece = 0;
 }
 
 /* Pools with each number of classes and of queues, and the pieces of each. */
 static void open_each(struct arena *arena)
 {
-	struct form form;
+	struct setting setting;
 	size_t i;
 
 	for (i = 0; i < STRM_MOST_CLASSES * STRM_MOST_QUEUES; i++) {
-		fill(&form, 1 + i % STRM_MOST_CLASSES, 1 + i / STRM_MOST_CLASSES, (uint32_t)(1 + 128 * i));
-		open_watched(&form.config, arena);
+		fill(&setting, 1 + i % STRM_MOST_CLASSES, 1 + i / STRM_MOST_CLASSES, (uint32_t)(1 + 128 * i));
+		open_watched(&setting.config, arena);
 		if (i % 41 == 0)
-			refuse_each_piece(&form.config, arena);
+			refuse_each_piece(&setting.config, arena);
 	}
 	CHECK(moved == 0);
 }
@@ -192,30 +224,30 @@ static void refuse(struct arena *arena)
 {
 	struct strm_allocator allocator = allocator_of(arena), none = allocator;
 	struct strm_pool pool = STRM_POOL_INIT;
-	struct form form;
+	struct setting setting;
 	long before = arena->asked;
 
-	fill(&form, 1, 1, 1);
-	form.config.first_id = 0;
+	fill(&setting, 1, 1, 1);
+	setting.config.first_id = 0;
 	ANSWERS(strm_open_with(NULL, NULL, NULL), STRM_NOT_OPEN);
 	ANSWERS(strm_open_with(&pool, NULL, &allocator), STRM_BAD_ARGUMENT);
-	ANSWERS(strm_open_with(&pool, &form.config, NULL), STRM_BAD_ARGUMENT);
+	ANSWERS(strm_open_with(&pool, &setting.config, NULL), STRM_BAD_ARGUMENT);
 	none.allocate = NULL;
-	ANSWERS(strm_open_with(&pool, &form.config, &none), STRM_BAD_ARGUMENT);
+	ANSWERS(strm_open_with(&pool, &setting.config, &none), STRM_BAD_ARGUMENT);
 	none = allocator;
 	none.release = NULL;
-	ANSWERS(strm_open_with(&pool, &form.config, &none), STRM_BAD_ARGUMENT);
-	ANSWERS(strm_open_with(&pool, &form.config, &allocator), STRM_BAD_FIRST_ID);
+	ANSWERS(strm_open_with(&pool, &setting.config, &none), STRM_BAD_ARGUMENT);
+	ANSWERS(strm_open_with(&pool, &setting.config, &allocator), STRM_BAD_FIRST_ID);
 	CHECK(arena->asked == before);
-	form.config.first_id = 1;
+	setting.config.first_id = 1;
 	arena->refused = before + 1;
-	ANSWERS(strm_open_with(&pool, &form.config, &allocator), STRM_NO_MEMORY);
+	ANSWERS(strm_open_with(&pool, &setting.config, &allocator), STRM_NO_MEMORY);
 	CHECK(arena->asked == before + 1 && arena->kept == 0);
 	none.allocate = misaligned;
 	none.release = release_misaligned;
-	ANSWERS(strm_open_with(&pool, &form.config, &none), STRM_NO_MEMORY);
+	ANSWERS(strm_open_with(&pool, &setting.config, &none), STRM_NO_MEMORY);
 	CHECK(arena->asked == before + 2 && arena->kept == 0 && !strm_is_open(&pool));
-	ANSWERS(strm_open_with(&pool, &form.config, &allocator), STRM_OK);
+	ANSWERS(strm_open_with(&pool, &setting.config, &allocator), STRM_OK);
 	ANSWERS(strm_open_with(&pool, NULL, NULL), STRM_IS_OPEN);
 	ANSWERS(strm_close(&pool), STRM_OK);
 }
@@ -227,18 +259,18 @@ static void find_lines(struct arena *arena)
 	struct strm_pool pool = STRM_POOL_INIT;
 	struct strm_msg msg;
 	const uint8_t *bytes;
-	struct form form;
+	struct setting setting;
 	size_t length, i;
 
-	fill(&form, STRM_MOST_CLASSES, 1, 40);
-	form.config.first_id = 1;
-	ANSWERS(strm_open_with(&pool, &form.config, &allocator), STRM_OK);
+	fill(&setting, STRM_MOST_CLASSES, 1, 40);
+	setting.config.first_id = 1;
+	ANSWERS(strm_open_with(&pool, &setting.config, &allocator), STRM_OK);
 	for (i = 0; i < STRM_MOST_CLASSES; i += 2)
 		do {
-			ANSWERS(strm_allocb(&pool, form.classes[i].size, &msg), STRM_OK);
+			ANSWERS(strm_allocb(&pool, setting.classes[i].size, &msg), STRM_OK);
 			ANSWERS(strm_bytes(&pool, msg, 0, &bytes, &length), STRM_OK);
 			CHECK((size_t)bytes % 64 == 0);
-		} while (--form.classes[i].count > 0);
+		} while (--setting.classes[i].count > 0);
 	ANSWERS(strm_close(&pool), STRM_OK);
 }
 
@@ -250,12 +282,12 @@ static void *open_in(void *context)
 	struct strm_pool pool = STRM_POOL_INIT;
 	const uint8_t *bytes;
 	struct strm_msg msg;
-	struct form form;
+	struct setting setting;
 	size_t length, i;
 
 	for (i = 0; i < 2000; i++) {
-		fill(&form, 1 + i % 3, 1 + i % 5, (uint32_t)(1 + i % 70));
-		if (strm_open_with(&pool, &form.config, &allocator) != STRM_OK || strm_allocb(&pool, 8, &msg) != STRM_OK
+		fill(&setting, 1 + i % 3, 1 + i % 5, (uint32_t)(1 + i % 70));
+		if (strm_open_with(&pool, &setting.config, &allocator) != STRM_OK || strm_allocb(&pool, 8, &msg) != STRM_OK
 		    || strm_write(&pool, msg, 0, &i, sizeof i) != STRM_OK || strm_bytes(&pool, msg, 0, &bytes, &length) != STRM_OK
 		    || bytes < arena->at || bytes + length > arena->at + arena->size || memcmp(bytes, &i, sizeof i) != 0
 		    || strm_close(&pool) != STRM_OK || arena->kept != 0)
@@ -284,15 +316,15 @@ static void stay_apart(struct arena *arenas)
 	struct strm_allocator first = allocator_of(&arenas[0]), second = allocator_of(&arenas[1]);
 	struct strm_pool pools[3] = { STRM_POOL_INIT, STRM_POOL_INIT, STRM_POOL_INIT };
 	struct strm_msg msgs[3];
-	struct form form;
+	struct setting setting;
 	int i;
 
-	fill(&form, 2, 2, 10);
-	ANSWERS(strm_open_with(&pools[0], &form.config, &first), STRM_OK);
-	form.config.id++;
-	ANSWERS(strm_open(&pools[1], &form.config), STRM_OK);
-	form.config.id++;
-	ANSWERS(strm_open_with(&pools[2], &form.config, &second), STRM_OK);
+	fill(&setting, 2, 2, 10);
+	ANSWERS(strm_open_with(&pools[0], &setting.config, &first), STRM_OK);
+	setting.config.id++;
+	ANSWERS(strm_open(&pools[1], &setting.config), STRM_OK);
+	setting.config.id++;
+	ANSWERS(strm_open_with(&pools[2], &setting.config, &second), STRM_OK);
 	memset(&first, 0, sizeof first);
 	for (i = 0; i < 3; i++)
 		msgs[i] = message(&pools[i], "apart");

@@ -1,5 +1,5 @@
 /*
- * strm_open, if one of its allocations is refused, each in turn: it answers STRM_NO_MEMORY and keeps no memory. No other call allocates, and
+ * strm_open, if its memory is refused: it answers STRM_NO_MEMORY and keeps none (memory.c refuses each piece of it). No other call allocates, and
  * strm_close frees all memory. strm_open allocates as many bytes as strm_memory returns. The linker puts the three functions below between
  * the library and malloc, realloc and free. The last line is as in each.c.
  */
@@ -106,7 +106,7 @@ static void count_bytes(void)
 		CHECK(asked == before);
 		asked_bytes = 0;
 		ANSWERS(strm_open(&pool, &config), STRM_OK);
-		CHECK(bytes == asked_bytes && asked - before <= 32);
+		CHECK(bytes == asked_bytes && asked - before == 1);
 		ANSWERS(strm_close(&pool), STRM_OK);
 	}
 }
