@@ -53,7 +53,7 @@ MODULES := $(shell cd tools && find strm_tools -name __pycache__ -prune -o -type
 # Stops make with one line if there is no `rt`.
 NEEDS_RT = $(if $(shell command -v rt 2>/dev/null),,$(error no rt on PATH, so nothing is proved or built; the archive of a release has strm and libstrm.a, and make install-tools installs the tools that need Python alone (README.md, "Without rt")))
 
-.PHONY: run help try test test-arm check gate-times cases edits lint soak field view-test pages pictures bench bench-lines bench-library bench-batches bench-census bench-header bench-lock bench-c bench-peers strm install install-pages install-tools install-docs uninstall lib install-lib dist vendor
+.PHONY: run help try test test-arm check gate-times cases edits lint soak field view-test pages pictures bench bench-lines bench-library bench-batches bench-census bench-header bench-lock bench-c bench-peers strm install install-pages install-tools install-docs uninstall lib install-lib dist release vendor
 
 # Runs examples/first_run.strm on the proved program (default). `make` alone does this and does not list rules, so that people who type `make`
 # and then `sudo make install` do not prove the program as root.
@@ -289,6 +289,10 @@ install-lib: $(ARCHIVE) $(SHARED)
 dist:
 	$(NEEDS_RT)
 	@GATE="$(GATE)" DIRTY="$(DIRTY)" tools/dist "$(DIST)"
+
+# Puts strm and the library for C into release, with PROOF. GATE and DIRTY are those of dist.
+release: $(STRM) $(ARCHIVE) $(SHARED)
+	@GATE="$(GATE)" DIRTY="$(DIRTY)" tools/dist --release
 
 # Copies CRATE and those that it uses into the repository at TO. It needs no `rt`. If it refuses, it writes nothing.
 vendor:

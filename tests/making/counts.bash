@@ -34,6 +34,12 @@ has() {
     return 1
 }
 
+# Whether the sums in the file $2 are those of the files below the folder $1, and whether each file but PROOF has one.
+has_sums() {
+    grep -E '^[0-9a-f]{64} ' "$2" >"$room/sums" && (cd "$1" && sha256sum --check --quiet "$room/sums") &&
+        diff <(cut -c 67- "$room/sums" | sort) <(cd "$1" && find . -type f ! -name PROOF -printf '%P\n' | sort)
+}
+
 # Prints the last line of the script, and returns its status.
 sum_up() {
     echo "$passed passed, $failed failed"
