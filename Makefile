@@ -1,9 +1,9 @@
 # Builds, runs, tests and installs the program strm, the library for C, and the tools in Python. Rattle's command `rt` builds the program and the
 # library; it needs Python 3, and for the library also `cc` and binutils. docs/GATE.md says what the tests need.
 #
-# Without `rt`, which comes in the toolchain's kit (README.md): the archive and the Debian package of a release have the program and the
-# library, built (docs/PACKAGE.md). The tools need Python 3.8 or later alone, and `make install-tools` installs them. The rules lint,
-# help, pages, install-pages, uninstall, view-test, pictures and vendor need no `rt` either.
+# Without `rt`, which comes in the toolchain's kit (README.md): the folder release has the proved program and library, which `make try` runs and
+# `make check` tests. The tools need Python 3.8 or later alone, and `make install-tools` installs them. The rules lint, help, pages,
+# install-pages, uninstall, view-test, pictures and vendor need no `rt` either.
 
 SHELL := bash
 .SHELLFLAGS := -o pipefail -c
@@ -50,8 +50,9 @@ LOG := build/proving.log
 TOOLS := $(notdir $(wildcard tools/strm-*))
 MODULES := $(shell cd tools && find strm_tools -name __pycache__ -prune -o -type f -print)
 
+RT := $(shell command -v rt 2>/dev/null)
 # Stops make with one line if there is no `rt`.
-NEEDS_RT = $(if $(shell command -v rt 2>/dev/null),,$(error no rt on PATH, so nothing is proved or built; the archive of a release has strm and libstrm.a, and make install-tools installs the tools that need Python alone (README.md, "Without rt")))
+NEEDS_RT = $(if $(RT),,$(error no rt on PATH, so nothing is proved or built; release/ has strm and libstrm.a, proved and built, which make try and make check run (README.md, "Without rt")))
 
 .PHONY: run help try test test-arm check gate-times cases edits lint soak field view-test pages pictures bench bench-lines bench-library bench-batches bench-census bench-header bench-lock bench-c bench-peers strm install install-pages install-tools install-docs uninstall lib install-lib dist release vendor
 
@@ -69,20 +70,24 @@ test-arm:
 	@$(MAKE) -s lib TARGET=aarch64-unknown-linux-gnu
 	@tests/c/run --arm build/aarch64/libstrm.a
 
-# Executes SCRIPT, by default examples/first_run.strm, unproved. Of what `rt` says this shows only a failure.
+# Executes SCRIPT, by default examples/first_run.strm. With `rt`, strm is unproved; of what `rt` says this shows only a failure. Without it, strm
+# is the proved one in release.
 try:
-	$(NEEDS_RT)
+ifdef RT
 	@echo "nothing is proved here: strm is built without its proofs, which takes one to two minutes, and executes $(SCRIPT)" >&2
 	@{ cd crates/strm_driver && rt try -- --serial 2>&1 >&3 | { grep -vE '^(checked|races): |^run=' >&2 || true; }; } 3>&1 <"$(SCRIPT)"
+else
+	@echo "release/strm, proved and built from commit $$(sed -n 's/^Commit: //p' release/PROOF), executes $(SCRIPT)" >&2
+	@release/strm --serial <"$(SCRIPT)"
+endif
 
 # Runs the gate: all proofs, edits to be refused, tests and cases.
 test:
 	$(NEEDS_RT)
 	@.ci/run
 
-# Runs what of the gate needs no proof, in a few minutes.
+# Runs what of the gate needs no proof, in a few minutes. Without `rt`, tests run what is in release.
 check:
-	$(NEEDS_RT)
 	@.ci/check
 
 # Runs the gate, and puts its processor times into docs/GATE.md.
