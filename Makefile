@@ -203,7 +203,7 @@ MISSING := $(if $(DESTDIR),,$(foreach it,$(sort $(foreach folder,$(INTO),$(call 
 # Installs the manuals of section 1 and the completions of shells. These are bash and zsh, and nothing is built. The completions of strm are
 # also those of the tools.
 install-pages:
-	for page in man/*.1; do sed 's/@VERSION@/$(VERSION)/' $$page | install -D -m 644 /dev/stdin $(SHARE)/man/$${page/man/man1} || exit; done
+	tools/man_pages 1 $(SHARE)/man/man1
 	install -D -m 644 completions/strm.bash $(SHARE)/bash-completion/completions/strm
 	install -D -m 644 completions/_strm $(SHARE)/$(ZSH)/_strm
 	for tool in $(TOOLS); do ln -sf strm $(SHARE)/bash-completion/completions/$$tool || exit; done
@@ -284,8 +284,7 @@ install-lib: $(ARCHIVE) $(SHARED)
 	install -D -m 644 c/strm-config.cmake $(LIB)/cmake/strm/strm-config.cmake
 	$(FORM) c/strm-config-version.cmake.in | install -m 644 /dev/stdin $(LIB)/cmake/strm/strm-config-version.cmake
 	install -D -m 644 c/strm.h $(DESTDIR)$(PREFIX)/include/strm.h
-	install -d $(SHARE)/man/man3
-	tools/c_pages $(SHARE)/man/man3
+	tools/man_pages 3 $(SHARE)/man/man3
 	@$(if $(DESTDIR),,echo 'export PKG_CONFIG_PATH=$(PREFIX)/lib/pkgconfig$${PKG_CONFIG_PATH:+:$$PKG_CONFIG_PATH}')
 	@$(if $(DESTDIR),,echo 'export LD_LIBRARY_PATH=$(PREFIX)/lib$${LD_LIBRARY_PATH:+:$$LD_LIBRARY_PATH}')
 

@@ -1,10 +1,11 @@
 #!/usr/bin/env python3
-"""Writes a script of so many drawn command lines, the same for the same seed. Has the table of all words."""
+"""Writes a script of so many drawn command lines, the same for the same seed. Has how each word is drawn and measured."""
 import argparse
 import random
 from typing import Callable, NamedTuple
 
 from strm_tools.limits import COMMAND_LINES, DATA_BLOCK_BYTES, DATA_BLOCKS, MESSAGE_BLOCKS, WISHES
+from strm_tools.model import WORDS as COMMANDS
 
 REGISTERS = "abcdefghijklmnopqrstuvwxyz"
 QUEUES = "0123"
@@ -26,69 +27,82 @@ VALUES = {
     "id": ["1", "2"],
     "octets": ["-", "61", "6162", "61626364", "6162636465666768"],
     "kind": ["M_DATA", "M_DATA", "M_PROTO", "M_CTL", "M_PCPROTO"],
-    "band": ["0", "0", "0", "1", "200"],
-    "hiwat": ["16", "16", "32"],
-    "lowat": ["4", "4", "8"],
+    **dict.fromkeys(["band", "marked"], ["0", "0", "0", "1", "200"]),
+    **dict.fromkeys(["block", "place"], ["0"]),
+    "high": ["16", "16", "32"],
+    "low": ["4", "4", "8"],
     "count": ["0", "0", "1", "-1"],
     "at": ["0", "1", "5"],
     "flag": ["all", "all", "data"],
+}
+# What stands for items in the round of a command that has no other.
+MEASURED = {
+    **{"from": "a", "to": "b", "queue": "0", "block": "{last}", "place": "{middle}", "octets": "-", "kind": "M_DATA", "size": "16", "count": "-1"},
+    **{"at": "{end}", "band": "0", "marked": "3", "high": "8", "low": "4", "id": "1", "flag": "data"},
 }
 
 
 class Word(NamedTuple):
     """A command: how it is drawn, and how one call of it is measured."""
 
-    # What stands behind the word, and how often it is drawn for one `census`.
-    items: str
+    # How often it is drawn for one `census`.
     often: int
-    # A round of measured lines, those in parentheses not counted, and what the pool is filled with: message or queue.
+    # A round of measured lines, those in parentheses not counted.
     lines: str
-    filled: str = "message"
+    # What stands behind the word.
+    items: list
     # How many blocks, or messages, the counted items have afterwards, at least.
-    after: Callable = lambda *counts: counts
+    after: Callable
+    # What the pool is filled with: message or queue.
+    filled: str
 
 
-WORDS = {
-    "allocb": Word("to size", 14, "allocb b 16; freemsg b", after=lambda y: (1,)),
-    "testb": Word("size", 1, "testb 16"),
-    "dupb": Word("from to", 2, "dupb a b; freemsg b", after=lambda x, y: (x, 1)),
-    "dupmsg": Word("from to", 2, "dupmsg a b; freemsg b", after=lambda x, y: (x, x)),
-    "copyb": Word("from to", 2, "copyb a b; freemsg b", after=lambda x, y: (x, 1)),
-    "copymsg": Word("from to", 2, "copymsg a b; freemsg b", after=lambda x, y: (x, x)),
-    "write": Word("from 0 octets", 12, "(allocb b 16); write b 0 6162636465666768; (freemsg b)"),
-    "settype": Word("from 0 kind", 2, "settype a {last} M_DATA"),
-    "setband": Word("from band", 2, "setband a 1"),
-    "linkb": Word("from from", 4, "linkb a c; rmvb a {blocks} c", after=lambda x, z: (x + z, 0)),
-    "unlinkb": Word("chain to", 2, "unlinkb a b; linkb a b", after=lambda x, y: (1, x - 1)),
-    "rmvb": Word("chain 1 to", 2, "linkb a c; rmvb a {blocks} c", after=lambda x, y: (x - 1, 1)),
-    "adjmsg": Word("from count", 3, "(dupmsg a b); adjmsg b {bytes}; (freemsg b)"),
-    "pullupmsg": Word("from -1", 2, "dupmsg a b; pullupmsg b {pulled}; freemsg b", after=lambda x: (1,)),
-    "msgdsize": Word("from", 1, "msgdsize a"),
-    "size": Word("from", 1, "size a"),
-    "read": Word("from at", 3, "read a {end}"),
-    "block": Word("from 0", 2, "block a {last}"),
-    "freeb": Word("chain", 3, "allocb b 16; freeb b", after=lambda x: (x - 1,)),
-    "freemsg": Word("from", 10, "dupmsg a b; freemsg b", after=lambda x: (0,)),
-    "putq": Word("queue from", 8, "putq 0 c; getq 0 c", "queue", lambda q, x: (q + 1, 0)),
-    "putbq": Word("queue from", 2, "putbq 0 c; getq 0 c", "queue", lambda q, x: (q + 1, 0)),
-    "insq": Word("queue 0 from", 1, "insq 0 {middle} c; rmvq 0 {middle} c", "queue", lambda q, x: (q + 1, 0)),
-    "getq": Word("filled to", 6, "putbq 0 c; getq 0 c", "queue", lambda q, y: (q - 1, 1)),
-    "rmvq": Word("filled 0 to", 2, "insq 0 {middle} c; rmvq 0 {middle} c", "queue", lambda q, y: (q - 1, 1)),
-    "flushq": Word("queue flag", 1, "allocb b 16; putq 0 b; flushq 0 data", "queue", lambda q: (0,)),
-    "flushband": Word("queue band flag", 1, "allocb b 16; putq 0 b; flushband 0 0 data", "queue", lambda q: (0,)),
-    "bcanput": Word("queue band", 3, "bcanput 0 0", "queue"),
-    "strqset": Word("queue band hiwat lowat", 1, "strqset 0 3 8 4", "queue"),
-    "strqget": Word("queue band", 1, "strqget 0 3", "queue"),
-    "qsize": Word("queue", 1, "qsize 0", "queue"),
-    "qenable": Word("queue", 1, "qenable 0; service", "queue"),
-    "noenable": Word("queue", 1, "noenable 0", "queue"),
-    "enableok": Word("queue", 2, "enableok 0", "queue"),
-    "service": Word("", 2, "qenable 0; service", "queue"),
-    "bufcall": Word("size", 1, "bufcall 16; ready"),
-    "unbufcall": Word("id", 1, "bufcall 16; unbufcall {round}"),
-    "ready": Word("", 2, "bufcall 16; ready"),
-    "census": Word("", 1, "census"),
+def row(word, often=1, lines=None, after=None, items=None):
+    """The row of a command. As far as nothing else is given, its items in strm_tools.model stand behind it, its round is one call, and a
+    register that it fills then has one block."""
+    items = items.split() if items else COMMANDS[word].items
+    lines = lines or " ".join([word, *(MEASURED[item] for item in items)])
+    counted = [item for item in items if item in COUNTED]
+    is_on_queue = any("queue" in COMMANDS[line.strip("()").split(" ")[0]].items for line in lines.split("; "))
+    after = after or (lambda *counts: [1 if item == "to" else count for item, count in zip(counted, counts)])
+    return Word(often, lines, items, after, "queue" if is_on_queue else "message")
+
+
+# What is not as `row` has it.
+OTHERS = {
+    "allocb": (14, "allocb b 16; freemsg b"),
+    "dupb": (2, "dupb a b; freemsg b"),
+    "dupmsg": (2, "dupmsg a b; freemsg b", lambda x, y: (x, x)),
+    "copyb": (2, "copyb a b; freemsg b"),
+    "copymsg": (2, "copymsg a b; freemsg b", lambda x, y: (x, x)),
+    "write": (12, "(allocb b 16); write b 0 6162636465666768; (freemsg b)"),
+    "settype": (2,),
+    "setband": (2, "setband a 1"),
+    "linkb": (4, "linkb a c; rmvb a {blocks} c", lambda x, z: (x + z, 0)),
+    "unlinkb": (2, "unlinkb a b; linkb a b", lambda x, y: (1, x - 1), "chain to"),
+    "rmvb": (2, "linkb a c; rmvb a {blocks} c", lambda x, y: (x - 1, 1), "chain 1 to"),
+    "adjmsg": (3, "(dupmsg a b); adjmsg b {bytes}; (freemsg b)"),
+    "pullupmsg": (2, "dupmsg a b; pullupmsg b {pulled}; freemsg b", lambda x: (1,), "from -1"),
+    "read": (3,),
+    "block": (2,),
+    "freeb": (3, "allocb b 16; freeb b", lambda x: (x - 1,), "chain"),
+    "freemsg": (10, "dupmsg a b; freemsg b", lambda x: (0,)),
+    "putq": (8, "putq 0 c; getq 0 c", lambda q, x: (q + 1, 0)),
+    "putbq": (2, "putbq 0 c; getq 0 c", lambda q, x: (q + 1, 0)),
+    "insq": (1, "insq 0 {middle} c; rmvq 0 {middle} c", lambda q, x: (q + 1, 0)),
+    "getq": (6, "putbq 0 c; getq 0 c", lambda q, y: (q - 1, 1), "filled to"),
+    "rmvq": (2, "insq 0 {middle} c; rmvq 0 {middle} c", lambda q, y: (q - 1, 1), "filled 0 to"),
+    "flushq": (1, "allocb b 16; putq 0 b; flushq 0 data", lambda q: (0,)),
+    "flushband": (1, "allocb b 16; putq 0 b; flushband 0 0 data", lambda q: (0,)),
+    "bcanput": (3,),
+    "qenable": (1, "qenable 0; service"),
+    "enableok": (2,),
+    "service": (2, "qenable 0; service"),
+    "bufcall": (1, "bufcall 16; ready"),
+    "unbufcall": (1, "bufcall 16; unbufcall {round}"),
+    "ready": (2, "bufcall 16; ready"),
 }
+WORDS = {word: row(word, *OTHERS.get(word, ())) for word in COMMANDS}
 # More rounds, for calls on one queue of messages of 17 ranks. EMPTIED frees those of a band, before as many are put again.
 RANKED = {
     "putq": "{emptied}(settype b 0 {kind}); (setband b {band}); putq 0 b; allocb b 16",
@@ -119,7 +133,7 @@ class Draw:
         while True:
             word = self.random.choice(BAG)
             values, named = [], []
-            for item in WORDS[word].items.split():
+            for item in WORDS[word].items:
                 values.append(self.value(item, named))
                 if item in COUNTED:
                     named.append(values[-1])

@@ -1,11 +1,14 @@
 """The page strm(1), as its mdoc says it."""
+import functools
 import os
 import re
+import subprocess
+import tempfile
 from typing import NamedTuple
 
 from making import TOP
 
-PAGE = os.path.join(TOP, "man", "strm.1")
+NAME = "strm.1"
 
 # The macros that words of the page stand under, and punctuation, which stands under none.
 MACROS = "Ar Cm Dv Er Fl Ic It Ns Op Ql Sq Sy Ta".split()
@@ -19,15 +22,18 @@ class Item(NamedTuple):
     body: list
 
 
-def read_page():
-    with open(PAGE, encoding="utf-8") as page:
-        return page.read().splitlines()
+@functools.lru_cache(maxsize=None)
+def read_page(name=NAME):
+    """A page of section 1, as it is installed."""
+    with tempfile.TemporaryDirectory() as folder:
+        subprocess.run([os.path.join(TOP, "tools", "man_pages"), "1", folder], check=True)
+        with open(os.path.join(folder, name), encoding="utf-8") as page:
+            return page.read()
 
 
 def section(name):
     """The lines of a section."""
-    text = "\n".join(read_page())
-    return re.search(rf"^\.Sh {name}\n(.*?)(?=^\.Sh |\Z)", text, re.DOTALL | re.MULTILINE)[1].splitlines()
+    return re.search(rf"^\.Sh {name}\n(.*?)(?=^\.Sh |\Z)", read_page(), re.DOTALL | re.MULTILINE)[1].splitlines()
 
 
 def items(lines):

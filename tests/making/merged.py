@@ -55,7 +55,7 @@ class LongMessage:
 def serve_line(model, line):
     """Has the model serve a line, which is a command, and returns it with the reply."""
     word, *rest = line.split(" ")
-    items = WORDS[word][0].split()
+    items = WORDS[word].items
     return line, model.answer(word, items, [int(value) if value.isdigit() else value for value in rest])
 
 

@@ -19,7 +19,7 @@ class Dice:
         return items[self.below(len(items))]
 
 
-BAG = [word for word, (_, often) in WORDS.items() for _ in range(often)]
+BAG = [word for word, row in WORDS.items() for _ in range(row.often)]
 
 
 def queue_of(model, before):
@@ -77,7 +77,7 @@ def drawn(model, dice):
     if dice.below(20) == 0:
         return dice.one_of(["", "#", "# more"]), None
     word = dice.one_of(BAG)
-    items = WORDS[word][0].split()
+    items = WORDS[word].items
     values = []
     for what in items:
         values.append(value_of(what, model, dice, values))

@@ -1,5 +1,5 @@
 """Lines for sessions of tools/strm-play, and what is shown of them. Lines are parted by semicolons."""
-from strm_tools.model import Pool
+from strm_tools.model import WORDS, Pool
 
 # A pool in which the rules below decide that the small pool has no room for.
 OTHER_POOL = Pool(mblks=300, classes=[(16, 2)], queues=[(10, 4, "s", 1), (10, 4, "n", "-")], bufcalls=2, first_id=4_294_967_295)
@@ -197,12 +197,16 @@ BEFORE_UNDO = (
     "allocb a 16; write a 0 61626364656667686970; allocb b 3; write b 0 010203; settype b 0 M_PROTO; dupmsg b c; linkb b c; allocb d 40;"
     " write d 0 0405060708090a0b0c0d0e0f; putq 0 d; allocb d 2; write d 0 0a0b0c0d0e0f00010203; putq 1 d; bcanput 1 0; bufcall 40"
 ).split("; ")
-TAKEN_BACK = (
-    "allocb e 1; testb 1; dupb a e; dupmsg b e; copyb a e; copymsg a e; write a 0 ff; settype a 0 M_CTL; setband a 4; linkb a b;"
-    " unlinkb b e; rmvb b 1 e; adjmsg a 2; pullupmsg b 5; msgdsize a; size a; read a 0; block a 0; freeb b; freemsg a; putq 0 a;"
-    " putbq 0 a; insq 0 0 a; getq 1 e; rmvq 0 0 e; flushq 0 all; flushband 1 0 all; qsize 0; bcanput 0 0; strqset 1 0 99 50; strqget 0 0;"
-    " qenable 1; noenable 0; enableok 0; service; bufcall 1; unbufcall 1; ready; census"
+# What stands for each item of a command then, and the lines of commands that have others.
+VALUES = {
+    **{"from": "a b", "to": "e", "queue": "0", "block": "0", "place": "0", "octets": "ff", "kind": "M_CTL", "size": "1", "count": "2", "at": "0"},
+    **{"band": "0", "marked": "0", "high": "99", "low": "50", "id": "1", "flag": "all"},
+}
+OTHERS = (
+    "dupmsg b e; setband a 4; unlinkb b e; rmvb b 1 e; pullupmsg b 5; freeb b; getq 1 e; flushband 1 0 all; strqset 1 0 99 50; qenable 1"
 ).split("; ")
+TAKEN_BACK = {word: " ".join([word, *(VALUES[item].split()[row.items[:at].count(item)] for at, item in enumerate(row.items))]) for word, row in WORDS.items()}
+TAKEN_BACK |= {line.split(" ")[0]: line for line in OTHERS}
 # What is typed, with a tab at its end, and what is there then.
 COMPLETED = {
     "alloc": "allocb ",
@@ -285,7 +289,7 @@ SHOWN = {
         "undo [N]\n  Takes back the last line, or the last N.\n"
         "pool ID MBLKS (in the header)\n  The pool has this id and MBLKS message blocks.\n"
         "worker\n  Begins another section, with empty registers: the commands of another worker.\n"
-        "service\n  Takes the first queue off the run list.\n",
+        "service\n  Takes the first queue off the run list. Reply: queue, none.\n",
     ),
     "header": ("header", "  pool 1 8\n  class 16 4\n  class 64 2\n  queue 10 4 s 1\n  queue 10 4 s -\n  bufcalls 2 1\n"),
     "state": ("allocb a 3; write a 0 616263; putq 0 a; state off; state", "ok\nok\nok\n" + STATE),

@@ -9,6 +9,11 @@ from making.cases import kept_cases
 
 # Cases that a program prints, for refusals that no script of a few lines meets.
 MADE = ["most_names"]
+# The form of a word that is a field of a call, by the field's type.
+FORMS = {
+    **{"Reg": "register_of", "u8": "u8_of", "u32": "u32_of", "i32": "i32_of", "Octets": "octets_of"},
+    **{"MsgType": "type_of", "Flush": "flush_of"},
+}
 
 
 def read(*path):
@@ -22,10 +27,16 @@ def version():
 
 def forms():
     """The first words of a script's lines, each with the forms of the words behind it."""
-    words = re.findall(r'\(codes "(\w+)", words\.(?:Command verbs\.)?(\w+)\)', read("crates/strm_script/specs/Word.antt"))
-    row = re.compile(r"^(?:call|entry)_of (?:verbs|words)\.(\w+) = (?:none|one|two|three|four)((?: \w+_of)*)", re.MULTILINE)
-    behind = dict(row.findall(read("crates/strm_script/specs/Entry.antt")))
-    return {word: behind[name].split() for word, name in words}
+    row = re.compile(r'(?:\(codes "(\w+)", |\w+_of (?:verbs|words)\.(\w+) = )(?:none|one|two|three|four)((?: \w+_of)*)')
+    return {word or name.lower(): behind.split() for word, name, behind in row.findall(read("crates/strm_script/specs/Entry.antt"))}
+
+
+def calls():
+    """The words of the table of calls, each with the forms of the call's fields."""
+    text = read("crates/strm_pool/src/call.rt")
+    fields = dict(re.findall(r"^    (\w+)(?:\((.*)\))?,$", text, re.MULTILINE))
+    rows = re.findall(r'(?:b"(\w+)"\s+)?\b([A-Z]\w*)(?:\([^()]*\))?: act_\w+\(', text)
+    return {word or name.lower(): [FORMS[kind] for kind in fields[name].split(", ") if kind] for word, name in rows}
 
 
 def type_names():

@@ -88,7 +88,7 @@ class Trace:
         """Tells a line that the model has served, where registers held messages of these numbers before."""
         word, *words = line.split(" ")
         told = []
-        for item, value in zip(WORDS[word][0].split(), words):
+        for item, value in zip(WORDS[word].items, words):
             given = self.heads()[value] if item == "to" and reply == "ok" else ""
             told.append(f"<{before[value]}" if item == "from" else f">{given}" if item == "to" else value)
         self.lines.append(f"! driver {' '.join([word, *told])} | {reply}")
@@ -99,7 +99,7 @@ class Trace:
         """Tells a drawn line, and returns it with its reply, or None where no trace has such a line."""
         before = self.heads()
         line, reply = drawn(self.model, dice)
-        if reply in (None, "empty", "taken") or (reply == "refused 11 NoSuchQueue" and WORDS[line.split(" ")[0]][0] != "queue"):
+        if reply in (None, "empty", "taken") or (reply == "refused 11 NoSuchQueue" and WORDS[line.split(" ")[0]].items != ["queue"]):
             return None
         self.call(line, reply, before)
         return line, reply
@@ -203,7 +203,7 @@ class Driver:
             [(f"freemsg {rest}", [rest]), (f"freeb {rest}", [rest]), (f"putq 0 {rest}", [0, rest]), (f"size {rest}", [rest])]
         )
         word = line.split(" ")[0]
-        reply = self.model.answer(word, WORDS[word][0].split(), values)
+        reply = self.model.answer(word, WORDS[word].items, values)
         if word == "size":
             self.model.held[register] += self.model.held.pop(rest)
         self.trace.call(line, reply, before)

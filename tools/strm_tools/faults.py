@@ -58,7 +58,7 @@ PATTERNS = {
 FITS = {item: (re.compile(pattern).fullmatch, fault) for item, (pattern, fault) in PATTERNS.items()}
 HEADER = {"pool": "id size", "class": "size size", "queue": "high low service next", "bufcalls": "size id", "worker": ""}
 # The words after each first word.
-FORMS = {word: items.split() for word, items in [*HEADER.items(), *((word, items) for word, (items, _) in WORDS.items())]}
+FORMS = {**{word: items.split() for word, items in HEADER.items()}, **{word: row.items for word, row in WORDS.items()}}
 # Which lines may follow each line, and how many there may be.
 AFTER = {
     "nothing": ["pool"],

@@ -14,15 +14,50 @@ Values = List[Any]
 # The queue after another one, or none.
 Next = Union[int, Literal["-"]]
 Method = TypeVar("Method", bound=Callable[..., Any])
-# Each word: the items after it, and how often mixed.py draws it for one `census`. The methods of `Model` fill this in.
-WORDS: dict[str, tuple[str, int]] = {}
+# What each reply is, by its form.
+REPLIES = {
+    "ok": "Done.",
+    "yes": "What was asked is true.",
+    "no": "What was asked is false.",
+    "none": "There is no such message, queue or wish.",
+    "size N": "The number of bytes or messages.",
+    "bytes HEX": "The bytes, or `-` for none.",
+    "block TYPE len= band= room= names=": "A block's type, bytes, band and room, and how many message blocks refer to its data block.",
+    "queue Q": "The queue to serve.",
+    "marks HIWAT LOWAT": "A band's water marks.",
+    "id ID": "The id of the wish.",
+    "ready ID SIZE": "The wish's id and size.",
+    "census FREE QUEUED HELD": "Message blocks: free, on queues, and held.",
+    "empty": "A register from which a message is to be taken has none, or `linkb` has the same register twice.",
+    "taken": "A register to fill already holds a message.",
+    "refused NUMBER NAME": "The command is refused.",
+}
 
 
-def word(items: str, often: int) -> Callable[[Method], Method]:
-    """Adds the method below to `WORDS`."""
+class Word(NamedTuple):
+    """A command."""
+
+    # Its group in strm(1).
+    group: str
+    # What each word after the first is.
+    items: list[str]
+    # How often mixed.py draws it for one `census`.
+    often: int
+    # Whether STREAMS has no routine of this name.
+    own: bool
+    # What it does, with its replies other than ok, and its own refusals.
+    does: str
+
+
+# Each command. The methods of `Model` fill this in.
+WORDS: dict[str, Word] = {}
+
+
+def word(group: str, items: str, often: int = 1, own: bool = False) -> Callable[[Method], Method]:
+    """Adds the method below to `WORDS`, with its comment as what the command does, in which words in capitals are those of the form."""
 
     def added(method: Method) -> Method:
-        WORDS[method.__name__] = items, often
+        WORDS[method.__name__] = Word(group, items.split(), often, own, " ".join((method.__doc__ or "").split()))
         return method
 
     return added
@@ -239,8 +274,11 @@ class Model:
         else:
             del self.held[register]
 
-    @word("to size", 10)
+    @word("Messages", "to size", 10)
     def allocb(self, to: str, size: int) -> None:
+        """Allocates a message of one block, for SIZE bytes or more, into R. It has type M_DATA, band 0 and no bytes.
+        Its data block is of the smallest class that fits and has a free data block. Refusals: TooLarge, NoMblk,
+        NoData."""
         if size > self.pool.greatest():
             raise Refused("1 TooLarge")
         self.need(1)
@@ -250,8 +288,9 @@ class Model:
         classes = zip(self.pool.classes, self.data)
         return self.counts()[0] > 0 and any(size <= most and free > 0 for (most, _), free in classes)
 
-    @word("size", 1)
+    @word("Messages", "size")
     def testb(self, size: int) -> str:
+        """Says whether `allocb` of this size would succeed. Reply: yes, no."""
         return "yes" if self.fits(size) else "no"
 
     def duplicates(self, blocks: Message) -> Message:
@@ -261,12 +300,15 @@ class Model:
                 raise Refused("4 RefMax")
         return [block.duplicate() for block in blocks]
 
-    @word("from to", 2)
+    @word("Messages", "from to", 2)
     def dupb(self, source: str, to: str) -> None:
+        """Duplicates the first block of the message in R into S, over the same data block, with the same places and
+        band. Refusals: NoMblk, RefMax."""
         self.held[to] = self.duplicates(self.held[source][:1])
 
-    @word("from to", 2)
+    @word("Messages", "from to", 2)
     def dupmsg(self, source: str, to: str) -> None:
+        """Duplicates all blocks of the message in R into S, over the same data blocks. Refusals: NoMblk, RefMax."""
         self.held[to] = self.duplicates(self.held[source])
 
     def copies(self, blocks: Message) -> Message:
@@ -276,36 +318,45 @@ class Model:
         self.data = free
         return [block.copy(data) for block, data in zip(blocks, taken)]
 
-    @word("from to", 1)
+    @word("Messages", "from to")
     def copyb(self, source: str, to: str) -> None:
+        """Copies the first block of the message in R into S, with a new data block of the same size or more, and the
+        same bytes, places, type and band. Refusals: NoMblk, NoData."""
         self.held[to] = self.copies(self.held[source][:1])
 
-    @word("from to", 2)
+    @word("Messages", "from to", 2)
     def copymsg(self, source: str, to: str) -> None:
+        """Copies all blocks of the message in R into S, with new data blocks. Refusals: NoMblk, NoData."""
         self.held[to] = self.copies(self.held[source])
 
-    @word("from block octets", 16)
+    @word("Messages", "from block octets", 16, own=True)
     def write(self, source: str, k: int, octets: bytes) -> None:
+        """Appends the bytes HEX at the write place of block K of the message in R. Refusals: NoSuchBlock, Shared,
+        NoRoom."""
         block = self.own_block_at(source, k)
         if len(octets) > block.room():
             raise Refused("7 NoRoom")
         block.data.octets[block.write : block.write + len(octets)] = octets
         block.write += len(octets)
 
-    @word("from block kind", 4)
+    @word("Messages", "from block kind", 4, own=True)
     def settype(self, source: str, k: int, kind: str) -> None:
+        """Sets the type of the data block of block K of the message in R. Refusals: NoSuchBlock, Shared."""
         self.own_block_at(source, k).data.kind = kind
 
-    @word("from band", 3)
+    @word("Messages", "from band", 3, own=True)
     def setband(self, source: str, band: int) -> None:
+        """Sets the band of the first block of the message in R."""
         self.held[source][0].band = band
 
-    @word("from from", 5)
+    @word("Messages", "from from", 5)
     def linkb(self, source: str, tail: str) -> None:
+        """Appends the message in S to that in R, and empties S."""
         self.held[source] += self.held.pop(tail)
 
-    @word("from to", 2)
+    @word("Messages", "from to", 2)
     def unlinkb(self, source: str, to: str) -> str | None:
+        """Moves all blocks of the message in R but the first into S. Reply: ok, none."""
         first, *rest = self.held[source]
         if not rest:
             return "none"
@@ -313,14 +364,18 @@ class Model:
         self.held[to] = rest
         return None
 
-    @word("from block to", 2)
+    @word("Messages", "from block to", 2)
     def rmvb(self, source: str, k: int, to: str) -> None:
+        """Moves block K of the message in R, alone, into S. Refusal: NoSuchBlock."""
         block = self.block_at(source, k)
         self.leave(source, self.held[source][:k] + self.held[source][k + 1 :])
         self.held[to] = [block]
 
-    @word("from count", 4)
+    @word("Messages", "from count", 4)
     def adjmsg(self, source: str, count: int) -> None:
+        """Trims N bytes at the beginning of the message in R, from the leading blocks of the first block's type. A
+        negative N trims at the end, from the trailing blocks of the last block's type. Emptied blocks stay. Refusal:
+        Short."""
         run = run_of(self.held[source] if count > 0 else self.held[source][::-1])
         left = abs(count)
         if left > total(run):
@@ -333,8 +388,11 @@ class Model:
             else:
                 block.write -= cut
 
-    @word("from count", 5)
+    @word("Messages", "from count", 5)
     def pullupmsg(self, source: str, count: int) -> None:
+        """Gathers the first N bytes of the message in R in its first block, from the leading blocks of its type; -1
+        means all their bytes. If the first block lacks some of them, it gets a new data block, as by `allocb`, and
+        blocks that this empties are freed. Refusals: Short, TooLarge, NoData."""
         message = self.held[source]
         run = run_of(message)
         if count < -1 or count > total(run):
@@ -357,34 +415,42 @@ class Model:
             if message[1].length() == 0:
                 self.release(message.pop(1).data)
 
-    @word("from", 1)
+    @word("Messages", "from")
     def msgdsize(self, source: str) -> str:
+        """Counts the bytes of the message in R in blocks of type M_DATA. Reply: size."""
         return f"size {total(block for block in self.held[source] if block.data.kind == 'M_DATA')}"
 
-    @word("from", 1)
+    @word("Messages", "from", own=True)
     def size(self, source: str) -> str:
+        """Counts all bytes of the message in R. Reply: size."""
         return f"size {total(self.held[source])}"
 
-    @word("from at", 3)
+    @word("Messages", "from at", 3, own=True)
     def read(self, source: str, at: int) -> str:
+        """Shows at most 64 bytes of the message in R, from its byte AT on, counted from 0 over all blocks. Reply:
+        bytes."""
         return f"bytes {octets_of(self.held[source])[at : at + 64].hex() or '-'}"
 
-    @word("from block", 4)
+    @word("Messages", "from block", 4, own=True)
     def block(self, source: str, k: int) -> str:
+        """Shows type, length, band, room and references of block K of the message in R. Reply: block. Refusal:
+        NoSuchBlock."""
         block = self.block_at(source, k)
         return (
             f"block {block.data.kind} len={block.length()} band={block.band} room={block.room()}"
             f" names={block.data.names}"
         )
 
-    @word("from", 2)
+    @word("Messages", "from", 2)
     def freeb(self, source: str) -> None:
+        """Frees the first block of the message in R; R keeps the rest."""
         first, *rest = self.held[source]
         self.release(first.data)
         self.leave(source, rest)
 
-    @word("from", 3)
+    @word("Messages", "from", 3)
     def freemsg(self, source: str) -> None:
+        """Frees the message in R."""
         for block in self.held.pop(source):
             self.release(block.data)
 
@@ -414,24 +480,27 @@ class Model:
         if settled:
             self.enable_behind(number)
 
-    @word("queue from", 6)
+    @word("Queues", "queue from", 6)
     def putq(self, number: int, source: str) -> None:
+        """Puts the message in R on queue Q, after those of its rank or a greater one."""
         queue = self.queues[number]
         own = rank(self.held[source])
         self.place(number, sum(rank(message) >= own for message in queue.messages), source)
         if own == 256 or not queue.enabling_is_off and (queue.wants_to_read or own > 0):
             self.enable(number)
 
-    @word("queue from", 2)
+    @word("Queues", "queue from", 2)
     def putbq(self, number: int, source: str) -> None:
+        """Puts the message in R back on queue Q, before those of its rank or a smaller one."""
         queue = self.queues[number]
         own = rank(self.held[source])
         self.place(number, sum(rank(message) > own for message in queue.messages), source)
         if own == 256 or not queue.enabling_is_off and queue.wants_to_read:
             self.enable(number)
 
-    @word("queue place from", 3)
+    @word("Queues", "queue place from", 3)
     def insq(self, number: int, k: int, source: str) -> None:
+        """Puts the message in R on queue Q at place K. Refusals: NoSuchPlace, BadOrder."""
         queue = self.queues[number]
         messages = queue.messages
         if k > len(messages):
@@ -444,8 +513,9 @@ class Model:
         if not queue.enabling_is_off and queue.wants_to_read:
             self.enable(number)
 
-    @word("queue to", 6)
+    @word("Queues", "queue to", 6)
     def getq(self, number: int, to: str) -> str | None:
+        """Takes the first message off queue Q into R. Reply: ok, none."""
         queue = self.queues[number]
         queue.wants_to_read = not queue.messages
         if not queue.messages:
@@ -454,8 +524,9 @@ class Model:
         self.settle(number)
         return None
 
-    @word("queue place to", 3)
+    @word("Queues", "queue place to", 3)
     def rmvq(self, number: int, k: int, to: str) -> None:
+        """Takes the message at place K off queue Q into R. Refusal: NoSuchPlace."""
         messages = self.queues[number].messages
         if k >= len(messages):
             raise Refused("9 NoSuchPlace")
@@ -474,16 +545,21 @@ class Model:
         queue.messages = kept
         self.settle(number)
 
-    @word("queue flag", 2)
+    @word("Queues", "queue flag", 2)
     def flushq(self, number: int, flag: str) -> None:
+        """Frees the messages of queue Q: all, or only those that carry data."""
         self.flush(number, range(257), flag)
 
-    @word("queue band flag", 2)
+    @word("Queues", "queue band flag", 2)
     def flushband(self, number: int, band: int, flag: str) -> None:
+        """Frees the messages of band B of queue Q: all, or only those that carry data."""
         self.flush(number, ranks_of(band), flag)
 
-    @word("queue band", 10)
+    @word("Flow control", "queue band", 10)
     def bcanput(self, number: int, band: int) -> str:
+        """Asks whether a message of band B may be sent to queue Q. From Q on, along next queues, the first one with a
+        service procedure decides, or if none has one, the last queue: the *target*. If the band of the target is
+        full, the reply is no and the band is marked *wanted*. Reply: yes, no."""
         queue = self.queues[number]
         while not queue.has_service and queue.next != "-":
             queue = self.queues[queue.next]
@@ -492,39 +568,48 @@ class Model:
         queue.wanted.add(band)
         return "no"
 
-    @word("queue marked high low", 8)
+    @word("Flow control", "queue marked high low", 8)
     def strqset(self, number: int, band: int, high: int, low: int) -> None:
+        """Sets both water marks of band B of queue Q. Refusal: BadMarks."""
         if low >= high:
             raise Refused("20 BadMarks")
         self.queues[number].marks[band] = high, low
         self.settle(number)
 
-    @word("queue marked", 2)
+    @word("Flow control", "queue marked", 2)
     def strqget(self, number: int, band: int) -> str:
+        """Shows both water marks of band B of queue Q. Reply: marks."""
         return "marks {} {}".format(*self.queues[number].marks_of(band))
 
-    @word("queue", 1)
+    @word("Queues", "queue")
     def qsize(self, number: int) -> str:
+        """Counts the messages of queue Q. Reply: size."""
         return f"size {len(self.queues[number].messages)}"
 
-    @word("queue", 1)
+    @word("Service", "queue")
     def qenable(self, number: int) -> None:
+        """Appends queue Q to the run list, if it has a service procedure and is not on the list."""
         self.enable(number)
 
-    @word("queue", 1)
+    @word("Service", "queue")
     def noenable(self, number: int) -> None:
+        """Switches off enabling of queue Q by messages, except by those of high priority."""
         self.queues[number].enabling_is_off = True
 
-    @word("queue", 2)
+    @word("Service", "queue", 2)
     def enableok(self, number: int) -> None:
+        """Switches enabling of queue Q by messages on again."""
         self.queues[number].enabling_is_off = False
 
-    @word("", 2)
+    @word("Service", "", 2, own=True)
     def service(self) -> str:
+        """Takes the first queue off the run list. Reply: queue, none."""
         return f"queue {self.run.pop(0)}" if self.run else "none"
 
-    @word("size", 4)
+    @word("Wishes and census", "size", 4)
     def bufcall(self, size: int) -> str:
+        """Records a wish: a request to hear when `allocb` of this size would succeed. Reply: id. Refusals: TooLarge,
+        Full, IdsSpent."""
         if size > self.pool.greatest():
             raise Refused("1 TooLarge")
         if len(self.wishes) == self.pool.bufcalls:
@@ -535,23 +620,26 @@ class Model:
         self.next_id += 1
         return f"id {self.wishes[-1][0]}"
 
-    @word("id", 2)
+    @word("Wishes and census", "id", 2)
     def unbufcall(self, own: int) -> None:
+        """Withdraws the wish with this id. Refusal: NotPending."""
         kept = [wish for wish in self.wishes if wish[0] != own]
         if kept == self.wishes:
             raise Refused("14 NotPending")
         self.wishes = kept
 
-    @word("", 3)
+    @word("Wishes and census", "", 3, own=True)
     def ready(self) -> str:
+        """Removes and shows the oldest wish that can be met now. No block is reserved. Reply: ready, none."""
         for wish in self.wishes:
             if self.fits(wish[1]):
                 self.wishes.remove(wish)
                 return "ready {} {}".format(*wish)
         return "none"
 
-    @word("", 1)
+    @word("Wishes and census", "", own=True)
     def census(self) -> str:
+        """Counts the message blocks: free, on queues, and held. Reply: census."""
         return "census {} {} {}".format(*self.counts())
 
     def report(self) -> list[str]:

@@ -21,7 +21,6 @@ class Wrong(Exception):
 
 # A command: number, word, items, values.
 Command = Tuple[int, str, List[str], Values]
-ITEMS = {word: items.split() for word, (items, _) in WORDS.items()}
 
 
 def value_of(item: str, text: str) -> Any:
@@ -53,7 +52,7 @@ class Section:
     def __getitem__(self, place: int) -> Command:
         number = self.numbers[place]
         word, *rest = self.lines[number - 1].split(" ")
-        items = ITEMS[word]
+        items = WORDS[word].items
         return number, word, items, [value_of(*pair) for pair in zip(items, rest)]
 
     def __iter__(self) -> Iterator[Command]:
@@ -71,7 +70,7 @@ def lazily(script: str) -> tuple[Pool, list[Section]]:
             header[word].append(rest.split(" "))
         elif line == "worker":
             sections.append(Section(lines))
-        elif word in ITEMS:
+        elif word in WORDS:
             sections[-1].numbers.append(number)
     return pool_of(header), sections
 

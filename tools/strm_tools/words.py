@@ -1,7 +1,10 @@
-"""Each word that a line of a script may begin with: its form, as in strm(1) but in capital letters, and one sentence."""
+"""Each word that a line of a script may begin with: its form, as in strm(1) but in capital letters, and what it does."""
+from __future__ import annotations
+
 import textwrap
 from typing import Iterator, NamedTuple
 
+from strm_tools import model
 from strm_tools.faults import AFTER, GREATEST
 from strm_tools.model import HIGH_PRIORITY, ORDINARY
 from strm_tools.shown import shown
@@ -25,58 +28,25 @@ HEADER = {
     "bufcalls": Word("WISHES ID", "At most WISHES wishes are recorded at a time, and the first has this id."),
     "worker": Word("", "Begins another section, with empty registers: the commands of another worker."),
 }
-# The commands, in the groups of strm(1).
-COMMANDS = {
-    "Messages": {
-        "allocb": Word("R SIZE", "Allocates a message of one block, for SIZE bytes or more, into register R."),
-        "testb": Word("SIZE", "Says whether allocb of this size would succeed."),
-        "dupb": Word("R S", "Duplicates the first block of the message in R into S, over the same data block."),
-        "dupmsg": Word("R S", "Duplicates all blocks of the message in R into S, over the same data blocks."),
-        "copyb": Word("R S", "Copies the first block of the message in R into S, with a new data block."),
-        "copymsg": Word("R S", "Copies all blocks of the message in R into S, with new data blocks."),
-        "write": Word("R K HEX", "Appends bytes, two digits each, to block K of the message in R."),
-        "settype": Word("R K TYPE", "Sets the type of the data block of block K."),
-        "setband": Word("R B", "Sets the band of the message in R."),
-        "linkb": Word("R S", "Appends the message in S to that in R, and empties S."),
-        "unlinkb": Word("R S", "Moves all blocks but the first from R into S."),
-        "rmvb": Word("R K S", "Moves block K of the message in R into S."),
-        "adjmsg": Word("R N", "Removes N bytes at the beginning of the message in R, or for a negative N at its end."),
-        "pullupmsg": Word("R N", "Gathers the first N bytes of the message in R in its first block; -1 means all."),
-        "msgdsize": Word("R", "Counts the bytes in blocks of type M_DATA."),
-        "size": Word("R", "Counts all bytes of the message in R."),
-        "read": Word("R AT", "Shows at most 64 bytes of the message in R, from its byte AT on."),
-        "block": Word("R K", "Shows type, length, band, room and references of block K."),
-        "freeb": Word("R", "Frees the first block of the message in R; R keeps the rest."),
-        "freemsg": Word("R", "Frees the message in R."),
-    },
-    "Queues": {
-        "putq": Word("Q R", "Puts the message in R on queue Q, after those of its rank or a greater one."),
-        "putbq": Word("Q R", "Puts the message in R back on queue Q, before those of its rank or a smaller one."),
-        "insq": Word("Q K R", "Puts the message in R on queue Q at place K."),
-        "getq": Word("Q R", "Takes the first message off queue Q into R."),
-        "rmvq": Word("Q K R", "Takes the message at place K off queue Q into R."),
-        "flushq": Word("Q WHAT", "Frees the messages of queue Q: all, or only those that carry data."),
-        "flushband": Word("Q B WHAT", "Frees the messages of one band of queue Q: all, or only those that carry data."),
-        "qsize": Word("Q", "Counts the messages of queue Q."),
-    },
-    "Flow control": {
-        "bcanput": Word("Q B", "Asks whether band B has room at the nearest queue from Q on that has a service procedure."),
-        "strqset": Word("Q B HIWAT LOWAT", "Sets both water marks of band B of queue Q."),
-        "strqget": Word("Q B", "Shows both water marks of band B of queue Q."),
-    },
-    "Service": {
-        "qenable": Word("Q", "Puts queue Q on the run list, if it has a service procedure and is not there."),
-        "noenable": Word("Q", "Switches off enabling by messages, except by those of high priority."),
-        "enableok": Word("Q", "Switches enabling by messages on again."),
-        "service": Word("", "Takes the first queue off the run list."),
-    },
-    "Wishes and census": {
-        "bufcall": Word("SIZE", "Records a wish: to hear when allocb of this size would succeed."),
-        "unbufcall": Word("ID", "Withdraws the wish with this id."),
-        "ready": Word("", "Removes and shows the oldest wish that can be met now."),
-        "census": Word("", "Counts the message blocks: free, on queues, and held."),
-    },
+# The letter or word of an item in a form, where that is not the item's name. A second register is S.
+NAMES = {
+    **dict.fromkeys(["from", "to"], "R"),
+    **dict.fromkeys(["block", "place"], "K"),
+    **dict.fromkeys(["band", "marked"], "B"),
+    **{"queue": "Q", "count": "N", "octets": "HEX", "kind": "TYPE", "flag": "WHAT", "high": "HIWAT", "low": "LOWAT"},
 }
+
+
+def form_of(items: list[str]) -> str:
+    """The form of a command, such as `R K S`."""
+    names = [NAMES.get(item, item.upper()) for item in items]
+    return " ".join("S" if name == "R" in names[:at] else name for at, name in enumerate(names))
+
+
+# The commands, in the groups of strm(1).
+COMMANDS: dict[str, dict[str, Word]] = {}
+for word, row in model.WORDS.items():
+    COMMANDS.setdefault(row.group, {})[word] = Word(form_of(row.items), row.does.replace("*", ""))
 WORDS = {**HEADER, **{word: entry for group in COMMANDS.values() for word, entry in group.items()}}
 # The types, by the priority that a message has with them.
 TYPES = {"Types of ordinary priority": ORDINARY, "Types of high priority": HIGH_PRIORITY}

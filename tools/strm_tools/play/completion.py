@@ -82,7 +82,7 @@ def completed(play: Play, commands: dict[str, str], before: list[str], begin: st
         words = [*WORDS, "worker", *commands]
     else:
         word, *rest = before
-        items = (WORDS[word][0] if word in WORDS else commands.get(word, "")).split()
+        items = WORDS[word].items if word in WORDS else commands.get(word, "").split()
         item = items[len(rest)] if len(rest) < len(items) else ""
         if item == "file":
             return files(begin)

@@ -27,7 +27,7 @@ class Letters:
         """A line of a worker, which the model executes next, with letters; or None if there are too few."""
         self.given = {pair: letter for pair, letter in self.given.items() if pair[1] in model.workers[pair[0]]}
         word, *rest = text.split(" ")
-        items = WORDS[word][0].split()
+        items = WORDS[word].items
         words = [self.letter(worker, value) if item in ("from", "to") else value for item, value in zip(items, rest)]
         known = [word for word in words if word is not None]
         return " ".join([word, *known]) if len(known) == len(words) else None

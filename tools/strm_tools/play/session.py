@@ -214,7 +214,7 @@ class Play:
 def parted(text: str) -> tuple[str, list[str], Values]:
     """The word of a command, its items and its values."""
     word, *rest = text.split(" ")
-    items = WORDS[word][0].split()
+    items = WORDS[word].items
     return word, items, [value_of(*pair) for pair in zip(items, rest)]
 
 
