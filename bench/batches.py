@@ -1,14 +1,12 @@
 #!/usr/bin/env python3
 """Measures what a call costs that is served in a batch, beside one that is served alone and one that is applied, and how many calls four threads
 serve. It uses the program of crates/strm_bench, and prints tables. bench/README.md says how."""
-import argparse
 import os
-import shutil
 import statistics
 import sys
 from concurrent.futures import ThreadPoolExecutor
 
-from programs import Running, collected, rewrite
+from programs import Running, collected, options, show
 
 # Each row by what its calls are, with the number of calls in a round and of lines in a batch.
 ROWS = {
@@ -107,19 +105,11 @@ def four_threads(program, turns):
 
 def main():
     """Measures, prints, and with --write rewrites docs/COST.md."""
-    words = argparse.ArgumentParser(description=__doc__)
-    words.add_argument("program", help="the path of strm_bench")
-    words.add_argument("--turns", type=int, default=11, help="turns for each median")
-    words.add_argument("--write", action="store_true", help="put the tables into docs/COST.md")
-    given = words.parse_args()
-    if not shutil.which("valgrind"):
-        sys.exit("valgrind is not installed")
+    given = options(__doc__, ["valgrind"], 11, program="the path of strm_bench")
     program = os.path.abspath(given.program)
     lines = ["Instructions and nanoseconds of a call, with the loop over the calls and their replies:", ""]
     lines += [*one_thread(program, given.turns), "", *four_threads(program, given.turns)]
-    print("\n".join(lines))
-    if given.write:
-        rewrite("batches", lines)
+    show(given, "batches", lines)
 
 
 if __name__ == "__main__":

@@ -1,12 +1,7 @@
 #!/usr/bin/env python3
-"""Measures calls of strm.h and the ways of packets, beside the calls of `Pool` and a pool written by hand in C. bench/README.md says how.
-
-    bench/c.py [--rounds N] [--write] LIBRARY [PROGRAM]
-"""
-import argparse
+"""Measures calls of strm.h and the ways of packets, beside the calls of `Pool` and a pool written by hand in C. bench/README.md says how."""
 import os
 import re
-import shutil
 import statistics
 import subprocess
 import sys
@@ -16,7 +11,7 @@ from typing import NamedTuple
 import library
 import peers
 from c_functions import functions
-from programs import rewrite
+from programs import options, rewrite
 
 TOP = os.path.dirname(os.path.dirname(os.path.abspath(__file__)))
 SOURCES = [os.path.join(TOP, "bench", "c", name) for name in ("rounds.c", "plain.c")]
@@ -174,20 +169,14 @@ def opening(archive, room):
 
 
 def main():
-    words = argparse.ArgumentParser(description=__doc__.splitlines()[0])
-    words.add_argument("--rounds", type=int, default=9, help="runs for each median")
-    words.add_argument("--write", action="store_true", help="put the tables into docs/COST.md, but for that of functions")
-    words.add_argument("library", metavar="LIBRARY", help="the path of the library for C")
-    words.add_argument("program", metavar="PROGRAM", nargs="?", help="the path of strm_bench; without it the columns of `Pool` are empty")
-    given = words.parse_args()
+    program = {"nargs": "?", "help": "the path of strm_bench; without it the columns of `Pool` are empty"}
+    given = options(__doc__, ["valgrind"], 9, library="the path of the library for C", program=program)
     if given.write and not given.program:
-        words.error("--write needs PROGRAM")
-    if not shutil.which("valgrind"):
-        sys.exit("valgrind is not installed")
+        sys.exit("--write needs PROGRAM")
     with tempfile.TemporaryDirectory() as room:
         program = built("rounds", SOURCES, given.library, room)
-        lines = list(table(program, given.program and os.path.abspath(given.program), given.rounds))
-        lines += ["", "The way of a packet of one block, which waits on a queue between the two looks:", "", *ways(given.library, room, given.rounds)]
+        lines = list(table(program, given.program and os.path.abspath(given.program), given.turns))
+        lines += ["", "The way of a packet of one block, which waits on a queue between the two looks:", "", *ways(given.library, room, given.turns)]
         inside = ["Where these instructions are, an export with all that is inlined into it:", "", *functions(program, peers.built(peers.OURS, given.library, room))]
         opened = list(opening(given.library, room))
     print("\n".join([*lines, "", *inside, "", *opened]))

@@ -1,13 +1,11 @@
 #!/usr/bin/env python3
 """Measures what a look at the census without the lock costs beside a C function, and prints a table. bench/README.md says how."""
-import argparse
 import os
 import shutil
 import subprocess
 import sys
-import tempfile
 
-from programs import Running, collected, medians, rewrite
+from programs import Running, collected, medians, options, show
 from strm_tools.limits import MESSAGE_BLOCKS
 
 HERE = os.path.dirname(os.path.abspath(__file__))
@@ -139,19 +137,10 @@ def table(looks):
 
 def main():
     """Builds, measures, prints, and with --write rewrites docs/COST.md."""
-    words = argparse.ArgumentParser(description=__doc__)
-    words.add_argument("--rounds", type=int, default=41, help="turns for each median")
-    words.add_argument("--room", default=os.path.join(tempfile.gettempdir(), "strm_census"), help="where to build the programs and keep them")
-    words.add_argument("--write", action="store_true", help="put the table into docs/COST.md")
-    given = words.parse_args()
-    if not shutil.which("valgrind"):
-        sys.exit("valgrind is not installed")
+    given = options(__doc__, ["valgrind"], 41, "strm_census")
     now = tree_of_work(given.room, USES)
     add_program(now, CRATE, USES, os.path.join(HERE, "census", "look"))
-    lines = list(table(list(look_costs(compiled(given.room), proved(now, CRATE), given.rounds))))
-    print("\n".join(lines))
-    if given.write:
-        rewrite("census", lines)
+    show(given, "census", list(table(list(look_costs(compiled(given.room), proved(now, CRATE), given.turns)))))
 
 
 if __name__ == "__main__":

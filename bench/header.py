@@ -1,14 +1,11 @@
 #!/usr/bin/env python3
 """Counts what `hop` of crates/strm_header takes beside the same in plain Rust, and prints a table. bench/README.md says how."""
-import argparse
 import os
-import shutil
 import subprocess
 import sys
-import tempfile
 
 from census import HERE, add_program, proved, tree_of_work
-from programs import collected, rewrite
+from programs import collected, options, show
 
 # The program's crate, and the libraries that it uses.
 CRATE, USES = "bench_hop", ["arrayvec", "strm_header", "strm_mblk", "strm_pool"]
@@ -46,19 +43,10 @@ def table(plain, own):
 
 def main():
     """Builds, counts, prints, and with --write rewrites docs/COST.md."""
-    words = argparse.ArgumentParser(description=__doc__)
-    words.add_argument("--room", default=os.path.join(tempfile.gettempdir(), "strm_header"), help="where to build the programs and keep them")
-    words.add_argument("--write", action="store_true", help="put the table into docs/COST.md")
-    given = words.parse_args()
-    for needed in ("valgrind", "rustc"):
-        if not shutil.which(needed):
-            sys.exit(f"{needed} is not installed")
+    given = options(__doc__, ["valgrind", "rustc"], room="strm_header")
     now = tree_of_work(given.room, USES)
     add_program(now, CRATE, USES, os.path.join(HERE, "header", "hop"))
-    lines = list(table(compiled(given.room), proved(now, CRATE)))
-    print("\n".join(lines))
-    if given.write:
-        rewrite("header", lines)
+    show(given, "header", list(table(compiled(given.room), proved(now, CRATE))))
 
 
 if __name__ == "__main__":

@@ -1,14 +1,12 @@
 #!/usr/bin/env python3
 """Measures what calls of the libraries cost, by rounds of the program of crates/strm_bench, and prints tables. bench/README.md says how."""
-import argparse
 import os
-import shutil
 import sys
 import textwrap
 from concurrent.futures import ThreadPoolExecutor
 from typing import NamedTuple
 
-from programs import Running, collected, medians, rewrite
+from programs import Running, collected, medians, options, show
 from strm_tools.limits import MESSAGE_BLOCKS
 
 POOLS = (255, 4_095, MESSAGE_BLOCKS)
@@ -253,23 +251,14 @@ def tables(counts, times, before):
 
 def main():
     """Measures, prints, and with --write rewrites docs/COST.md."""
-    words = argparse.ArgumentParser(description=__doc__)
-    words.add_argument("program", help="the path of strm_bench")
-    words.add_argument("--turns", type=int, default=21, help="turns for each median")
-    words.add_argument("--before", metavar="PROGRAM", help="also count the instructions of another build")
-    words.add_argument("--write", action="store_true", help="put the tables into docs/COST.md")
-    given = words.parse_args()
-    if not shutil.which("valgrind"):
-        sys.exit("valgrind is not installed")
+    others = {"program": "the path of strm_bench", "--before": {"metavar": "PROGRAM", "help": "also count the instructions of another build"}}
+    given = options(__doc__, ["valgrind"], 21, **others)
     measures = wanted()
     counts = all_instructions(os.path.abspath(given.program), measures)
     before = all_instructions(os.path.abspath(given.before), measures) if given.before else {}
     timed = [measure for measure in measures if measure.blocks == MIDDLE and not measure.within]
     times = nanoseconds(os.path.abspath(given.program), timed, counts, given.turns)
-    lines = list(tables(counts, times, before))
-    print("\n".join(lines))
-    if given.write:
-        rewrite("library", lines)
+    show(given, "library", list(tables(counts, times, before)))
 
 
 if __name__ == "__main__":

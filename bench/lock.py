@@ -1,14 +1,12 @@
 #!/usr/bin/env python3
 """Measures what a line of a script costs by four workers, beside the floor of one lock, and prints a table. bench/README.md says how."""
-import argparse
 import os
-import shutil
 import subprocess
 import sys
 import tempfile
 import time
 
-from programs import Running, medians, rewrite
+from programs import Running, medians, options, show
 
 HERE = os.path.dirname(os.path.abspath(__file__))
 # How many turns of the lock, and how many lines, one measurement takes.
@@ -105,21 +103,12 @@ def table(floor, lines):
 
 def main():
     """Builds, measures, prints, and with --write rewrites docs/COST.md."""
-    words = argparse.ArgumentParser(description=__doc__)
-    words.add_argument("program", help="the program strm")
-    words.add_argument("--rounds", type=int, default=9, help="how many measurements a median is taken of")
-    words.add_argument("--write", action="store_true", help="put the table into docs/COST.md")
-    given = words.parse_args()
-    if not shutil.which(os.environ.get("CC", "cc")):
-        sys.exit("a C compiler is not installed")
+    given = options(__doc__, [os.environ.get("CC", "cc")], 9, program="the program strm")
     with tempfile.TemporaryDirectory() as room, Running(compiled(room)) as running:
-        rounds = [(*floors(running), *lines_of(given.program, room)) for _ in range(given.rounds)]
+        rounds = [(*floors(running), *lines_of(given.program, room)) for _ in range(given.turns)]
     measured = medians(rounds)
     floor, lines = measured[: len(FLOORS)], measured[len(FLOORS) :]
-    lines = list(table(floor, list(zip(lines[::2], lines[1::2]))))
-    print("\n".join(lines))
-    if given.write:
-        rewrite("lock", lines)
+    show(given, "lock", list(table(floor, list(zip(lines[::2], lines[1::2])))))
 
 
 if __name__ == "__main__":

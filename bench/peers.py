@@ -1,21 +1,16 @@
 #!/usr/bin/env python3
 """Measures the same works over strm.h, over a pool written by hand in C, and over DPDK, lwIP and GLib where Debian's packages are installed.
-bench/README.md says how.
-
-    bench/peers.py [--turns N] [--write] LIBRARY
-"""
-import argparse
+bench/README.md says how."""
 import os
 import re
 import shlex
-import shutil
 import subprocess
 import sys
 import tempfile
 from concurrent.futures import ThreadPoolExecutor
 from typing import NamedTuple
 
-from programs import rewrite
+from programs import options, rewrite
 
 TOP = os.path.dirname(os.path.dirname(os.path.abspath(__file__)))
 SOURCES = os.path.join(TOP, "bench", "peers")
@@ -203,13 +198,7 @@ def measured(programs, turns):
 
 
 def main():
-    words = argparse.ArgumentParser(description=__doc__.splitlines()[0])
-    words.add_argument("--turns", "--rounds", type=int, default=5, help="runs of each program, of which the fastest counts")
-    words.add_argument("--write", action="store_true", help="put the tables of times into docs/COST.md and docs/C.md")
-    words.add_argument("library", metavar="LIBRARY", help="the path of the library for C")
-    given = words.parse_args()
-    if not shutil.which("valgrind"):
-        sys.exit("valgrind is not installed")
+    given = options(__doc__, ["valgrind"], 5, library="the path of the library for C")
     with tempfile.TemporaryDirectory() as room:
         programs = {name: built(name, os.path.abspath(given.library), room) for name in PEERS}
         missing = [PEERS[name] for name, program in programs.items() if program is None]

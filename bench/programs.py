@@ -1,12 +1,45 @@
-"""Runs the small programs that are measured, and puts tables into pages of docs. library.py, census.py, c.py and peers.py use it."""
+"""What the benchmarks share: their options, how small programs that are measured are run, and tables in pages of docs."""
+import argparse
 import os
 import re
+import shutil
 import statistics
 import subprocess
 import sys
+import tempfile
 import time
 
 DOCS = os.path.join(os.path.dirname(os.path.abspath(__file__)), "..", "docs")
+
+
+def options(doc, needs, turns=0, room="", **others):
+    """The options of a benchmark, and its arguments, each with its help or with all that argparse is told of it. Ends it if a tool is missing
+    that it needs."""
+    parser = argparse.ArgumentParser(description=doc)
+    if turns:
+        parser.add_argument("--turns", "--rounds", type=int, default=turns, help="how many measurements a median is taken of")
+    if room:
+        parser.add_argument("--room", default=os.path.join(tempfile.gettempdir(), room), help="where to build the programs and keep them")
+    parser.add_argument("--write", action="store_true", help="put the tables into docs")
+    for name, given in others.items():
+        parser.add_argument(name, **({"help": given} if isinstance(given, str) else given))
+    given = parser.parse_args()
+    require(*needs)
+    return given
+
+
+def require(*tools):
+    """Ends the benchmark if a tool is missing."""
+    for tool in tools:
+        if not shutil.which(tool):
+            sys.exit(f"{tool} is not installed")
+
+
+def show(given, name, lines):
+    """Prints tables, and with --write puts them into docs/COST.md."""
+    print("\n".join(lines))
+    if given.write:
+        rewrite(name, lines)
 
 
 class Running:

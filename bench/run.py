@@ -1,11 +1,9 @@
 #!/usr/bin/env python3
 """Measures what a line and a call of the program `strm` cost, and prints tables. bench/README.md says how."""
-import argparse
 import math
 import os
 import random
 import re
-import shutil
 import statistics
 import subprocess
 import sys
@@ -13,6 +11,7 @@ import tempfile
 from functools import partial
 from itertools import count, islice
 
+from programs import DOCS, options, require, rewrite
 from script import RANKED, WORDS, drawn
 
 from strm_tools.limits import DATA_BLOCK_BYTES, DATA_BLOCKS, MESSAGE_BLOCKS, SCRIPT_BYTES, WISHES
@@ -20,8 +19,6 @@ from strm_tools.limits import DATA_BLOCK_BYTES, DATA_BLOCKS, MESSAGE_BLOCKS, SCR
 SIZES = (1_000, 10_000, 100_000, 1_000_000)
 POOLS = (16, 255, 4_095, MESSAGE_BLOCKS)
 QUEUED = (16, 12_000)
-DOCS = os.path.join(os.path.dirname(os.path.abspath(__file__)), "..", "docs")
-BEGIN, END = "<!-- bench: begin -->\n", "<!-- bench: end -->\n"
 # Runs a program, then prints its peak memory in KiB. Without a shell in between, Python's own peak would be the least.
 TELL_PEAK = """"$@" && exec "$0" -c 'import resource, sys
 print(resource.getrusage(resource.RUSAGE_CHILDREN).ru_maxrss, file=sys.stderr)'"""
@@ -255,36 +252,21 @@ def plot(meter, by_line, by_call):
     yield "</svg>"
 
 
-def rewrite(lines, picture):
-    """Puts the tables between the marks of docs/COST.md, and the plot into docs/cost.svg."""
-    page = os.path.join(DOCS, "COST.md")
-    with open(page) as text:
-        before, rest = text.read().split(BEGIN)
-    written = "\n".join([*lines, "", "![How the cost grows](cost.svg)"])
-    with open(page, "w") as text:
-        text.write(f"{before}{BEGIN}\n{written}\n\n{END}{rest.split(END)[1]}")
-    with open(os.path.join(DOCS, "cost.svg"), "w") as text:
-        text.writelines(f"{line}\n" for line in picture)
-
-
 def main():
     """Measures, prints, and with --write rewrites docs/COST.md and docs/cost.svg."""
-    words = argparse.ArgumentParser(description=__doc__)
-    words.add_argument("program", help="the path of strm")
-    words.add_argument("--rounds", type=int, default=5, help="runs for each median")
-    words.add_argument("--instructions", action="store_true", help="count instructions by valgrind instead of time")
-    words.add_argument("--write", action="store_true", help="put the tables into docs/COST.md and the plot into docs/cost.svg")
-    given = words.parse_args()
-    if given.instructions and not shutil.which("valgrind"):
-        sys.exit("valgrind is not installed")
-    rounds = 1 if given.instructions else given.rounds
+    instructions = {"action": "store_true", "help": "count instructions by valgrind instead of time"}
+    given = options(__doc__, [], 5, program="the path of strm", **{"--instructions": instructions})
+    require(*["valgrind"] * given.instructions)
+    rounds = 1 if given.instructions else given.turns
     with tempfile.TemporaryDirectory() as folder:
         meter = Meter(os.path.abspath(given.program), rounds, given.instructions, folder)
         by_line, by_call, by_rank = line_costs(meter), call_costs(meter), ranked_costs(meter)
     lines = list(tables(meter, by_line, by_call, by_rank))
     print("\n".join([*lines, "", "The other rounds:", "", *call_table(POOLS, [row for row in by_call if not grows(row[2])])]))
     if given.write:
-        rewrite(lines, plot(meter, by_line, by_call))
+        rewrite("bench", [*lines, "", "![How the cost grows](cost.svg)"])
+        with open(os.path.join(DOCS, "cost.svg"), "w") as text:
+            text.writelines(f"{line}\n" for line in plot(meter, by_line, by_call))
 
 
 if __name__ == "__main__":

@@ -5,3 +5,9 @@ import sys
 TOP = os.path.dirname(os.path.dirname(os.path.dirname(os.path.abspath(__file__))))
 # Python finds modules beside the script that it runs, but strm_tools and the lines that bench/script.py draws are in other folders.
 sys.path[:0] = [os.path.join(TOP, "tools"), os.path.join(TOP, "bench")]
+
+
+def read(*path):
+    """A file of the repository, or one at a path from the root."""
+    with open(os.path.join(TOP, *path), encoding="utf-8") as file:
+        return file.read()

@@ -1,8 +1,12 @@
 """Draws lines of all words, and answers them by the model."""
 from making.served import print_served
-from strm_tools.model import HIGH_PRIORITY, ORDINARY, WORDS, Model, rank
+from strm_tools.judge import Replay
+from strm_tools.model import HIGH_PRIORITY, ORDINARY, WORDS, Model, Pool, rank
 
 REGISTERS = "abcdefghijklmz"
+# A pool for one worker or few, and a pool for sixteen.
+FEW = Pool(24, [(16, 12), (64, 6)], [(12, 4, "s", 1), (8, 0, "n", 2), (9, 3, "s", "-")], 3, 1)
+MANY = Pool(180, [(16, 80), (64, 70), (256, 50)], [(12, 4, "s", 2), (8, 0, "s", 3), (20, 9, "n", 4), (6, 2, "n", "-"), (9, 3, "s", "-")], 3, 8)
 
 
 class Dice:
@@ -96,3 +100,11 @@ def print_mixed(pool, workers, lines):
     dice = Dice()
     sections = [section(model, dice, lines) for _ in range(workers)]
     print_served(pool.header(), sections, model.report())
+
+
+def drawn_text(script, dice):
+    """A text of a script, in an order that dice make."""
+    replay, told = Replay(script), []
+    while waiting := replay.waiting():
+        told.append(replay.serve(dice.one_of(waiting)))
+    return "".join(f"{line}\n" for line in told + replay.model.report())

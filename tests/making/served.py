@@ -21,6 +21,13 @@ def numbered(header, sections):
     return lines
 
 
+def quiet_report(held, total, *classes, read=1, enabled=0):
+    """The report of a pool with one queue, which is empty. A class is its size, its free data blocks, and all of them."""
+    data = [f"data size={size} free={free} total={count}" for size, free, count in classes]
+    queue = f"queue 0 msgs=0 bytes=0 read={read} noenable=0 enabled={enabled}"
+    return [f"blocks free={total - held} queued=0 held={held} total={total}", *data, queue, f"run {'0' if enabled else '-'}", "wishes -"]
+
+
 def print_served(header, sections, report, **others):
     """Prints a case with a script, and the text where its sections are served one after another."""
     lines = numbered(header, sections)

@@ -5,8 +5,8 @@ import subprocess
 import sys
 
 from making import TOP
+from making.telling import want
 from making.typed import Typed
-from strm_tools.judge import Wrong
 
 TOOLS = os.path.join(TOP, "tools")
 SECONDS = 60
@@ -22,11 +22,6 @@ while replay.waiting():
 text = "".join(f"{{line}}\\n" for line in lines + replay.model.report())
 print({printed}, end="")
 """
-
-
-def want(wanted, found, what):
-    if found != wanted:
-        raise Wrong(f"{what}: wanted {wanted!r}; there is {found!r}")
 
 
 class Room:

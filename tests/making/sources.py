@@ -4,7 +4,7 @@ import glob
 import os
 import re
 
-from making import TOP
+from making import TOP, read
 from making.cases import kept_cases
 
 # Cases that a program prints, for refusals that no script of a few lines meets.
@@ -14,11 +14,6 @@ FORMS = {
     **{"Reg": "register_of", "u8": "u8_of", "u32": "u32_of", "i32": "i32_of", "Octets": "octets_of"},
     **{"MsgType": "type_of", "Flush": "flush_of"},
 }
-
-
-def read(*path):
-    with open(os.path.join(TOP, *path), encoding="utf-8") as file:
-        return file.read()
 
 
 def version():

@@ -1,5 +1,8 @@
 """Makes checks, and prints what failed and what a script leaves out."""
 import shutil
+from concurrent.futures import ThreadPoolExecutor
+
+from strm_tools.judge import Wrong
 
 
 def indented(text):
@@ -12,19 +15,43 @@ def not_run(what, why):
     print(f"not run: {what}: {why}", flush=True)
 
 
-def count_checks(checks, *wrong):
-    """Makes checks, each given as its name, a function and what that gets. One fails if it raises an exception of these types, and is printed.
-    Prints how many passed and failed, and returns the script's status."""
-    passed = failed = 0
-    for name, check, *given in checks:
+def want(wanted, found, what=""):
+    """Raises `Wrong` if something else is found than is wanted."""
+    if found != wanted:
+        raise Wrong(f"{what}{what and ': '}wanted {wanted!r}; there is {found!r}")
+
+
+def hold(holds, why):
+    """Raises `Wrong` with this reason if something does not hold."""
+    if not holds:
+        raise Wrong(why)
+
+
+def count_checks(checks, *wrong, threads=0):
+    """Makes checks, each given as its name, a function and what that gets, one after another or on several threads. One fails if it raises an
+    exception of these types, and is printed. Prints how many passed and failed, and returns the script's status."""
+
+    def passes(row):
+        name, check, *given = row
         try:
             check(*given)
-            passed += 1
+            return True
         except wrong as why:
             print(f"{name}: {indented(why)}", flush=True)
-            failed += 1
-    print(f"{passed} passed, {failed} failed")
-    return 1 if failed else 0
+            return False
+
+    if threads:
+        with ThreadPoolExecutor(threads) as pool:
+            results = list(pool.map(passes, checks))
+    else:
+        results = list(map(passes, checks))
+    print(f"{sum(results)} passed, {len(results) - sum(results)} failed")
+    return 0 if all(results) else 1
+
+
+def count_rows(rows):
+    """Compares the second and the third item of each row, whose first is its name, as `count_checks` makes checks."""
+    return count_checks(((name, want, wanted, found) for name, wanted, found in rows), Wrong)
 
 
 def has(tool, of, what):
