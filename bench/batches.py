@@ -112,5 +112,4 @@ def main():
     show(given, "batches", lines)
 
 
-if __name__ == "__main__":
-    main()
+main()

@@ -185,5 +185,4 @@ def main():
         rewrite("open", opened)
 
 
-if __name__ == "__main__":
-    main()
+main()

@@ -49,5 +49,4 @@ def main():
     show(given, "header", list(table(compiled(given.room), proved(now, CRATE))))
 
 
-if __name__ == "__main__":
-    main()
+main()

@@ -111,5 +111,4 @@ def main():
     show(given, "lock", list(table(floor, list(zip(lines[::2], lines[1::2])))))
 
 
-if __name__ == "__main__":
-    main()
+main()

@@ -1,6 +1,7 @@
 """What the benchmarks share: their options, how small programs that are measured are run, and tables in pages of docs."""
 import argparse
 import os
+import pathlib
 import re
 import shutil
 import statistics
@@ -62,8 +63,7 @@ class Running:
 
     def processor_time(self):
         """The nanoseconds of processor time that its first thread has used."""
-        with open(f"/proc/{self.child.pid}/task/{self.child.pid}/schedstat") as told:
-            return int(told.read().split()[0])
+        return int(pathlib.Path(f"/proc/{self.child.pid}/task/{self.child.pid}/schedstat").read_text().split()[0])
 
     def turn(self, line):
         """Sends a line and waits for the answer. Returns the nanoseconds of the first thread's processor time, the nanoseconds that went
@@ -93,8 +93,6 @@ def rewrite(name, lines, page="COST.md"):
     """Puts tables between their two marks in a page of docs."""
     begin, end = f"<!-- {name}: begin -->\n", f"<!-- {name}: end -->\n"
     path = os.path.join(DOCS, page)
-    with open(path) as text:
-        before, rest = text.read().split(begin)
+    before, rest = pathlib.Path(path).read_text().split(begin)
     written = "\n".join(lines)
-    with open(path, "w") as text:
-        text.write(f"{before}{begin}\n{written}\n\n{end}{rest.split(end)[1]}")
+    pathlib.Path(path).write_text(f"{before}{begin}\n{written}\n\n{end}{rest.split(end)[1]}")

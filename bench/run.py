@@ -269,5 +269,4 @@ def main():
             text.writelines(f"{line}\n" for line in plot(meter, by_line, by_call))
 
 
-if __name__ == "__main__":
-    main()
+main()

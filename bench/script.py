@@ -14,13 +14,7 @@ HEADER += [f"class {DATA_BLOCK_BYTES} 95"]
 HEADER += ["queue 16 4 s 1", "queue 16 4 n 2", "queue 16 4 s 3", "queue 16 4 s -", f"bufcalls {WISHES} 1"]
 
 # Items that are counted: the names that may stand there, and of how many blocks, or messages, at least and at most.
-COUNTED = {
-    "to": (REGISTERS, 0, 0),
-    "from": (REGISTERS, 1, 40),
-    "chain": (REGISTERS, 2, 40),
-    "queue": (QUEUES, 0, 40),
-    "filled": (QUEUES, 1, 40),
-}
+COUNTED = {"to": (REGISTERS, 0, 0), "from": (REGISTERS, 1, 40), "chain": (REGISTERS, 2, 40), "queue": (QUEUES, 0, 40), "filled": (QUEUES, 1, 40)}
 # Items that are drawn. Every other item stands as it is.
 VALUES = {
     "size": ["0", "8", "16", "16", "60", "200"],
@@ -76,15 +70,12 @@ OTHERS = {
     "copyb": (2, "copyb a b; freemsg b"),
     "copymsg": (2, "copymsg a b; freemsg b", lambda x, y: (x, x)),
     "write": (12, "(allocb b 16); write b 0 6162636465666768; (freemsg b)"),
-    "settype": (2,),
     "setband": (2, "setband a 1"),
     "linkb": (4, "linkb a c; rmvb a {blocks} c", lambda x, z: (x + z, 0)),
     "unlinkb": (2, "unlinkb a b; linkb a b", lambda x, y: (1, x - 1), "chain to"),
     "rmvb": (2, "linkb a c; rmvb a {blocks} c", lambda x, y: (x - 1, 1), "chain 1 to"),
     "adjmsg": (3, "(dupmsg a b); adjmsg b {bytes}; (freemsg b)"),
     "pullupmsg": (2, "dupmsg a b; pullupmsg b {pulled}; freemsg b", lambda x: (1,), "from -1"),
-    "read": (3,),
-    "block": (2,),
     "freeb": (3, "allocb b 16; freeb b", lambda x: (x - 1,), "chain"),
     "freemsg": (10, "dupmsg a b; freemsg b", lambda x: (0,)),
     "putq": (8, "putq 0 c; getq 0 c", lambda q, x: (q + 1, 0)),
@@ -94,9 +85,9 @@ OTHERS = {
     "rmvq": (2, "insq 0 {middle} c; rmvq 0 {middle} c", lambda q, y: (q - 1, 1), "filled 0 to"),
     "flushq": (1, "allocb b 16; putq 0 b; flushq 0 data", lambda q: (0,)),
     "flushband": (1, "allocb b 16; putq 0 b; flushband 0 0 data", lambda q: (0,)),
-    "bcanput": (3,),
     "qenable": (1, "qenable 0; service"),
-    "enableok": (2,),
+    **dict.fromkeys(["settype", "block", "enableok"], (2,)),
+    **dict.fromkeys(["read", "bcanput"], (3,)),
     "service": (2, "qenable 0; service"),
     "bufcall": (1, "bufcall 16; ready"),
     "unbufcall": (1, "bufcall 16; unbufcall {round}"),

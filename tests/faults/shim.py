@@ -7,6 +7,7 @@ import tempfile
 from typing import NamedTuple
 
 from faults.imports import Unreadable, imports_of
+from making.telling import Wrong, hold
 
 SOURCE = os.path.join(os.path.dirname(os.path.abspath(__file__)), "shim.c")
 # How long a run may take.
@@ -48,14 +49,6 @@ class Answer(NamedTuple):
         return f"status {self.status}, {self.stdout[-100:]!r}, {self.stderr[-100:]!r}"
 
 
-class Ran(NamedTuple):
-    """What came of a run: its answer, how many calls of a kind were made, and how many blocks of memory were not freed."""
-
-    answer: Answer
-    made: int
-    kept: int
-
-
 class Shim:
     """A program over the shim."""
 
@@ -74,21 +67,20 @@ class Shim:
 
     def run(self, words, script, kind, failing=0, most=NO_LIMIT):
         """Runs the program on a script, where this call of a kind fails, or none, and a write to standard output takes so many
-        bytes at most."""
+        bytes at most. Returns its answer, and how many calls of the kind it made. All memory must have been freed."""
         kinds = [CALLS.pack(0, failing if calls == kind else 0) for calls in KINDS_OF_CALLS]
         plan = b"".join(kinds) + MOST.pack(most) + KEPT.pack(0)
         with tempfile.NamedTemporaryFile(dir=self.room) as mapped, open(script, "rb") as stdin:
             mapped.write(plan)
             mapped.flush()
-            ran = subprocess.run(
-                [self.program, *words],
-                stdin=stdin,
-                capture_output=True,
-                env={**os.environ, "LD_PRELOAD": self.library, "FAULTS": mapped.name},
-                timeout=SECONDS,
-            )
+            variables = {**os.environ, "LD_PRELOAD": self.library, "FAULTS": mapped.name}
+            try:
+                ran = subprocess.run([self.program, *words], stdin=stdin, capture_output=True, env=variables, timeout=SECONDS)
+            except subprocess.TimeoutExpired:
+                raise Wrong(f"it still ran after {SECONDS} seconds") from None
             mapped.seek(kind * CALLS.size)
             made, _ = CALLS.unpack(mapped.read(CALLS.size))
             mapped.seek(len(plan) - KEPT.size)
             (kept,) = KEPT.unpack(mapped.read(KEPT.size))
-        return Ran(Answer(ran.returncode, ran.stdout.decode("latin-1"), ran.stderr.decode("latin-1")), made, kept)
+        hold(kept == 0, f"{kept} blocks of memory are not freed")
+        return Answer(ran.returncode, ran.stdout.decode("latin-1"), ran.stderr.decode("latin-1")), made

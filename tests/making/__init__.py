@@ -1,5 +1,6 @@
 """What scripts and cases share."""
 import os
+import pathlib
 import sys
 
 TOP = os.path.dirname(os.path.dirname(os.path.dirname(os.path.abspath(__file__))))
@@ -9,5 +10,4 @@ sys.path[:0] = [os.path.join(TOP, "tools"), os.path.join(TOP, "bench")]
 
 def read(*path):
     """A file of the repository, or one at a path from the root."""
-    with open(os.path.join(TOP, *path), encoding="utf-8") as file:
-        return file.read()
+    return pathlib.Path(TOP, *path).read_text(encoding="utf-8")

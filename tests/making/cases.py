@@ -2,6 +2,7 @@
 """Reads the cases of tests/cases, in the form that tests/README.md explains. `tests/making/cases.py NAME SECTION` prints a section of a case."""
 import functools
 import os
+import pathlib
 import re
 import subprocess
 import sys
@@ -24,8 +25,7 @@ def in_file(path):
     name = os.path.basename(path)
     if os.access(path, os.X_OK):
         return {name: None}
-    with open(path, "rb") as file:
-        text = file.read()
+    text = pathlib.Path(path).read_bytes()
     first, *parts = NAME.split(text)
     if first or not parts:
         return {name: text}
@@ -127,15 +127,13 @@ class Case:
         """The bytes of the script, or None if there are none."""
         path = self.script_path()
         if path and os.path.isfile(path):
-            with open(path, "rb") as file:
-                return file.read()
+            return pathlib.Path(path).read_bytes()
         return self.sections.get("script")
 
     def write(self, folder, section):
         """Writes a section to a file in a folder, and returns the path."""
         path = os.path.join(folder, f"{self.name}.{section}")
-        with open(path, "wb") as file:
-            file.write(self.sections.get(section, b""))
+        pathlib.Path(path).write_bytes(self.sections.get(section, b""))
         return path
 
 

@@ -81,9 +81,7 @@ class Drawing:
     def bands_at(self, frame):
         """The bands of each queue that a frame shows."""
         queues = self.states[frame].queues
-        return [
-            own if len(own) <= MOST_BANDS else sorted(busy_bands(queue), reverse=True) for own, queue in zip(self.bands, queues)
-        ]
+        return [own if len(own) <= MOST_BANDS else sorted(busy_bands(queue), reverse=True) for own, queue in zip(self.bands, queues)]
 
     def items(self, frame, bands):
         """The items of a frame, by key, where each queue shows these bands."""

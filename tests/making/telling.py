@@ -49,6 +49,12 @@ def count_checks(checks, *wrong, threads=0):
     return 0 if all(results) else 1
 
 
+def compared(what, wanted, found):
+    """A row for each key of two tables: its name, what is wanted of it, and what there is."""
+    for key in dict.fromkeys([*wanted, *found]):
+        yield f"{what} {key}", wanted.get(key), found.get(key)
+
+
 def count_rows(rows):
     """Compares the second and the third item of each row, whose first is its name, as `count_checks` makes checks."""
     return count_checks(((name, want, wanted, found) for name, wanted, found in rows), Wrong)

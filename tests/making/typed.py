@@ -87,3 +87,8 @@ class Typed:
             status = None
         os.close(self.terminal)
         return status, rest
+
+    def leave(self):
+        """The same after Ctrl-D."""
+        os.write(self.terminal, b"\x04")
+        return self.end()

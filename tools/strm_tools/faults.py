@@ -329,10 +329,7 @@ def lines_of(script: str) -> io.StringIO:
 def first_fault(script: str) -> Fault | None:
     """The first fault of a script: of a line, or else of the pool that its header describes, or None."""
     reading = Reading()
-    fault = next(reading.faults(lines_of(script)), None)
-    if fault:
-        return fault
-    return next(iter(config_faults(reading.header)), None)
+    return next(reading.faults(lines_of(script)), None) or next(iter(config_faults(reading.header)), None)
 
 
 def fault_of(script: str) -> str | None:

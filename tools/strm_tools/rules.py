@@ -59,11 +59,7 @@ RULES = {
     "off": Rule("not enabled", "Enabling of queue {Q} by messages is off.", ENABLING),
     "reads": Rule("enabled", "The want-to-read mark of queue {Q} is set, so the message enables it.", ENABLING),
     "band": Rule("enabled", "`putq` of a message in band {B}, above 0, enables queue {Q}.", ENABLING),
-    "reads_not": Rule(
-        "not enabled",
-        "The last `getq` of queue {Q} found a message and cleared the want-to-read mark.",
-        ENABLING,
-    ),
+    "reads_not": Rule("not enabled", "The last `getq` of queue {Q} found a message and cleared the want-to-read mark.", ENABLING),
     "by_call": Rule("enabled", "`qenable` enables queue {Q}, even if enabling is off.", ENABLING),
     "switches": Rule("not enabled", "`noenable` and `enableok` enable no queue themselves.", ENABLING),
     "drained": Rule(
@@ -76,16 +72,8 @@ RULES = {
         "Band {B} of queue {Q} is wanted no longer; no queue before it has a service procedure.",
         FLOW,
     ),
-    "waker_runs": Rule(
-        "not enabled",
-        "Band {B} is wanted no longer; the waker, queue {W}, is on the run list already.",
-        FLOW,
-    ),
-    "stays": Rule(
-        "not enabled",
-        "Band {B} of queue {Q} stays wanted: its bytes, {N}, are above its low water mark, {L}.",
-        FLOW,
-    ),
+    "waker_runs": Rule("not enabled", "Band {B} is wanted no longer; the waker, queue {W}, is on the run list already.", FLOW),
+    "stays": Rule("not enabled", "Band {B} of queue {Q} stays wanted: its bytes, {N}, are above its low water mark, {L}.", FLOW),
     "not_wanted": Rule("not enabled", "No band of queue {Q} is wanted.", FLOW),
 }
 # Which names in sentences are those of queues.

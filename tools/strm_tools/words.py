@@ -64,11 +64,7 @@ MEANINGS = {
     "service": "s for a service procedure, or n for none",
 }
 # Where a line is, by the line before it.
-PLACES = {
-    "nothing": "at the beginning",
-    **{kind: f"after a {kind} line" for kind in HEADER},
-    "command": "after a command",
-}
+PLACES = {"nothing": "at the beginning", **{kind: f"after a {kind} line" for kind in HEADER}, "command": "after a command"}
 
 
 def allowed(before: str) -> str:

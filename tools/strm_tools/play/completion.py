@@ -3,7 +3,7 @@ from __future__ import annotations
 
 import glob
 import os
-from typing import Iterable
+from typing import Callable, Iterable
 
 from strm_tools.model import HIGH_PRIORITY, ORDINARY, WORDS, Queue
 from strm_tools.play.session import Play
@@ -53,26 +53,17 @@ def places(play: Play, before: list[str]) -> list[str]:
     return [str(place) for queue in queues(play, before) for place in range(len(queue.messages) + 1)]
 
 
-def fitting(play: Play, item: str, before: list[str]) -> Iterable[str]:
-    """The words that fit an item of a command, after the words before it."""
-    held = play.model.workers[play.turn]
-    if item == "from":
-        return sorted(held)
-    if item == "to":
-        return [name for name in REGISTERS if name not in held]
-    if item == "queue":
-        return map(str, range(len(play.model.queues)))
-    if item in ("band", "marked"):
-        return bands(play, before)
-    if item == "block":
-        return blocks(play, before)
-    if item == "place":
-        return places(play, before)
-    if item == "size":
-        return [str(size) for size, _ in play.model.pool.classes]
-    if item == "id":
-        return [str(own) for own, _ in play.model.wishes]
-    return WORDS_OF.get(item, [])
+# The words that fit an item of a command, after the words before it.
+FITTING: dict[str, Callable[[Play, list[str]], Iterable[str]]] = {
+    "from": lambda play, _: sorted(play.model.workers[play.turn]),
+    "to": lambda play, _: [name for name in REGISTERS if name not in play.model.workers[play.turn]],
+    "queue": lambda play, _: map(str, range(len(play.model.queues))),
+    "block": blocks,
+    "place": places,
+    "size": lambda play, _: [str(size) for size, _ in play.model.pool.classes],
+    "id": lambda play, _: [str(own) for own, _ in play.model.wishes],
+    **dict.fromkeys(["band", "marked"], bands),
+}
 
 
 def completed(play: Play, commands: dict[str, str], before: list[str], begin: str) -> list[str]:
@@ -91,5 +82,5 @@ def completed(play: Play, commands: dict[str, str], before: list[str], begin: st
         elif item == "worker":
             words = map(str, range(len(play.sections)))
         else:
-            words = fitting(play, item, rest)
+            words = FITTING[item](play, rest) if item in FITTING else WORDS_OF.get(item, [])
     return [f"{word} " for word in words if word.startswith(begin)]
