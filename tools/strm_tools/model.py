@@ -276,9 +276,8 @@ class Model:
 
     @word("Messages", "to size", 10)
     def allocb(self, to: str, size: int) -> None:
-        """Allocates a message of one block, for SIZE bytes or more, into R. It has type M_DATA, band 0 and no bytes.
-        Its data block is of the smallest class that fits and has a free data block. Refusals: TooLarge, NoMblk,
-        NoData."""
+        """Allocates a message of one block into R, of type M_DATA and band 0, without bytes. Its data block is of the
+        smallest class that fits SIZE bytes and has a free data block. Refusals: TooLarge, NoMblk, NoData."""
         if size > self.pool.greatest():
             raise Refused("1 TooLarge")
         self.need(1)
@@ -302,13 +301,13 @@ class Model:
 
     @word("Messages", "from to", 2)
     def dupb(self, source: str, to: str) -> None:
-        """Duplicates the first block of the message in R into S, over the same data block, with the same places and
-        band. Refusals: NoMblk, RefMax."""
+        """Duplicates the first block in R into S, over the same data block, with the same places and band. Refusals:
+        NoMblk, RefMax."""
         self.held[to] = self.duplicates(self.held[source][:1])
 
     @word("Messages", "from to", 2)
     def dupmsg(self, source: str, to: str) -> None:
-        """Duplicates all blocks of the message in R into S, over the same data blocks. Refusals: NoMblk, RefMax."""
+        """Duplicates all blocks in R into S. Refusals: NoMblk, RefMax."""
         self.held[to] = self.duplicates(self.held[source])
 
     def copies(self, blocks: Message) -> Message:
@@ -320,19 +319,18 @@ class Model:
 
     @word("Messages", "from to")
     def copyb(self, source: str, to: str) -> None:
-        """Copies the first block of the message in R into S, with a new data block of the same size or more, and the
-        same bytes, places, type and band. Refusals: NoMblk, NoData."""
+        """Copies the first block in R into S, with a new data block of the same size or more, and the same bytes,
+        places, type and band. Refusals: NoMblk, NoData."""
         self.held[to] = self.copies(self.held[source][:1])
 
     @word("Messages", "from to", 2)
     def copymsg(self, source: str, to: str) -> None:
-        """Copies all blocks of the message in R into S, with new data blocks. Refusals: NoMblk, NoData."""
+        """Copies all blocks in R into S. Refusals: NoMblk, NoData."""
         self.held[to] = self.copies(self.held[source])
 
     @word("Messages", "from block octets", 16, own=True)
     def write(self, source: str, k: int, octets: bytes) -> None:
-        """Appends the bytes HEX at the write place of block K of the message in R. Refusals: NoSuchBlock, Shared,
-        NoRoom."""
+        """Appends bytes at the write place of block K in R. Refusals: NoSuchBlock, Shared, NoRoom."""
         block = self.own_block_at(source, k)
         if len(octets) > block.room():
             raise Refused("7 NoRoom")
@@ -341,12 +339,12 @@ class Model:
 
     @word("Messages", "from block kind", 4, own=True)
     def settype(self, source: str, k: int, kind: str) -> None:
-        """Sets the type of the data block of block K of the message in R. Refusals: NoSuchBlock, Shared."""
+        """Sets the type of the data block of block K in R. Refusals: NoSuchBlock, Shared."""
         self.own_block_at(source, k).data.kind = kind
 
     @word("Messages", "from band", 3, own=True)
     def setband(self, source: str, band: int) -> None:
-        """Sets the band of the first block of the message in R."""
+        """Sets the band of the first block in R."""
         self.held[source][0].band = band
 
     @word("Messages", "from from", 5)
@@ -356,7 +354,7 @@ class Model:
 
     @word("Messages", "from to", 2)
     def unlinkb(self, source: str, to: str) -> str | None:
-        """Moves all blocks of the message in R but the first into S. Reply: ok, none."""
+        """Moves all blocks in R but the first into S. Reply: ok, none."""
         first, *rest = self.held[source]
         if not rest:
             return "none"
@@ -366,7 +364,7 @@ class Model:
 
     @word("Messages", "from block to", 2)
     def rmvb(self, source: str, k: int, to: str) -> None:
-        """Moves block K of the message in R, alone, into S. Refusal: NoSuchBlock."""
+        """Moves block K in R, alone, into S. Refusal: NoSuchBlock."""
         block = self.block_at(source, k)
         self.leave(source, self.held[source][:k] + self.held[source][k + 1 :])
         self.held[to] = [block]
@@ -417,24 +415,23 @@ class Model:
 
     @word("Messages", "from")
     def msgdsize(self, source: str) -> str:
-        """Counts the bytes of the message in R in blocks of type M_DATA. Reply: size."""
+        """Counts the bytes in R in blocks of type M_DATA. Reply: size."""
         return f"size {total(block for block in self.held[source] if block.data.kind == 'M_DATA')}"
 
     @word("Messages", "from", own=True)
     def size(self, source: str) -> str:
-        """Counts all bytes of the message in R. Reply: size."""
+        """Counts all bytes in R. Reply: size."""
         return f"size {total(self.held[source])}"
 
     @word("Messages", "from at", 3, own=True)
     def read(self, source: str, at: int) -> str:
-        """Shows at most 64 bytes of the message in R, from its byte AT on, counted from 0 over all blocks. Reply:
+        """Shows at most 64 bytes in R, from byte AT on, counted from 0 over all blocks. Reply:
         bytes."""
         return f"bytes {octets_of(self.held[source])[at : at + 64].hex() or '-'}"
 
     @word("Messages", "from block", 4, own=True)
     def block(self, source: str, k: int) -> str:
-        """Shows type, length, band, room and references of block K of the message in R. Reply: block. Refusal:
-        NoSuchBlock."""
+        """Shows the fields of block K in R. Reply: block. Refusal: NoSuchBlock."""
         block = self.block_at(source, k)
         return (
             f"block {block.data.kind} len={block.length()} band={block.band} room={block.room()}"
@@ -443,7 +440,7 @@ class Model:
 
     @word("Messages", "from", 2)
     def freeb(self, source: str) -> None:
-        """Frees the first block of the message in R; R keeps the rest."""
+        """Frees the first block in R, alone."""
         first, *rest = self.held[source]
         self.release(first.data)
         self.leave(source, rest)
@@ -547,12 +544,12 @@ class Model:
 
     @word("Queues", "queue flag", 2)
     def flushq(self, number: int, flag: str) -> None:
-        """Frees the messages of queue Q: all, or only those that carry data."""
+        """Frees the messages of queue Q, all or those with data."""
         self.flush(number, range(257), flag)
 
     @word("Queues", "queue band flag", 2)
     def flushband(self, number: int, band: int, flag: str) -> None:
-        """Frees the messages of band B of queue Q: all, or only those that carry data."""
+        """Frees the messages of band B of queue Q, all or those with data."""
         self.flush(number, ranks_of(band), flag)
 
     @word("Flow control", "queue band", 10)
