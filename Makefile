@@ -33,9 +33,10 @@ BENCH := PYTHONPATH="$(CURDIR)/tools" python3
 # The program that measures rounds of calls, for bench-library and bench-c.
 ROUNDS := crates/strm_bench/out/strm_bench
 SOURCES := crates.txt HANDLES $(shell find crates -path '*/out' -prune -o \( -name '*.rt' -o -name '*.antt' \) -print)
-# The target of the library: nothing for x86-64, or aarch64-unknown-linux-gnu. Its processor, the tools that compile for it, and the folder of
+# The target of the library: nothing for x86-64, or what ARM says. Its processor, the tools that compile for it, and the folder of
 # what is built for it.
 TARGET ?=
+ARM := aarch64-unknown-linux-gnu
 PROCESSOR := $(firstword $(subst -, ,$(TARGET)))
 TOOLS_FOR := $(addsuffix -linux-gnu-,$(PROCESSOR))
 BUILD := $(if $(TARGET),build/$(PROCESSOR),build)
@@ -67,7 +68,7 @@ help:
 
 # Runs the tests of the library for ARM in an emulator. It needs Debian's gcc-aarch64-linux-gnu and qemu-user.
 test-arm:
-	@$(MAKE) -s lib TARGET=aarch64-unknown-linux-gnu
+	@$(MAKE) -s lib TARGET=$(ARM)
 	@tests/c/run --arm build/aarch64/libstrm.a
 
 # Executes SCRIPT, by default examples/first_run.strm. With `rt`, strm is unproved; of what `rt` says this shows only a failure. Without it, strm
@@ -181,9 +182,9 @@ strm: build/strm
 build/strm: $(BUILT)
 	@install -D -m 755 $(BUILT) build/strm
 
-# Installs strm, the library for C, tools and pages below PREFIX. The program and the library are proved first.
-install: WHERE $(STRM) install-pages install-tools install-docs install-lib
-	install -D -m 755 $(STRM) $(DESTDIR)$(PREFIX)/bin/strm
+# Installs strm, the library for C, tools and pages below PREFIX. The program and the library are proved first. With a TARGET it leaves out strm.
+install: WHERE $(if $(TARGET),,$(STRM)) install-pages install-tools install-docs install-lib
+	$(if $(TARGET),,install -D -m 755 $(STRM) $(DESTDIR)$(PREFIX)/bin/strm)
 
 # Says where, before anything is proved or installed.
 .PHONY: WHERE
@@ -288,14 +289,15 @@ install-lib: $(ARCHIVE) $(SHARED)
 	@$(if $(DESTDIR),,echo 'export PKG_CONFIG_PATH=$(PREFIX)/lib/pkgconfig$${PKG_CONFIG_PATH:+:$$PKG_CONFIG_PATH}')
 	@$(if $(DESTDIR),,echo 'export LD_LIBRARY_PATH=$(PREFIX)/lib$${LD_LIBRARY_PATH:+:$$LD_LIBRARY_PATH}')
 
-# Builds an archive and a Debian package of a release in DIST. Beside them is PROOF, with their sums. GATE names a log of the gate, whose last
+# Builds an archive and a Debian package of a release in DIST, for each target. Beside them is PROOF, with their sums. GATE names a log of the gate, whose last
 # line goes into PROOF. It refuses uncommitted changes unless DIRTY is yes, and then PROOF says that there are some.
 dist:
 	$(NEEDS_RT)
 	@GATE="$(GATE)" DIRTY="$(DIRTY)" tools/dist "$(DIST)"
 
-# Puts strm and the library for C into release, with PROOF. GATE and DIRTY are those of dist.
+# Puts strm, and the library for C for both targets, into release, with PROOF. GATE and DIRTY are those of dist.
 release: $(STRM) $(ARCHIVE) $(SHARED)
+	@$(MAKE) -s lib TARGET=$(ARM)
 	@GATE="$(GATE)" DIRTY="$(DIRTY)" tools/dist --release
 
 # Copies CRATE and those that it uses into the repository at TO. It needs no `rt`. If it refuses, it writes nothing.
