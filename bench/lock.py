@@ -79,12 +79,12 @@ def ran(program, path, options):
 def lines_of(program, room):
     """The nanoseconds of a line, and the share of lines behind another worker's, by row. Reading the script and writing the text are in each
     line."""
-    for number, (queues, options) in enumerate(RUNS.values()):
+    for number, (queues, given) in enumerate(RUNS.values()):
         path = os.path.join(room, f"script{number}")
         if not os.path.exists(path):
             with open(path, "w") as text:
                 text.write(script(queues, LINES))
-        passed, share = ran(program, path, options)
+        passed, share = ran(program, path, given)
         yield 1e9 * passed / LINES
         yield share
 
