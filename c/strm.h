@@ -192,8 +192,8 @@ extern "C" {
 #endif
 
 /* The version of this header, as a text and as a number. */
-#define STRM_VERSION "0.2.0"
-#define STRM_VERSION_NUMBER 2000
+#define STRM_VERSION "0.3.0"
+#define STRM_VERSION_NUMBER 3000
 
 enum {
 	STRM_OK = 0,			/* done */
