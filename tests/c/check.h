@@ -29,8 +29,8 @@ int same_name(struct strm_msg a, struct strm_msg b);
 
 /*
  * Two pools, of which the first has 16 message blocks, two classes, two wishes and two queues. Queue 0 has two messages, and its next is queue
- * 1, whose band 0 is full and wanted. Both are enabled. Message x is held, with the blocks `held`, without bytes, and `too`, and so is z. The call is one of
- * them, with what it needs.
+ * 1, whose band 0 is full and wanted. Both are enabled. Message x is held, with the blocks `held`, one without bytes, and `too`; z is held, too.
+ * The call is done if it is made as set_call puts it there.
  */
 #define MBLKS 16
 

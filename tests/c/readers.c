@@ -1,7 +1,8 @@
 /*
  * Looks in several threads at once. First the handle and all memory of the pool are read-only, so that a look that writes there ends the
  * program by SIGSEGV. Then a thread changes the pool under the write lock of a pthread_rwlock_t, while others look under its read lock: each
- * look answers as it does alone. At last the pool is closed. The linker puts the three functions below in place of malloc, realloc and free. The last line is as in each.c.
+ * look answers as it does alone. At last the pool is closed. The linker puts the three functions below in place of malloc, realloc and free.
+ * The last line is as in each.c.
  */
 #ifndef _GNU_SOURCE
 #define _GNU_SOURCE
