@@ -12,11 +12,11 @@ use Rattle.strm_mblk.proofs.arena.Tokens.{had_is}
 use Rattle.strm_pool.specs.declared.call.Call.{Call}
 use Rattle.strm_pool.specs.declared.reply.Reply.{Reply}
 use Rattle.strm_pool.specs.declared.reply.Reply.TheVariants.{Empty, Taken, Refused}
-use Rattle.strm_pool.specs.Names.{names_of, registers_in}
+use Rattle.strm_pool.specs.Names.{registers_in}
 use Rattle.strm_pool.specs.PoolValue.{PoolValue, owns}
 use Rattle.strm_pool.specs.Registers.{AreAccounted, AreDistinct, RegisterTable, entries_of, register, table_of}
 use Rattle.strm_pool.specs.Shapes.{IsReady, refusal_of}
-use Rattle.strm_pool.specs.Step.{Applies, act, is_named, is_taken, misses_queue, misses_token, replying, step}
+use Rattle.strm_pool.specs.Step.{Applies, act, is_named, is_taken, misses_queue, misses_token, names_of, replying, step}
 use Rattle.strm_pool.proofs.Accounts.{Balanced, accounted_balanced, accounted_distinct, owned_balanced, owned_token, table-at}
 use Rattle.strm_pool.proofs.Moved.{Changes, moves_balanced, moves_had, news, olds, registers_of, with_new, with_other, with_tokens}
 use Rattle.strm_pool.proofs.Tokens.{Each, Moves, same_some}

@@ -16,11 +16,11 @@ use Rattle.strm_mblk.specs.Given.{Given, answer_of, value_after}
 use Rattle.strm_pool.specs.declared.call.Call.{Call}
 use Rattle.strm_pool.specs.declared.reply.Reply.{Reply}
 use Rattle.strm_pool.specs.declared.reply.Reply.TheVariants.{Done, Nothing, Refused}
-use Rattle.strm_pool.specs.Names.{names_of, names_from, registers_in}
+use Rattle.strm_pool.specs.Names.{names_from, registers_in}
 use Rattle.strm_pool.specs.PoolValue.{PoolValue, arena, on_arena}
 use Rattle.strm_pool.specs.Registers.{AreDistinct, register, table_of}
 use Rattle.strm_pool.specs.Shapes.{IsReady, RegistersAndReply, any_given_to, given_to, parted_to, rejected_to, reply_done, reply_made}
-use Rattle.strm_pool.specs.Step.{Applies, act, answers, step_of, gives, head_held, keeps, leaves, may_give, misses_token, parts, replying, spends}
+use Rattle.strm_pool.specs.Step.{Applies, act, answers, step_of, gives, head_held, keeps, leaves, may_give, misses_token, names_of, parts, replying, spends}
 use Rattle.strm_pool.proofs.Accounts.{owned_token, table-at}
 use Rattle.strm_pool.proofs.Applied.{applies_by, applies_nothing, step_act}
 use Rattle.strm_pool.proofs.Moved.{news, table-set}

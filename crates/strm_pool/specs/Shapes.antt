@@ -9,10 +9,9 @@ use Rattle.strm_pool.specs.declared.call.Call.{Call}
 use Rattle.strm_pool.specs.declared.names.Names.{Names}
 use Rattle.strm_pool.specs.declared.reply.Reply.{Reply}
 use Rattle.strm_pool.specs.declared.reply.Reply.TheVariants.{Done, Empty, Nothing, Refused, Taken}
-use Rattle.strm_pool.specs.Names.{names_of}
 use Rattle.strm_pool.specs.PoolValue.{PoolValue, owns}
 use Rattle.strm_pool.specs.Registers.{RegisterTable, table_of}
-use Rattle.strm_pool.specs.Step.{Applies, is_taken, misses_queue, misses_token}
+use Rattle.strm_pool.specs.Step.{Applies, is_taken, misses_queue, misses_token, names_of}
 
 -- A call may run: its queue exists, its sources have tokens that the pool has, and its destination is an empty register.
 pub record IsReady (v : PoolValue) (rs : List (Option TokenValue)) (call : Call) : Type 0 where

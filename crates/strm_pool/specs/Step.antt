@@ -19,7 +19,7 @@ use Rattle.strm_pool.specs.declared.reply.Reply.{Reply}
 use Rattle.strm_pool.specs.declared.reply.Reply.TheVariants.{Done, Yes, No, Nothing, Empty, Taken, Refused}
 use Rattle.strm_pool.specs.declared.reply.Reply.TheVariants as replies
 use Rattle.strm_pool.specs.Limits.{most_octets, most_registers}
-use Rattle.strm_pool.specs.Names.{names_of, registers_in}
+use Rattle.strm_pool.specs.Names.{names_from, registers_in}
 use Rattle.strm_pool.specs.PoolValue.{PoolValue, Wish, has_queue, on_arena, on_queues, owns, queued_blocks_of, with_queued}
 use Rattle.strm_pool.specs.Wishes as wishes
 use Rattle.strm_pool.specs.Registers.{AreAccounted, AreDistinct, Entries, RegisterTable, entries_of, register, table_of}
@@ -117,6 +117,50 @@ ready_or_nothing (Some w) = replies.Ready w.0 w.1
 -- the head of the message of a register that has one
 abbrev pub head_held : RegisterTable → ℕ → ℕ
 head_held t x = unwrap_or (register t x) 0
+
+-- ---- the calls
+
+-- what each call names, in the order: queue, sources, destination
+abbrev pub names_of : Call → Names
+names_of (Allocb x size) = names_from None None None (Some x)
+names_of (Testb size) = names_from None None None None
+names_of (Dupb x y) = names_from None (Some x) None (Some y)
+names_of (Dupmsg x y) = names_from None (Some x) None (Some y)
+names_of (Copyb x y) = names_from None (Some x) None (Some y)
+names_of (Copymsg x y) = names_from None (Some x) None (Some y)
+names_of (Write x k bytes) = names_from None (Some x) None None
+names_of (Settype x k kind) = names_from None (Some x) None None
+names_of (Setband x band) = names_from None (Some x) None None
+names_of (Linkb x y) = names_from None (Some x) (Some y) None
+names_of (Unlinkb x y) = names_from None (Some x) None (Some y)
+names_of (Rmvb x k y) = names_from None (Some x) None (Some y)
+names_of (Adjmsg x n) = names_from None (Some x) None None
+names_of (Pullupmsg x n) = names_from None (Some x) None None
+names_of (Msgdsize x) = names_from None (Some x) None None
+names_of (Size x) = names_from None (Some x) None None
+names_of (Read x at) = names_from None (Some x) None None
+names_of (Block x k) = names_from None (Some x) None None
+names_of (Freeb x) = names_from None (Some x) None None
+names_of (Freemsg x) = names_from None (Some x) None None
+names_of (Putq q x) = names_from (Some q) (Some x) None None
+names_of (Putbq q x) = names_from (Some q) (Some x) None None
+names_of (Insq q k x) = names_from (Some q) (Some x) None None
+names_of (Getq q y) = names_from (Some q) None None (Some y)
+names_of (Rmvq q k y) = names_from (Some q) None None (Some y)
+names_of (Flushq q flush) = names_from (Some q) None None None
+names_of (Flushband q band flush) = names_from (Some q) None None None
+names_of (Bcanput q band) = names_from (Some q) None None None
+names_of (Strqset q band hiwat lowat) = names_from (Some q) None None None
+names_of (Strqget q band) = names_from (Some q) None None None
+names_of (Qsize q) = names_from (Some q) None None None
+names_of (Qenable q) = names_from (Some q) None None None
+names_of (Noenable q) = names_from (Some q) None None None
+names_of (Enableok q) = names_from (Some q) None None None
+names_of Service = names_from None None None None
+names_of (Bufcall size) = names_from None None None None
+names_of (Unbufcall id) = names_from None None None None
+names_of Ready = names_from None None None None
+names_of Census = names_from None None None None
 
 -- what a call does if its queue exists, its sources have messages, and its destination is empty
 abbrev pub act : PoolValue → RegisterTable → Call → Stepped

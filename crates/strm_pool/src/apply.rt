@@ -2,11 +2,11 @@
 ghost use Rattle.std.specs.Prelude.{◌≡◌, ◌<◌, false, true, IsSome, IsTrue, None, Some, length, slice_set};
 ghost use Rattle.std.specs.Option.{ForSome};
 ghost use Rattle.strm_mblk.specs.Arena.{has};
-ghost use Rattle.strm_pool.specs.Names.{names_of, names_from};
+ghost use Rattle.strm_pool.specs.Names.{names_from};
 ghost use Rattle.strm_pool.specs.PoolValue.{owns};
 ghost use Rattle.strm_pool.specs.Registers.{register, table_of};
 ghost use Rattle.strm_pool.specs.Shapes.{IsReady, refusal_of};
-ghost use Rattle.strm_pool.specs.Step.{Applies, misses_queue};
+ghost use Rattle.strm_pool.specs.Step.{Applies, misses_queue, names_of};
 
 mod blocks;
 mod queues;

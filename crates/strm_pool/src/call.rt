@@ -1,6 +1,6 @@
 //! Calls as data, which name registers instead of tokens.
 ghost use Rattle.std.specs.Prelude.{◌≡◌};
-ghost use Rattle.strm_pool.specs.Names.{names_of};
+ghost use Rattle.strm_pool.specs.Step.{names_of};
 
 use crate::names::Names;
 use crate::reg::Reg;
