@@ -22,16 +22,21 @@ def version():
 
 def forms():
     """The first words of a script's lines, each with the forms of the words behind it."""
-    row = re.compile(r'(?:\(codes "(\w+)", |\w+_of (?:verbs|words)\.(\w+) = )(?:none|one|two|three|four)((?: \w+_of)*)')
-    return {word or name.lower(): behind.split() for word, name, behind in row.findall(read("crates/strm_script/specs/Entry.antt"))}
+    entries = read("crates/strm_script/specs/Entry.antt")
+    shape = r"(?:none|one|two|three|four)((?: \w+_of)*)"
+    found = dict(re.findall(rf'\(codes "(\w+)", {shape} calls', entries))
+    said = dict(re.findall(rf"^entry_of words\.(\w+) = {shape}", entries, re.MULTILINE))
+    for word, name in re.findall(r'\(codes "(\w+)", (\w+)\)', read("crates/strm_script/specs/Word.antt")):
+        found[word] = said[name]
+    return {word: behind.split() for word, behind in found.items()}
 
 
 def calls():
     """The words of the table of calls, each with the forms of the call's fields."""
     text = read("crates/strm_pool/src/call.rt")
     fields = dict(re.findall(r"^    (\w+)(?:\((.*)\))?,$", text, re.MULTILINE))
-    rows = re.findall(r'(?:b"(\w+)"\s+)?\b([A-Z]\w*)(?:\([^()]*\))?: act_\w+\(', text)
-    return {word or name.lower(): [FORMS[kind] for kind in fields[name].split(", ") if kind] for word, name in rows}
+    rows = re.findall(r'b"(\w+)" (\w+)(?:\([^()]*\))?: act_\w+\(', text)
+    return {word: [FORMS[kind] for kind in fields[name].split(", ") if kind] for word, name in rows}
 
 
 def type_names():

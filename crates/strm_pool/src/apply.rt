@@ -12,7 +12,7 @@ mod blocks;
 mod queues;
 mod wishes;
 
-use crate::call::{Call, calls, naming};
+use crate::call::{Call, calls, named, naming};
 use crate::pool::Pool;
 use crate::reg::Reg;
 use crate::regs::Regs;
@@ -23,7 +23,7 @@ use strm_mblk::Token;
 // Calls the function of a call's row.
 macro_rules! acted {
     ($pool:ident, $regs:ident, $call:ident, $reply:ident; $(
-        $name:ident $(($($field:ident),+ $(; $lent:ident)?))?: $act:ident $with:tt;
+        $word:literal $name:ident $(($($field:ident),+ $(; $lent:ident)?))?: $act:ident $with:tt;
     )+) => {
         match *$call {
             $(Call::$name $(($($field),+ $(, ref $lent)?))? => {
@@ -117,7 +117,7 @@ impl Pool {
         ensures ready { result ≡ false → refusal_of self.now (table_of regs.now) (names_of call.now) ≡ None }
         ensures there { result ≡ false → ForSome (names_of call.now).destination (λ reg. reg < length regs.now) }
     {
-        naming!(call, Pool::refuses, self, regs, reply)
+        calls!(naming call, Pool::refuses, (self, regs, reply);)
     }
 
     // The token of a register that has one.

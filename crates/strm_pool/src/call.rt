@@ -92,118 +92,129 @@ pub enum Call {
     Census,
 }
 
-/// The table of calls. `calls!(rows WORDS)` expands to `rows!` with these words and then a row for each call. A row has:
+/// The table of calls, by the number of letters of their words in a script. `calls!(rows WORDS)` expands to `rows!` with these
+/// words and then a row for each call, and `calls!(4 rows WORDS)` to that for the calls of 4 letters. A row has:
 ///
-/// 1. the name of the variant of `Call`;
-/// 2. the call's fields in order, all `Copy`, or with `;` before a last one that is not;
-/// 3. the function of this crate that `Pool::act` calls with these fields, with `regs` if it takes the registers too.
+/// 1. the first word of the call's lines in a script;
+/// 2. the name of the variant of `Call`;
+/// 3. the call's fields in order, all `Copy`, or with `;` before a last one that is not;
+/// 4. the function of this crate that `Pool::act` calls with these fields, with `regs` if it takes the registers too.
+///
+/// Some fields name what the call uses: `queue` its queue, `reg` or `from` its source, `behind` its second source, and `into` its
+/// destination.
 #[macro_export]
 macro_rules! calls {
-    ($rows:ident $($with:tt)*) => {
+    (4 $rows:ident $($with:tt)*) => {
         $rows! {
             $($with)*
-            Allocb(into, size): act_allocb(regs);
-            Testb(size): act_testb();
-            Dupb(from, into): act_dupb(regs);
-            Dupmsg(from, into): act_dupmsg(regs);
-            Copyb(from, into): act_copyb(regs);
-            Copymsg(from, into): act_copymsg(regs);
-            Write(reg, place; bytes): act_write(regs);
-            Settype(reg, place, kind): act_settype(regs);
-            Setband(reg, band): act_setband(regs);
-            Linkb(reg, behind): act_linkb(regs);
-            Unlinkb(reg, into): act_unlinkb(regs);
-            Rmvb(reg, place, into): act_rmvb(regs);
-            Adjmsg(reg, count): act_adjmsg(regs);
-            Pullupmsg(reg, count): act_pullupmsg(regs);
-            Msgdsize(reg): act_msgdsize(regs);
-            Size(reg): act_size(regs);
-            Read(reg, at): act_read(regs);
-            Block(reg, place): act_block(regs);
-            Freeb(reg): act_freeb(regs);
-            Freemsg(reg): act_freemsg(regs);
-            Putq(queue, reg): act_putq(regs);
-            Putbq(queue, reg): act_putbq(regs);
-            Insq(queue, place, reg): act_insq(regs);
-            Getq(queue, into): act_getq(regs);
-            Rmvq(queue, place, into): act_rmvq(regs);
-            Flushq(queue, flush): act_flushq();
-            Flushband(queue, band, flush): act_flushband();
-            Bcanput(queue, band): act_bcanput();
-            Strqset(queue, band, hiwat, lowat): act_strqset();
-            Strqget(queue, band): act_strqget();
-            Qsize(queue): act_qsize();
-            Qenable(queue): act_qenable();
-            Noenable(queue): act_noenable();
-            Enableok(queue): act_enableok();
-            Service: act_service();
-            Bufcall(size): act_bufcall();
-            Unbufcall(id): act_unbufcall();
-            Ready: act_ready();
-            Census: act_census();
+            b"dupb" Dupb(from, into): act_dupb(regs);
+            b"rmvb" Rmvb(reg, place, into): act_rmvb(regs);
+            b"size" Size(reg): act_size(regs);
+            b"read" Read(reg, at): act_read(regs);
+            b"putq" Putq(queue, reg): act_putq(regs);
+            b"insq" Insq(queue, place, reg): act_insq(regs);
+            b"getq" Getq(queue, into): act_getq(regs);
+            b"rmvq" Rmvq(queue, place, into): act_rmvq(regs);
         }
     };
+    (5 $rows:ident $($with:tt)*) => {
+        $rows! {
+            $($with)*
+            b"testb" Testb(size): act_testb();
+            b"copyb" Copyb(from, into): act_copyb(regs);
+            b"write" Write(reg, place; bytes): act_write(regs);
+            b"linkb" Linkb(reg, behind): act_linkb(regs);
+            b"block" Block(reg, place): act_block(regs);
+            b"freeb" Freeb(reg): act_freeb(regs);
+            b"putbq" Putbq(queue, reg): act_putbq(regs);
+            b"qsize" Qsize(queue): act_qsize();
+            b"ready" Ready: act_ready();
+        }
+    };
+    (6 $rows:ident $($with:tt)*) => {
+        $rows! {
+            $($with)*
+            b"allocb" Allocb(into, size): act_allocb(regs);
+            b"dupmsg" Dupmsg(from, into): act_dupmsg(regs);
+            b"adjmsg" Adjmsg(reg, count): act_adjmsg(regs);
+            b"flushq" Flushq(queue, flush): act_flushq();
+            b"census" Census: act_census();
+        }
+    };
+    (7 $rows:ident $($with:tt)*) => {
+        $rows! {
+            $($with)*
+            b"copymsg" Copymsg(from, into): act_copymsg(regs);
+            b"settype" Settype(reg, place, kind): act_settype(regs);
+            b"setband" Setband(reg, band): act_setband(regs);
+            b"unlinkb" Unlinkb(reg, into): act_unlinkb(regs);
+            b"freemsg" Freemsg(reg): act_freemsg(regs);
+            b"bcanput" Bcanput(queue, band): act_bcanput();
+            b"strqset" Strqset(queue, band, hiwat, lowat): act_strqset();
+            b"strqget" Strqget(queue, band): act_strqget();
+            b"qenable" Qenable(queue): act_qenable();
+            b"service" Service: act_service();
+            b"bufcall" Bufcall(size): act_bufcall();
+        }
+    };
+    (8 $rows:ident $($with:tt)*) => {
+        $rows! {
+            $($with)*
+            b"msgdsize" Msgdsize(reg): act_msgdsize(regs);
+            b"noenable" Noenable(queue): act_noenable();
+            b"enableok" Enableok(queue): act_enableok();
+        }
+    };
+    (9 $rows:ident $($with:tt)*) => {
+        $rows! {
+            $($with)*
+            b"pullupmsg" Pullupmsg(reg, count): act_pullupmsg(regs);
+            b"flushband" Flushband(queue, band, flush): act_flushband();
+            b"unbufcall" Unbufcall(id): act_unbufcall();
+        }
+    };
+    ($rows:ident $($with:tt)*) => { calls!(4 calls 5 calls 6 calls 7 calls 8 calls 9 $rows $($with)*) };
 }
 
 pub(crate) use calls;
 
 // Calls a function with the given values and with what a call names: its queue, its sources, and its destination.
 macro_rules! naming {
-    ($call:expr, $make:path $(, $with:expr)*) => {
+    ($call:ident, $make:path, $with:tt; $(
+        $word:literal $name:ident $(($($field:ident),+ $(; $lent:ident)?))?: $act:ident $regs:tt;
+    )+) => {
         match *$call {
-            Call::Testb(_)
-            | Call::Service
-            | Call::Bufcall(_)
-            | Call::Unbufcall(_)
-            | Call::Ready
-            | Call::Census => $make($($with,)* None, None, None, None),
-            Call::Allocb(into, _) => $make($($with,)* None, None, None, Some(into)),
-            Call::Dupb(from, into)
-            | Call::Dupmsg(from, into)
-            | Call::Copyb(from, into)
-            | Call::Copymsg(from, into)
-            | Call::Unlinkb(from, into)
-            | Call::Rmvb(from, _, into) => {
-                $make($($with,)* None, Some(from), None, Some(into))
-            }
-            Call::Write(reg, _, _)
-            | Call::Settype(reg, _, _)
-            | Call::Setband(reg, _)
-            | Call::Adjmsg(reg, _)
-            | Call::Pullupmsg(reg, _)
-            | Call::Msgdsize(reg)
-            | Call::Size(reg)
-            | Call::Read(reg, _)
-            | Call::Block(reg, _)
-            | Call::Freeb(reg)
-            | Call::Freemsg(reg) => $make($($with,)* None, Some(reg), None, None),
-            Call::Linkb(reg, behind) => {
-                $make($($with,)* None, Some(reg), Some(behind), None)
-            }
-            Call::Putq(queue, reg) | Call::Putbq(queue, reg) | Call::Insq(queue, _, reg) => {
-                $make($($with,)* Some(queue), Some(reg), None, None)
-            }
-            Call::Getq(queue, into) | Call::Rmvq(queue, _, into) => {
-                $make($($with,)* Some(queue), None, None, Some(into))
-            }
-            Call::Flushq(queue, _)
-            | Call::Flushband(queue, _, _)
-            | Call::Bcanput(queue, _)
-            | Call::Strqset(queue, _, _, _)
-            | Call::Strqget(queue, _)
-            | Call::Qsize(queue)
-            | Call::Qenable(queue)
-            | Call::Noenable(queue)
-            | Call::Enableok(queue) => $make($($with,)* Some(queue), None, None, None),
+            $(Call::$name $(($($field),+ $(, ref $lent)?))? => naming!($make, $with; $($($field $field)+)?),)+
         }
+    };
+    ($make:path, ($($with:expr),*); $($field:ident)*) => {
+        $make(
+            $($with,)*
+            named!(queue; $($field)*),
+            named!(source; $($field)*),
+            named!(second; $($field)*),
+            named!(into; $($field)*)
+        )
     };
 }
 
+// Finds this part of what a call names among the call's fields, each of which is given as its name and again as its value.
+macro_rules! named {
+    (queue; queue $value:ident $($rest:ident)*) => { Some($value) };
+    (source; reg $value:ident $($rest:ident)*) => { Some($value) };
+    (source; from $value:ident $($rest:ident)*) => { Some($value) };
+    (second; behind $value:ident $($rest:ident)*) => { Some($value) };
+    (into; into $value:ident $($rest:ident)*) => { Some($value) };
+    ($part:ident; $name:ident $value:ident $($rest:ident)*) => { named!($part; $($rest)*) };
+    ($part:ident;) => { None };
+}
+
+pub(crate) use named;
 pub(crate) use naming;
 
 // A copy of a call.
 macro_rules! copied {
-    ($call:expr; $($name:ident $(($($field:ident),+ $(; $lent:ident)?))?: $act:ident $regs:tt;)+) => {
+    ($call:expr; $($word:literal $name:ident $(($($field:ident),+ $(; $lent:ident)?))?: $act:ident $regs:tt;)+) => {
         match *$call {
             $(Call::$name $(($($field),+ $(, ref $lent)?))? => Call::$name $(($($field),+ $(, $lent.copy())?))?,)+
         }
@@ -215,7 +226,7 @@ impl Call {
     pub fn names(&self) -> Names
         ensures { result ≡ names_of self.now }
     {
-        naming!(self, Names::of)
+        calls!(naming self, Names::of, ();)
     }
 
     /// Returns an equal call, with its own bytes if it carries any. This allocates nothing, so it cannot fail as `clone`

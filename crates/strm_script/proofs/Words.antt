@@ -1,10 +1,9 @@
 -- The words of one length decide on a text of that length.
-use Rattle.std.proofs.Common.{◌≡◌, ◌≢◌, ℕ, ◌==◌, false, cond, List, [], ◌∷◌, length, filter, None, Some, inl, inr, refl, sym, ap, ◌∙◌, bytes_eq}
+use Rattle.std.proofs.Common.{◌≡◌, ◌≢◌, ℕ, ◌==◌, false, cond, List, [], ◌∷◌, length, None, Some, inl, inr, refl, sym, ap, ◌∙◌, bytes_eq, option_map}
 use Rattle.std.proofs.lemmas.Bool.{cases_Bool, eqb-false, ne_eqb}
 use Rattle.std.proofs.lemmas.Slice.Eq.{bytes_eq-Decides}
-use Rattle.strm_script.specs.declared.word.Word.{Word}
-use Rattle.strm_script.specs.Lengths.{words_of_length}
-use Rattle.strm_script.specs.Word.{all_words, word_among, word_of}
+use Rattle.strm_script.specs.Entry.{call_among, call_of, commands}
+use Rattle.strm_script.specs.Word.{found, of_length}
 
 -- texts of two lengths are not alike
 bytes_eq-lengths : (xs ys : List ℕ) → length xs == length ys ≡ false → bytes_eq xs ys ≡ false
@@ -14,20 +13,20 @@ bytes_eq-lengths xs ys apart =
       | inr unlike ↦ unlike
     ]
 
-word_among-length : (ws : List (List ℕ × Word)) (text : List ℕ) → word_among (filter (λ w. length w.0 == length text) ws) text ≡ word_among ws text
-word_among-length [] text = refl
-word_among-length (w ∷ ws) text =
-    elim (cases_Bool (length w.0 == length text)) [
-      | inl same ↦ rw same (ap (λ rest. cond (bytes_eq w.0 text) (Some w.1) rest) (word_among-length ws text))
-      | inr apart ↦ rw (apart, bytes_eq-lengths w.0 text apart) (word_among-length ws text)
+found-length : {X : Type 0} (rows : List (List ℕ × X)) (text : List ℕ) → found (of_length (length text) rows) text ≡ found rows text
+found-length [] text = refl
+found-length (row ∷ rows) text =
+    elim (cases_Bool (length row.0 == length text)) [
+      | inl same ↦ rw same (ap (λ rest. cond (bytes_eq row.0 text) (Some row.1) rest) (found-length rows text))
+      | inr apart ↦ rw (apart, bytes_eq-lengths row.0 text apart) (found-length rows text)
     ]
 
-pub word_of-length : (n : ℕ) (text : List ℕ) → length text ≡ n → word_among (words_of_length n) text ≡ word_of text
-word_of-length n text is = rw (← is) (word_among-length all_words text)
+pub call_of-length : (n : ℕ) (first : List ℕ) (arguments : List (List ℕ)) → length first ≡ n → call_among (of_length n commands) first arguments ≡ call_of first arguments
+call_of-length n first arguments is = rw (← is) (ap (option_map (λ call. call arguments)) (found-length commands first))
 
--- there is no word of another length
-pub word_of-other : (text : List ℕ) → 4 ≢ length text → 5 ≢ length text → 6 ≢ length text → 7 ≢ length text → 8 ≢ length text → 9 ≢ length text → None ≡ word_of text
-word_of-other text four five six seven eight nine =
-    let none : words_of_length (length text) ≡ [] =
+-- no command has a word of another length
+pub call_of-other : (first : List ℕ) (arguments : List (List ℕ)) → 4 ≢ length first → 5 ≢ length first → 6 ≢ length first → 7 ≢ length first → 8 ≢ length first → 9 ≢ length first → None ≡ call_of first arguments
+call_of-other first arguments four five six seven eight nine =
+    let none : of_length (length first) commands ≡ [] =
     rw (ne_eqb 4 _ four, ne_eqb 5 _ five, ne_eqb 6 _ six, ne_eqb 7 _ seven, ne_eqb 8 _ eight, ne_eqb 9 _ nine) refl in
-    sym (ap (λ ws. word_among ws text) none) ∙ word_of-length (length text) text refl
+    sym (ap (λ rows. call_among rows first arguments) none) ∙ call_of-length (length first) first arguments refl

@@ -54,7 +54,6 @@ abbrev pub HasRoom : Draft → Word → Type 0
 HasRoom d words.Class = length d.classes.items < most_classes
 HasRoom d words.Queue = length d.queues.items < most_queues
 HasRoom d words.Worker = length d.parts.items + 1 < most_workers
-HasRoom d (words.Command verb) = 0 < d.left
 HasRoom d _ = Unit {0}
 
 -- the entries after a line with this first word, or the word's fault

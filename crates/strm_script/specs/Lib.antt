@@ -1,7 +1,6 @@
 pub mod Limits
 pub mod Fault
 pub mod Word
-pub mod Lengths
 pub mod Form
 pub mod Shape
 pub mod Cut

@@ -4,6 +4,7 @@ use Rattle.std.specs.List.{slice_split, filter_map}
 use Rattle.std.specs.Option.{option_map_or}
 use Rattle.strm_data.specs.declared.class_spec.ClassSpec.{ClassSpec}
 use Rattle.strm_data.specs.Limits.{most_classes}
+use Rattle.strm_pool.specs.declared.call.Call.{Call}
 use Rattle.strm_pool.specs.declared.config.Config.{Config}
 use Rattle.strm_pool.specs.Config.{is_nil}
 use Rattle.strm_queue.specs.declared.queue_spec.QueueSpec.{QueueSpec}
@@ -11,9 +12,10 @@ use Rattle.strm_queue.specs.Limits.{most_queues}
 use Rattle.strm_script.specs.declared.fault.Fault.{Fault}
 use Rattle.strm_script.specs.declared.fault.Kind.{Kind}
 use Rattle.strm_script.specs.declared.fault.Kind.TheVariants.{Cut, Unknown, Order, Toomany, Missing}
-use Rattle.strm_script.specs.Entry.{Entry, Pool, Class, Queue, Bufcalls, Worker, Command, entry_of}
+use Rattle.strm_script.specs.Entry.{Entry, Pool, Class, Queue, Bufcalls, Worker, Command, call_of, entry_of}
 use Rattle.strm_pool.specs.declared.line.Line.{Line}
 use Rattle.strm_script.specs.declared.script.Script.{Script}
+use Rattle.strm_script.specs.Shape.{◌>>=◌}
 use Rattle.strm_script.specs.declared.stage.Stage.{Stage}
 use Rattle.strm_script.specs.declared.stage.Stage.TheVariants as stages
 use Rattle.strm_script.specs.declared.word.Word.{Word}
@@ -108,17 +110,24 @@ may_stand stages.Queue words.Queue = true
 may_stand stages.Queue words.Bufcalls = true
 may_stand stages.Bufcalls words.Worker = true
 may_stand stages.Body words.Worker = true
-may_stand stages.Body (words.Command verb) = true
 may_stand _ _ = false
 
--- whether there are as many lines with this first word as there may be; commands are counted over all sections
+-- commands are allowed in sections
+abbrev pub is_body : Stage → Bool
+is_body stages.Body = true
+is_body _ = false
+
+-- whether there are as many lines with this first word as there may be
 abbrev pub is_full : List Numbered → Word → Bool
 is_full es words.Pool = false
 is_full es words.Class = nat_le most_classes (length (values_said class_line es))
 is_full es words.Queue = nat_le most_queues (length (values_said queue_line es))
 is_full es words.Bufcalls = false
 is_full es words.Worker = nat_le most_workers (length (parts_of es))
-is_full es (words.Command verb) = nat_le most_command_lines (sum_by length (parts_of es))
+
+-- whether there are as many command lines as there may be, over all sections
+abbrev pub has_all_commands : List Numbered → Bool
+has_all_commands es = nat_le most_command_lines (sum_by length (parts_of es))
 
 -- ---- lines
 
@@ -137,9 +146,15 @@ with_word es n (Some word) arguments =
     if not (may_stand (stage_of es) word) then Err Order
     else (if is_full es word then Err Toomany else with_entry es n (entry_of word arguments))
 
+-- a command line with this call, or with this fault of its arguments
+abbrev pub with_call : List Numbered → ℕ → Result Call Kind → Result (List Numbered) Kind
+with_call es n call =
+    if not (is_body (stage_of es)) then Err Order
+    else (if has_all_commands es then Err Toomany else with_entry es n (call >>= (λ made. Ok (Command made))))
+
 abbrev pub with_words : List Numbered → ℕ → List (List ℕ) → Result (List Numbered) Kind
 with_words es n [] = Err Unknown
-with_words es n (first ∷ arguments) = with_word es n (word_of first) arguments
+with_words es n (first ∷ arguments) = option_map_or (with_call es n) (call_of first arguments) (with_word es n (word_of first) arguments)
 
 -- the entries after line n, which spaces split into words
 abbrev pub with_line : List Numbered → ℕ → List ℕ → Result (List Numbered) Kind

@@ -1,62 +1,26 @@
--- The first words of a script's lines.
-use Rattle.std.specs.Prelude.{ℕ, List, [], ◌∷◌, Option, None, Some, bytes_eq, if◌then◌else◌, codes}
-use Rattle.strm_script.specs.declared.word.Verb.TheVariants as verbs
+-- Tables of first words.
+use Rattle.std.specs.Prelude.{ℕ, ◌==◌, List, [], ◌∷◌, length, filter, Option, None, Some, bytes_eq, if◌then◌else◌, codes}
 use Rattle.strm_script.specs.declared.word.Word.{Word}
-use Rattle.strm_script.specs.declared.word.Word.TheVariants as words
+use Rattle.strm_script.specs.declared.word.Word.TheVariants.{Pool, Class, Queue, Bufcalls, Worker}
 
--- All first words: those of commands, then those of the header and of sections.
+-- what a table has for the first of its words that is this text byte for byte, if any
+abbrev pub found : {X : Type 0} → List (List ℕ × X) → List ℕ → Option X
+found [] text = None
+found (row ∷ rows) text = if bytes_eq row.0 text then Some row.1 else found rows text
+
+-- the rows of a table whose words have this length
+abbrev pub of_length : {X : Type 0} → ℕ → List (List ℕ × X) → List (List ℕ × X)
+of_length n rows = filter (λ row. length row.0 == n) rows
+
+-- the first words of the header and of sections; those of commands are in `commands`
 abbrev pub all_words : List (List ℕ × Word)
 all_words =
-    (codes "allocb", words.Command verbs.Allocb)
-    ∷ (codes "write", words.Command verbs.Write)
-    ∷ (codes "putq", words.Command verbs.Putq)
-    ∷ (codes "getq", words.Command verbs.Getq)
-    ∷ (codes "freemsg", words.Command verbs.Freemsg)
-    ∷ (codes "census", words.Command verbs.Census)
-    ∷ (codes "testb", words.Command verbs.Testb)
-    ∷ (codes "dupb", words.Command verbs.Dupb)
-    ∷ (codes "dupmsg", words.Command verbs.Dupmsg)
-    ∷ (codes "copyb", words.Command verbs.Copyb)
-    ∷ (codes "copymsg", words.Command verbs.Copymsg)
-    ∷ (codes "settype", words.Command verbs.Settype)
-    ∷ (codes "setband", words.Command verbs.Setband)
-    ∷ (codes "linkb", words.Command verbs.Linkb)
-    ∷ (codes "unlinkb", words.Command verbs.Unlinkb)
-    ∷ (codes "rmvb", words.Command verbs.Rmvb)
-    ∷ (codes "adjmsg", words.Command verbs.Adjmsg)
-    ∷ (codes "pullupmsg", words.Command verbs.Pullupmsg)
-    ∷ (codes "msgdsize", words.Command verbs.Msgdsize)
-    ∷ (codes "size", words.Command verbs.Size)
-    ∷ (codes "read", words.Command verbs.Read)
-    ∷ (codes "block", words.Command verbs.Block)
-    ∷ (codes "freeb", words.Command verbs.Freeb)
-    ∷ (codes "putbq", words.Command verbs.Putbq)
-    ∷ (codes "insq", words.Command verbs.Insq)
-    ∷ (codes "rmvq", words.Command verbs.Rmvq)
-    ∷ (codes "flushq", words.Command verbs.Flushq)
-    ∷ (codes "flushband", words.Command verbs.Flushband)
-    ∷ (codes "bcanput", words.Command verbs.Bcanput)
-    ∷ (codes "strqset", words.Command verbs.Strqset)
-    ∷ (codes "strqget", words.Command verbs.Strqget)
-    ∷ (codes "qsize", words.Command verbs.Qsize)
-    ∷ (codes "qenable", words.Command verbs.Qenable)
-    ∷ (codes "noenable", words.Command verbs.Noenable)
-    ∷ (codes "enableok", words.Command verbs.Enableok)
-    ∷ (codes "service", words.Command verbs.Service)
-    ∷ (codes "bufcall", words.Command verbs.Bufcall)
-    ∷ (codes "unbufcall", words.Command verbs.Unbufcall)
-    ∷ (codes "ready", words.Command verbs.Ready)
-    ∷ (codes "pool", words.Pool)
-    ∷ (codes "class", words.Class)
-    ∷ (codes "queue", words.Queue)
-    ∷ (codes "bufcalls", words.Bufcalls)
-    ∷ (codes "worker", words.Worker)
+    (codes "pool", Pool)
+    ∷ (codes "class", Class)
+    ∷ (codes "queue", Queue)
+    ∷ (codes "bufcalls", Bufcalls)
+    ∷ (codes "worker", Worker)
     ∷ []
 
--- the first word of a table that is this text byte for byte, if any
-abbrev pub word_among : List (List ℕ × Word) → List ℕ → Option Word
-word_among [] text = None
-word_among (w ∷ ws) text = if bytes_eq w.0 text then Some w.1 else word_among ws text
-
 abbrev pub word_of : List ℕ → Option Word
-word_of text = word_among all_words text
+word_of text = found all_words text

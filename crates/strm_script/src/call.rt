@@ -1,20 +1,23 @@
 //! The call of a command line, read by the call's row in strm_pool's table.
-ghost use Rattle.std.specs.Prelude.{◌≡◌};
+ghost use Rattle.std.specs.Prelude.{◌≡◌, length};
 ghost use Rattle.strm_script.specs.Cut.{words_behind};
-ghost use Rattle.strm_script.specs.Entry.{call_of};
+ghost use Rattle.strm_script.specs.Entry.{call_among, call_of, commands};
+ghost use Rattle.strm_script.specs.Word.{of_length};
 
 use crate::fault::Kind;
 use crate::shape::{four, none, one, three, two};
-use crate::word::Verb;
 use strm_pool::{Call, calls};
 
-// Reads the call of a verb, by the rows of calls.
+// Reads the call of the row, if any, that has this first word.
 macro_rules! called {
-    ($verb:expr, $words:expr; $($name:ident $(($($field:ident),+ $(; $lent:ident)?))?: $act:ident $regs:tt;)+) => {
-        match $verb {
-            $(Verb::$name => read!($words, $name $($($field)+ $($lent)?)?),)+
-        }
-    };
+    ($first:ident, $arguments:ident; $(
+        $word:literal $name:ident $(($($field:ident),+ $(; $lent:ident)?))?: $act:ident $regs:tt;
+    )+) => {{
+        $(if $word.as_slice() == $first {
+            return Some(read!($arguments, $name $($($field)+ $($lent)?)?));
+        })+
+        None
+    }};
 }
 
 // Reads a word for each field of a call.
@@ -28,10 +31,66 @@ macro_rules! read {
     };
 }
 
-/// Makes the call of a command line from its first word and the text of its arguments, if any. Returns `Shape` if the number of
-/// arguments is wrong, otherwise the first fault of the arguments, from the left.
-pub fn call_of(verb: Verb, arguments: Option<&[u8]>) -> Result<Call, Kind>
-    ensures { result ≡ call_of verb (words_behind arguments.entry) }
+// The call of a command of four letters.
+fn four_letters(first: &[u8], arguments: Option<&[u8]>) -> Option<Result<Call, Kind>>
+    requires { length first.now ≡ 4 }
+    ensures { result ≡ call_among (of_length 4 commands) first.now (words_behind arguments.entry) }
 {
-    calls!(called verb, arguments;)
+    calls!(4 called first, arguments;)
+}
+
+// The call of a command of five letters.
+fn five_letters(first: &[u8], arguments: Option<&[u8]>) -> Option<Result<Call, Kind>>
+    requires { length first.now ≡ 5 }
+    ensures { result ≡ call_among (of_length 5 commands) first.now (words_behind arguments.entry) }
+{
+    calls!(5 called first, arguments;)
+}
+
+// The call of a command of six letters.
+fn six_letters(first: &[u8], arguments: Option<&[u8]>) -> Option<Result<Call, Kind>>
+    requires { length first.now ≡ 6 }
+    ensures { result ≡ call_among (of_length 6 commands) first.now (words_behind arguments.entry) }
+{
+    calls!(6 called first, arguments;)
+}
+
+// The call of a command of seven letters.
+fn seven_letters(first: &[u8], arguments: Option<&[u8]>) -> Option<Result<Call, Kind>>
+    requires { length first.now ≡ 7 }
+    ensures { result ≡ call_among (of_length 7 commands) first.now (words_behind arguments.entry) }
+{
+    calls!(7 called first, arguments;)
+}
+
+// The call of a command of eight letters.
+fn eight_letters(first: &[u8], arguments: Option<&[u8]>) -> Option<Result<Call, Kind>>
+    requires { length first.now ≡ 8 }
+    ensures { result ≡ call_among (of_length 8 commands) first.now (words_behind arguments.entry) }
+{
+    calls!(8 called first, arguments;)
+}
+
+// The call of a command of nine letters.
+fn nine_letters(first: &[u8], arguments: Option<&[u8]>) -> Option<Result<Call, Kind>>
+    requires { length first.now ≡ 9 }
+    ensures { result ≡ call_among (of_length 9 commands) first.now (words_behind arguments.entry) }
+{
+    calls!(9 called first, arguments;)
+}
+
+/// Makes the call of the command with this first word, if there is one, from the text of its arguments, if any. Returns `Shape` if
+/// the number of arguments is wrong, otherwise the first fault of the arguments, from the left.
+pub fn call_of(first: &[u8], arguments: Option<&[u8]>) -> Option<Result<Call, Kind>>
+    ensures { result ≡ call_of first.now (words_behind arguments.entry) }
+{
+    match first.len() {
+        4 => four_letters(first, arguments),
+        5 => five_letters(first, arguments),
+        6 => six_letters(first, arguments),
+        7 => seven_letters(first, arguments),
+        8 => eight_letters(first, arguments),
+        9 => nine_letters(first, arguments),
+        _ => None,
+    }
 }

@@ -4,7 +4,8 @@ ghost use Rattle.strm_script.specs.Cut.{words_behind};
 ghost use Rattle.strm_pool.specs.Limits.{most_workers};
 ghost use Rattle.strm_script.specs.Limits.{most_command_lines};
 ghost use Rattle.strm_script.specs.Entry.{Worker, Command, entry_of};
-ghost use Rattle.strm_script.specs.Script.{Numbered, is_full, may_stand, with_words, with_entry, is_skipped, with_line, script_or_fault};
+ghost use Rattle.strm_script.specs.Script.{Numbered, is_full, may_stand, with_word, with_call, with_entry, is_skipped, with_line, script_or_fault};
+ghost use Rattle.strm_script.specs.Word.{word_of};
 ghost use Rattle.strm_script.specs.Draft.{StandsFor, HasRoom, Reads, with_first};
 ghost use Rattle.strm_script.specs.Parsed.{Parses};
 
@@ -81,7 +82,6 @@ impl Draft {
             Word::Queue => self.queues.is_full(),
             // The section that is being read counts too.
             Word::Worker => self.parts.len() + 1 >= MOST_WORKERS,
-            Word::Command(_) => self.left == 0,
         }
     }
 
@@ -90,7 +90,7 @@ impl Draft {
         ensures stands { IfOk result (λ word. may_stand self.now.stage word ≡ true) }
         ensures room { IfOk result (λ word. HasRoom self.now word) }
         ensures reads { (es : List Numbered) (n : ℕ) (arguments : List (List ℕ)) → StandsFor self.now es
-            → with_words es n (text.now ∷ arguments) ≡ with_first es n result arguments }
+            → with_word es n (word_of text.now) arguments ≡ with_first es n result arguments }
     {
         match word_of(text) {
             None => Err(Kind::Unknown),
@@ -124,6 +124,21 @@ impl Draft {
     {
         self.lines.push(Line { number, call })?;
         self.left -= 1;
+        Ok(())
+    }
+
+    // Takes in a command line with this call, or with this fault of its arguments.
+    fn take_call(&mut self, number: u32, call: Result<Call, Kind>) -> Result<(), LineFault>
+        ensures { (es : List Numbered) → StandsFor self.old es
+            → Reads self.new result (with_call es number call) }
+    {
+        if self.stage != Stage::Body {
+            return Err(LineFault::Kind(Kind::Order));
+        }
+        if self.left == 0 {
+            return Err(LineFault::Kind(Kind::Toomany));
+        }
+        self.put_call(number, call?)?;
         Ok(())
     }
 
@@ -162,10 +177,6 @@ impl Draft {
                 none(arguments)?;
                 self.begin_section()?;
             }
-            Word::Command(verb) => {
-                let call = call_of(verb, arguments)?;
-                self.put_call(number, call)?;
-            }
         }
         Ok(())
     }
@@ -179,6 +190,9 @@ impl Draft {
             return Ok(());
         }
         let (first, arguments) = cut_word(text);
+        if let Some(call) = call_of(first, arguments) {
+            return self.take_call(number, call);
+        }
         let word = self.first_word(first)?;
         self.take(number, word, arguments)
     }

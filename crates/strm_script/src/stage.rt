@@ -13,7 +13,7 @@ pub enum Stage {
     Class,
     Queue,
     Bufcalls,
-    /// The first worker section has begun.
+    /// The first worker section has begun. Only here may commands come.
     Body,
 }
 
@@ -28,7 +28,7 @@ impl Stage {
             Stage::Class => matches!(word, Word::Class | Word::Queue),
             Stage::Queue => matches!(word, Word::Queue | Word::Bufcalls),
             Stage::Bufcalls => matches!(word, Word::Worker),
-            Stage::Body => matches!(word, Word::Worker | Word::Command(_)),
+            Stage::Body => matches!(word, Word::Worker),
         }
     }
 }
