@@ -7,11 +7,9 @@ use Rattle.strm_links.specs.Rows.{IsApart}
 use Rattle.strm_links.specs.Rows as rows
 use Rattle.strm_mblk.specs.declared.rejected.Rejected.{Rejected}
 use Rattle.strm_mblk.specs.declared.token.TokenValue.{TokenValue}
-use Rattle.strm_mblk.specs.Arena.{Arena, has, token_of}
-use Rattle.strm_mblk.specs.Calls.{Alters, Frees, Gives, Joins, Lends, Parts, Puts, Takes, TakesAny, Unlinks}
-use Rattle.strm_mblk.specs.Frame.{LeavesOthers}
+use Rattle.strm_mblk.specs.Arena.{Arena, has, held_at, token_of}
+use Rattle.strm_mblk.specs.Calls.{Alters, Flushes, Frees, Gives, Joins, Lends, Parts, Puts, Takes, TakesAny, Unlinks}
 use Rattle.strm_mblk.specs.Given.{Given, answer_of, given_nothing, value_after}
-use Rattle.strm_mblk.proofs.arena.Frame.{leaves_same}
 use Rattle.strm_mblk.proofs.arena.Tokens.{had_message}
 use Rattle.strm_pool.specs.PoolValue.{PoolValue, arena, on_arena, with_arena}
 use Rattle.strm_pool.proofs.Tokens.{Moves, err_not_ok, has_here, heads_of, moves_beside, moves_gone, moves_joined, moves_new, moves_none, moves_parted, moves_rest, moves_stay, lone, moves_swapped, same_err, same_ok, same_some, some_not_none}
@@ -20,7 +18,7 @@ use Rattle.strm_named.specs.declared.fault.Fault.TheVariants.{Invalid, Refused}
 use Rattle.strm_named.specs.declared.name.Name.{Name}
 use Rattle.strm_named.specs.Fitting.{Fits, IsTokenOf, pool_with_places}
 use Rattle.strm_named.specs.NamedCalls.{as_named_result, asked, on_name, Does, LeavesNames, LendsNamed, Outcome, Shape, any_message, one_message, outcome_of, no_message, two_messages}
-use Rattle.strm_named.specs.NamedValue.{NamedValue, is_valid, name_of, stamp_after, stamp_at, stamps_given}
+use Rattle.strm_named.specs.NamedValue.{NamedValue, is_valid, name_of, stamp_after, stamp_at, stamps_given, with_pool}
 use Rattle.strm_named.specs.PlacesValue.{PlacesValue, answer_given, answer_spent, any_answer_given, any_given, name_given, parted_given, stamp_in, with_answer, with_any, with_any_answer, with_given, with_parted, with_rejected, with_token, without_token}
 use Rattle.strm_named.proofs.Fitted.{emptied, filled, fits_moved, put_back, stands_had, within_some}
 use Rattle.strm_named.proofs.Renamed.{length-stamps_given, renames, stamps_raised}
@@ -290,18 +288,20 @@ module _ {p r : PoolValue} {ps qs : PlacesValue} (fits : Fits p.arena ps) where
 
 -- ---- a call that leaves the held messages
 
-pub leaves_names : {X : Type 0} {v : NamedValue} {p r : PoolValue} (ps : PlacesValue) {result : Result X Refusal} (call : PoolValue → Given PoolValue X) → pool_with_places p ps ≡ v → r ≡ value_after p (call p) → result ≡ answer_of (call p)
-    → LeavesOthers [] p.arena r.arena → LeavesNames (call v.pool) v (pool_with_places r ps) result
-leaves_names {X} {v} {p} {r} ps {result} call view after answer left =
-    subst (λ w. LeavesNames (call w.pool) w (pool_with_places r ps) result) view
-    (record {
-      pool = ap (λ (x : PoolValue). pool_with_places x ps) after;
-      answer = answer;
-      names = λ n i. n.pool == left.id i && (is_some (left.held n.head refl i) && n.stamp == stamp_in ps n.head);
-    })
+pub leaves_names : {X : Type 0} (g : Given PoolValue X) (v w : NamedValue) (result : Result X Refusal) → w ≡ with_pool v (value_after v.pool g) → result ≡ answer_of g → w.pool.arena.id ≡ v.pool.arena.id
+    → ((h : ℕ) → held_at w.pool.arena h ≡ held_at v.pool.arena h) → LeavesNames g v w result
+leaves_names g v w result after answer id held = record {
+  pool = after;
+  answer = answer;
+  names = λ n i. n.pool == id i && (is_some (held n.head i) && n.stamp == stamp_at (after i) n.head);
+}
 
-pub leaves_all : {a b : Arena} → b ≡ a → LeavesOthers [] a b
-leaves_all {a} same = subst (LeavesOthers [] a) (sym same) (leaves_same a []).others
+-- a flush
+pub flushes_names : {v : NamedValue} {p r : PoolValue} (ps : PlacesValue) {result : Result (Unit {0}) Refusal} (call : PoolValue → Given PoolValue (Unit {0})) → pool_with_places p ps ≡ v → Flushes arena (call p) p r result
+    → LeavesNames (call v.pool) v (pool_with_places r ps) result
+flushes_names {v} {p} {r} ps {result} call view is =
+    subst (λ w. LeavesNames (call w.pool) w (pool_with_places r ps) result) view
+    (leaves_names (call p) (pool_with_places p ps) (pool_with_places r ps) result (ap (λ (x : PoolValue). pool_with_places x ps) is.after) is.answer is.others.id (λ h. is.others.held h refl))
 
 -- bytes of the message of a name are lent to a closure, and it stays
 module _ {X R : Type 0} (p r : PoolValue) (ps qs : PlacesValue) (fits : Fits p.arena ps) (n : Name) (t : TokenValue) (of : IsTokenOf n p.arena t) (closure : List ℕ → R → List ℕ → Type 0)

@@ -75,7 +75,12 @@ impl NamedPool {
         let given = self.pool.rmvq(queue, place);
         self.places.answer(given)
     }
+}
 
+// Calls that leave held messages, and so names: each is that of `Pool`. The lemma proves them, except flushes, whose definitions
+// are long.
+#[tactic(auto, using(crate::proofs::Shaped::leaves_names))]
+impl NamedPool {
     /// Frees messages of a queue: all, or only those that carry data. Refused as `NoSuchQueue`. As [`Queues::flushq`] of
     /// strm_queue.
     pub fn flushq(&mut self, queue: u8, flush: Flush) -> Result<(), Refusal>

@@ -6,6 +6,7 @@ ghost use Rattle.strm_pool.specs.Wishes as wishes;
 use super::NamedPool;
 use strm_pool::Refusal;
 
+#[tactic(auto, using(crate::proofs::Shaped::leaves_names))]
 impl NamedPool {
     /// Records a wish for a message block of `size` bytes or more, and returns its id. Refused as `TooLarge`, `Full`, then
     /// `IdsSpent`. As [`Pool::bufcall`] of strm_pool.

@@ -1,7 +1,7 @@
 use Rattle.strm_queue.specs.QueueCalls as queues
 use Rattle.strm_pool.specs.PoolValue.{on_queues, queued_blocks_of}
-use Rattle.strm_named.proofs.Shaped.{leaves_names}
+use Rattle.strm_named.proofs.Shaped.{flushes_names}
 use Rattle.strm_named.proofs.named_pool.NamedPool.flushq.Goals as goal
 
 pub returns : goal.returns
-returns c = leaves_names c.self.inside.places (λ p. on_queues p (queues.flushq c.args.queue c.args.flush (queued_blocks_of p))) c.self.view_is c.flushq.ensures.after c.flushq.ensures.answer c.flushq.ensures.others
+returns c = flushes_names c.self.inside.places (λ p. on_queues p (queues.flushq c.args.queue c.args.flush (queued_blocks_of p))) c.self.view_is c.flushq.ensures

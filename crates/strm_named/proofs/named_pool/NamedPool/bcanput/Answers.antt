@@ -1,7 +1,0 @@
-use Rattle.strm_queue.specs.QueueCalls as queues
-use Rattle.strm_pool.specs.PoolValue.{on_queues, queued_blocks_of}
-use Rattle.strm_named.proofs.Shaped.{leaves_all, leaves_names}
-use Rattle.strm_named.proofs.named_pool.NamedPool.bcanput.Goals as goal
-
-pub returns : goal.returns
-returns c = leaves_names c.self.inside.places (λ p. on_queues p (queues.bcanput c.args.queue c.args.band (queued_blocks_of p))) c.self.view_is c.bcanput.ensures.after c.bcanput.ensures.answer (leaves_all c.bcanput.ensures.arena_stays)
