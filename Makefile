@@ -289,13 +289,13 @@ install-lib: $(ARCHIVE) $(SHARED)
 	@$(if $(DESTDIR),,echo 'export PKG_CONFIG_PATH=$(PREFIX)/lib/pkgconfig$${PKG_CONFIG_PATH:+:$$PKG_CONFIG_PATH}')
 	@$(if $(DESTDIR),,echo 'export LD_LIBRARY_PATH=$(PREFIX)/lib$${LD_LIBRARY_PATH:+:$$LD_LIBRARY_PATH}')
 
-# Builds an archive and a Debian package of a release in DIST, for each target. Beside them is PROOF, with their sums. GATE names a log of the gate, whose last
-# line goes into PROOF. It refuses uncommitted changes unless DIRTY is yes, and then PROOF says that there are some.
+# Builds archives and Debian packages of a release in DIST. There is one of each for each target. Beside them is PROOF, with their sums. GATE names
+# a log of the gate, whose last line goes into PROOF. It refuses uncommitted changes unless DIRTY is yes, and then PROOF says that there are some.
 dist:
 	$(NEEDS_RT)
 	@GATE="$(GATE)" DIRTY="$(DIRTY)" tools/dist "$(DIST)"
 
-# Puts strm, and the library for C for both targets, into release, with PROOF. GATE and DIRTY are those of dist.
+# Puts strm and the libraries for C into release, with PROOF. GATE and DIRTY are those of dist.
 release: $(STRM) $(ARCHIVE) $(SHARED)
 	@$(MAKE) -s lib TARGET=$(ARM)
 	@GATE="$(GATE)" DIRTY="$(DIRTY)" tools/dist --release
