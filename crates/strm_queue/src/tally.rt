@@ -267,8 +267,9 @@ impl Tally {
         self.used.marks_each();
         self.firsts[usize::from(rank)] = first;
         self.lasts[usize::from(rank)] = last;
-        if 0 < rank && rank < HIGH_RANK {
-            self.used.set(rank as u8, used);
+        let band = band_of(rank);
+        if band > 0 {
+            self.used.set(band, used);
         }
     }
 }
