@@ -92,8 +92,9 @@ pub enum Call {
     Census,
 }
 
-/// The table of calls, by the number of letters of their words in a script. `calls!(rows WORDS)` expands to `rows!` with these
-/// words and then a row for each call, and `calls!(4 rows WORDS)` to that for the calls of 4 letters. A row has:
+/// The table of calls, by the number of letters of their words in a script, the frequent ones first. `calls!(rows WORDS)` expands
+/// to `rows!` with these words and then a row for each call, and `calls!(4 rows WORDS)` to that for the calls of 4 letters. A row
+/// has:
 ///
 /// 1. the first word of the call's lines in a script;
 /// 2. the name of the variant of `Call`;
@@ -107,27 +108,27 @@ macro_rules! calls {
     (4 $rows:ident $($with:tt)*) => {
         $rows! {
             $($with)*
+            b"putq" Putq(queue, reg): act_putq(regs);
+            b"getq" Getq(queue, into): act_getq(regs);
             b"dupb" Dupb(from, into): act_dupb(regs);
+            b"rmvq" Rmvq(queue, place, into): act_rmvq(regs);
+            b"read" Read(reg, at): act_read(regs);
             b"rmvb" Rmvb(reg, place, into): act_rmvb(regs);
             b"size" Size(reg): act_size(regs);
-            b"read" Read(reg, at): act_read(regs);
-            b"putq" Putq(queue, reg): act_putq(regs);
             b"insq" Insq(queue, place, reg): act_insq(regs);
-            b"getq" Getq(queue, into): act_getq(regs);
-            b"rmvq" Rmvq(queue, place, into): act_rmvq(regs);
         }
     };
     (5 $rows:ident $($with:tt)*) => {
         $rows! {
             $($with)*
-            b"testb" Testb(size): act_testb();
-            b"copyb" Copyb(from, into): act_copyb(regs);
             b"write" Write(reg, place; bytes): act_write(regs);
             b"linkb" Linkb(reg, behind): act_linkb(regs);
             b"block" Block(reg, place): act_block(regs);
             b"freeb" Freeb(reg): act_freeb(regs);
             b"putbq" Putbq(queue, reg): act_putbq(regs);
+            b"copyb" Copyb(from, into): act_copyb(regs);
             b"qsize" Qsize(queue): act_qsize();
+            b"testb" Testb(size): act_testb();
             b"ready" Ready: act_ready();
         }
     };
@@ -137,40 +138,40 @@ macro_rules! calls {
             b"allocb" Allocb(into, size): act_allocb(regs);
             b"dupmsg" Dupmsg(from, into): act_dupmsg(regs);
             b"adjmsg" Adjmsg(reg, count): act_adjmsg(regs);
-            b"flushq" Flushq(queue, flush): act_flushq();
             b"census" Census: act_census();
+            b"flushq" Flushq(queue, flush): act_flushq();
         }
     };
     (7 $rows:ident $($with:tt)*) => {
         $rows! {
             $($with)*
-            b"copymsg" Copymsg(from, into): act_copymsg(regs);
-            b"settype" Settype(reg, place, kind): act_settype(regs);
-            b"setband" Setband(reg, band): act_setband(regs);
-            b"unlinkb" Unlinkb(reg, into): act_unlinkb(regs);
             b"freemsg" Freemsg(reg): act_freemsg(regs);
             b"bcanput" Bcanput(queue, band): act_bcanput();
+            b"copymsg" Copymsg(from, into): act_copymsg(regs);
+            b"service" Service: act_service();
+            b"setband" Setband(reg, band): act_setband(regs);
+            b"bufcall" Bufcall(size): act_bufcall();
+            b"qenable" Qenable(queue): act_qenable();
+            b"settype" Settype(reg, place, kind): act_settype(regs);
+            b"unlinkb" Unlinkb(reg, into): act_unlinkb(regs);
             b"strqset" Strqset(queue, band, hiwat, lowat): act_strqset();
             b"strqget" Strqget(queue, band): act_strqget();
-            b"qenable" Qenable(queue): act_qenable();
-            b"service" Service: act_service();
-            b"bufcall" Bufcall(size): act_bufcall();
         }
     };
     (8 $rows:ident $($with:tt)*) => {
         $rows! {
             $($with)*
             b"msgdsize" Msgdsize(reg): act_msgdsize(regs);
-            b"noenable" Noenable(queue): act_noenable();
             b"enableok" Enableok(queue): act_enableok();
+            b"noenable" Noenable(queue): act_noenable();
         }
     };
     (9 $rows:ident $($with:tt)*) => {
         $rows! {
             $($with)*
             b"pullupmsg" Pullupmsg(reg, count): act_pullupmsg(regs);
-            b"flushband" Flushband(queue, band, flush): act_flushband();
             b"unbufcall" Unbufcall(id): act_unbufcall();
+            b"flushband" Flushband(queue, band, flush): act_flushband();
         }
     };
     ($rows:ident $($with:tt)*) => { calls!(4 calls 5 calls 6 calls 7 calls 8 calls 9 $rows $($with)*) };

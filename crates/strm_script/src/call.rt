@@ -1,5 +1,5 @@
 //! The call of a command line, read by the call's row in strm_pool's table.
-ghost use Rattle.std.specs.Prelude.{◌≡◌, length};
+ghost use Rattle.std.specs.Prelude.{◌≡◌, length, bytes_eq};
 ghost use Rattle.strm_script.specs.Cut.{words_behind};
 ghost use Rattle.strm_script.specs.Entry.{call_among, call_of, commands};
 ghost use Rattle.strm_script.specs.Word.{of_length};
@@ -13,11 +13,24 @@ macro_rules! called {
     ($first:ident, $arguments:ident; $(
         $word:literal $name:ident $(($($field:ident),+ $(; $lent:ident)?))?: $act:ident $regs:tt;
     )+) => {{
-        $(if $word.as_slice() == $first {
+        $(if is_word($first, $word) {
             return Some(read!($arguments, $name $($($field)+ $($lent)?)?));
         })+
         None
     }};
+}
+
+// Whether a first word is that of a row. It is compiled into each row, where the compiler compares with the row's letters.
+fn is_word(first: &[u8], word: &[u8]) -> bool
+    requires { length first.now ≡ length word.now }
+    ensures { result ≡ bytes_eq word.now first.now }
+{
+    for (letter, wanted) in first.iter().zip(word.iter()) {
+        if letter != wanted {
+            return false;
+        }
+    }
+    true
 }
 
 // Reads a word for each field of a call.
