@@ -433,10 +433,7 @@ class Model:
     def block(self, source: str, k: int) -> str:
         """Shows the fields of block K in R. Reply: block. Refusal: NoSuchBlock."""
         block = self.block_at(source, k)
-        return (
-            f"block {block.data.kind} len={block.length()} band={block.band} room={block.room()}"
-            f" names={block.data.names}"
-        )
+        return f"block {block.data.kind} len={block.length()} band={block.band} room={block.room()} names={block.data.names}"
 
     @word("Messages", "from", 2)
     def freeb(self, source: str) -> None:
@@ -641,19 +638,15 @@ class Model:
 
     def report(self) -> list[str]:
         lines = ["blocks free={} queued={} held={} total={}".format(*self.counts(), self.pool.mblks)]
-        for (size, count), free in zip(self.pool.classes, self.data):
-            lines.append(f"data size={size} free={free} total={count}")
+        lines += [f"data size={size} free={free} total={count}" for (size, count), free in zip(self.pool.classes, self.data)]
         for number, queue in enumerate(self.queues):
             lines.append(
-                f"queue {number} msgs={len(queue.messages)} bytes={sum(map(total, queue.messages))}"
-                f" read={int(queue.wants_to_read)} noenable={int(queue.enabling_is_off)}"
-                f" enabled={int(number in self.run)}"
+                f"queue {number} msgs={len(queue.messages)} bytes={sum(map(total, queue.messages))} read={int(queue.wants_to_read)}"
+                f" noenable={int(queue.enabling_is_off)} enabled={int(number in self.run)}"
             )
             for band, count in sorted(queue.bytes_of_bands().items(), reverse=True):
                 if count > 0:
-                    lines.append(
-                        f"band {band} bytes={count} full={int(queue.is_full(band))} wanted={int(band in queue.wanted)}"
-                    )
+                    lines.append(f"band {band} bytes={count} full={int(queue.is_full(band))} wanted={int(band in queue.wanted)}")
         lines.append(f"run {' '.join(map(str, self.run)) or '-'}")
         lines.append(f"wishes {' '.join(f'{own}:{size}' for own, size in self.wishes) or '-'}")
         return lines

@@ -67,11 +67,7 @@ RULES = {
         "Band {B} of queue {Q} was wanted and its bytes, {N}, are at most its low water mark, {L}, so its waker, queue {W}, is enabled.",
         FLOW,
     ),
-    "no_waker": Rule(
-        "not enabled",
-        "Band {B} of queue {Q} is wanted no longer; no queue before it has a service procedure.",
-        FLOW,
-    ),
+    "no_waker": Rule("not enabled", "Band {B} of queue {Q} is wanted no longer; no queue before it has a service procedure.", FLOW),
     "waker_runs": Rule("not enabled", "Band {B} is wanted no longer; the waker, queue {W}, is on the run list already.", FLOW),
     "stays": Rule("not enabled", "Band {B} of queue {Q} stays wanted: its bytes, {N}, are above its low water mark, {L}.", FLOW),
     "not_wanted": Rule("not enabled", "No band of queue {Q} is wanted.", FLOW),

@@ -88,10 +88,7 @@ def pool_of(header: dict[str, list[list[str]]]) -> Pool:
     return Pool(
         mblks=int(header["pool"][0][1]),
         classes=[(int(size), int(count)) for size, count in header["class"]],
-        queues=[
-            (int(high), int(low), service, "-" if following == "-" else int(following))
-            for high, low, service, following in header["queue"]
-        ],
+        queues=[(int(high), int(low), service, "-" if after == "-" else int(after)) for high, low, service, after in header["queue"]],
         bufcalls=int(header["bufcalls"][0][0]),
         first_id=int(header["bufcalls"][0][1]),
     )

@@ -32,23 +32,14 @@ ADVICE = {
     "write the commands of the queue's put procedure, often putq Q R": ["put"],
     "write the commands of the next queue's put procedure, often putq Q R with the next queue as Q": ["putnext"],
     "write the commands of the put procedure of the next queue in the other direction, often putq Q R": ["qreply"],
-    "make the message by allocb R SIZE and settype R K TYPE, and write the commands of the put procedure, often putq Q R": [
-        "putctl",
-        "putnextctl",
-    ],
+    "make the message by allocb R SIZE and settype R K TYPE, and write the commands of the put procedure, often putq Q R": ["putctl", "putnextctl"],
     "make the message by allocb R SIZE, settype R K TYPE and write R K HEX, and write the commands of the put procedure, often putq Q R": [
         "putctl1",
         "putnextctl1",
     ],
     "the header fixes each next queue, by the last word of the queue's line": ["backq", "unweldq", "weldq"],
     "the report shows noenable of each queue": ["canenable"],
-    "no other command runs during a command, and nothing holds several commands together": [
-        "freezestr",
-        "qwriter",
-        "splstr",
-        "splx",
-        "unfreezestr",
-    ],
+    "no other command runs during a command, and nothing holds several commands together": ["freezestr", "qwriter", "splstr", "splx", "unfreezestr"],
     "there are no streams or modules, so leave it out": [
         *["getadmin", "getmid", "qassociate", "qprocsoff", "qprocson", "SAMESTR", "str_install", "wantio", "wantmsg"],
     ],
