@@ -3,6 +3,7 @@ proved to follow."""
 import glob
 import os
 import re
+import subprocess
 
 from making import TOP, read
 from making.cases import kept_cases
@@ -14,6 +15,12 @@ FORMS = {
     **{"Reg": "register_of", "u8": "u8_of", "u32": "u32_of", "i32": "i32_of", "Octets": "octets_of"},
     **{"MsgType": "type_of", "Flush": "flush_of"},
 }
+
+
+def declared():
+    """The functions that strm.h declares."""
+    words = [os.path.join(TOP, "tests", "c", "declared"), os.path.join(TOP, "c", "strm.h")]
+    return subprocess.run(words, capture_output=True, text=True, check=True).stdout.split()
 
 
 def version():
