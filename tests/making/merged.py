@@ -95,8 +95,13 @@ def serve(program, script, *words):
     return subprocess.run(command, input=script.encode(), capture_output=True)
 
 
-def order_of(script, ran):
-    """The order in which workers served a script, as `judge` gives it. Raises `Wrong` where the program ended otherwise."""
+def written(ran):
+    """The text that a run has written. Raises `Wrong` where the program ended otherwise."""
     if ran.returncode != 0 or ran.stderr:
         raise Wrong(f"status {ran.returncode}: {ran.stderr.decode(errors='replace').rstrip()}")
-    return judge(script, ran.stdout.decode(errors="replace"))
+    return ran.stdout.decode(errors="replace")
+
+
+def order_of(script, ran):
+    """The order in which workers served a script, as `judge` gives it."""
+    return judge(script, written(ran))
