@@ -7,6 +7,9 @@ TOP = os.path.dirname(os.path.dirname(os.path.dirname(os.path.abspath(__file__))
 # Python finds modules beside the script that it runs, but strm_tools and the lines that bench/script.py draws are in other folders.
 sys.path[:0] = [os.path.join(TOP, "tools"), os.path.join(TOP, "bench")]
 
+# The environment in which a shell finds the tools.
+WITH_TOOLS = {**os.environ, "PATH": os.path.join(TOP, "tools") + os.pathsep + os.environ["PATH"]}
+
 
 def read(*path):
     """A file of the repository, or one at a path from the root."""
