@@ -34,16 +34,8 @@ class Typed:
         fcntl.ioctl(other, termios.TIOCSWINSZ, struct.pack("HHHH", lines, columns, 0, 0))
         variables = {name: value for name, value in os.environ.items() if name not in ("LINES", "COLUMNS", "NO_COLOR")}
         variables.update({"TERM": "xterm", "INPUTRC": "/dev/null", **environment})
-        self.ran = subprocess.Popen(
-            command,
-            stdin=other,
-            stdout=other,
-            stderr=other,
-            env=variables,
-            cwd=cwd,
-            start_new_session=True,
-            preexec_fn=begin_terminal,
-        )
+        streams = dict.fromkeys(["stdin", "stdout", "stderr"], other)
+        self.ran = subprocess.Popen(command, **streams, env=variables, cwd=cwd, start_new_session=True, preexec_fn=begin_terminal)
         os.close(other)
         self.terminal = own
 
