@@ -6,7 +6,7 @@ from typing import NamedTuple, Sequence
 
 from strm_tools.faults import FITS, FORMS, HEADER, number
 from strm_tools.labels import form_of
-from strm_tools.model import HIGH_PRIORITY, ORDINARY
+from strm_tools.model import HIGH_PRIORITY, ORDINARY, REPLIES
 from strm_tools.words import MEANINGS, WORDS, wrong_count
 
 # The form of each line, by its first word.
@@ -24,10 +24,9 @@ LINES = {
 }
 # What the messages in a call are called, and what each has to be: they have no registers yet.
 MESSAGES = {"from": ("<N", "a message that the call takes"), "to": (">N", "a message that the call returns, or > for none")}
-REPLY = re.compile(
-    "(ok|yes|no|none|empty|taken|(size|queue|id) [0-9]+|(marks|ready) [0-9]+ [0-9]+|census( [0-9]+){3}|refused [0-9]+ [A-Za-z]+"
-    "|bytes (-|([0-9a-f]{2})+)|block M_[A-Z]+ len=[0-9]+ band=[0-9]+ room=[0-9]+ names=[0-9]+)"
-)
+# What words in capitals in the form of a reply stand for, if not a number.
+IN_REPLIES = {"HEX": "(-|([0-9a-f]{2})+)", "TYPE": "M_[A-Z]+", "NAME": "[A-Za-z]+"}
+REPLY = re.compile("|".join(re.sub("[A-Z]+|(?<==)", lambda part: IN_REPLIES.get(str(part[0]), "[0-9]+"), form) for form in REPLIES))
 MOST_QUOTED = 80
 MOST_NUMBER = 2**31 - 1
 is_number = number(MOST_NUMBER)
