@@ -9,6 +9,9 @@ HIGH_PRIORITY = (
     "M_IOCACK M_IOCNAK M_PCPROTO M_PCSIG M_READ M_FLUSH M_STOP M_START M_HANGUP M_ERROR M_COPYIN M_COPYOUT M_IOCDATA"
 ).split()
 CARRY_DATA = "M_DATA M_PROTO M_PCPROTO M_DELAY".split()
+# The most references of a data block, and the last id of a wish.
+REFERENCES = 255
+LAST_ID = 4_294_967_295
 # The values of a line's words after the first: an int, a str or bytes, as the word's item says.
 Values = List[Any]
 # The queue after another one, or none.
@@ -45,6 +48,8 @@ class Word(NamedTuple):
     often: int
     # Whether STREAMS has no routine of this name.
     own: bool
+    # Whether it settles its queue.
+    settles: bool
     # What it does, with its replies other than ok, and its own refusals.
     does: str
 
@@ -53,18 +58,22 @@ class Word(NamedTuple):
 WORDS: dict[str, Word] = {}
 
 
-def word(group: str, items: str, often: int = 1, own: bool = False) -> Callable[[Method], Method]:
+def word(group: str, items: str, often: int = 1, own: bool = False, settles: bool = False) -> Callable[[Method], Method]:
     """Adds the method below to `WORDS`, with its comment as what the command does, in which words in capitals are those of the form."""
 
     def added(method: Method) -> Method:
-        WORDS[method.__name__] = Word(group, items.split(), often, own, " ".join((method.__doc__ or "").split()))
+        WORDS[method.__name__] = Word(group, items.split(), often, own, settles, " ".join((method.__doc__ or "").split()))
         return method
 
     return added
 
 
 class Refused(Exception):
-    """A call's own refusal, by number and name. Nothing has changed."""
+    """A call's own refusal, by number and name, and the numbers in its sentence in strm_tools.rules. Nothing has changed."""
+
+    def __init__(self, reply: str, **numbers: int | str) -> None:
+        super().__init__(reply)
+        self.numbers = numbers
 
 
 class Pool(NamedTuple):
@@ -241,26 +250,26 @@ class Model:
     def take(self, free: list[int], size: int) -> Data:
         """The data block that is found; `free`, how many each class has, then has one less."""
         if size > self.pool.greatest():
-            raise Refused("1 TooLarge")
+            raise Refused("1 TooLarge", S=size, M=self.pool.greatest())
         for place, (most, _) in enumerate(self.pool.classes):
             if size <= most and free[place] > 0:
                 free[place] -= 1
                 return Data(place, most)
-        raise Refused("3 NoData")
+        raise Refused("3 NoData", S=size)
 
     def need(self, count: int) -> None:
         if self.counts()[0] < count:
-            raise Refused("2 NoMblk")
+            raise Refused("2 NoMblk", N=count, F=self.counts()[0])
 
     def block_at(self, register: str, k: int) -> Block:
         if k >= len(self.held[register]):
-            raise Refused("5 NoSuchBlock")
+            raise Refused("5 NoSuchBlock", N=len(self.held[register]), K=k)
         return self.held[register][k]
 
     def own_block_at(self, register: str, k: int) -> Block:
         block = self.block_at(register, k)
         if block.data.names > 1:
-            raise Refused("6 Shared")
+            raise Refused("6 Shared", K=k, N=block.data.names)
         return block
 
     def release(self, data: Data) -> None:
@@ -279,7 +288,7 @@ class Model:
         """Allocates a message of one block into R, of type M_DATA and band 0, without bytes. Its data block is of the
         smallest class that fits SIZE bytes and has a free data block. Refusals: TooLarge, NoMblk, NoData."""
         if size > self.pool.greatest():
-            raise Refused("1 TooLarge")
+            raise Refused("1 TooLarge", S=size, M=self.pool.greatest())
         self.need(1)
         self.held[to] = [Block(self.take(self.data, size))]
 
@@ -294,9 +303,9 @@ class Model:
 
     def duplicates(self, blocks: Message) -> Message:
         self.need(len(blocks))
-        for block in blocks:
-            if block.data.names + sum(other.data is block.data for other in blocks) > 255:
-                raise Refused("4 RefMax")
+        most = max(block.data.names + sum(other.data is block.data for other in blocks) for block in blocks)
+        if most > REFERENCES:
+            raise Refused("4 RefMax", N=most, M=REFERENCES)
         return [block.duplicate() for block in blocks]
 
     @word("Messages", "from to", 2)
@@ -333,7 +342,7 @@ class Model:
         """Appends bytes at the write place of block K in R. Refusals: NoSuchBlock, Shared, NoRoom."""
         block = self.own_block_at(source, k)
         if len(octets) > block.room():
-            raise Refused("7 NoRoom")
+            raise Refused("7 NoRoom", K=k, F=block.room(), N=len(octets))
         block.data.octets[block.write : block.write + len(octets)] = octets
         block.write += len(octets)
 
@@ -377,7 +386,7 @@ class Model:
         run = run_of(self.held[source] if count > 0 else self.held[source][::-1])
         left = abs(count)
         if left > total(run):
-            raise Refused("8 Short")
+            raise Refused("8 Short", END="first" if count > 0 else "last", F=total(run), N=left)
         for block in run:
             cut = min(left, block.length())
             left -= cut
@@ -393,8 +402,10 @@ class Model:
         blocks that this empties are freed. Refusals: Short, TooLarge, NoData."""
         message = self.held[source]
         run = run_of(message)
-        if count < -1 or count > total(run):
-            raise Refused("8 Short")
+        if count < -1:
+            raise Refused("8 Short", N=count)
+        if count > total(run):
+            raise Refused("8 Short", END="first", F=total(run), N=count)
         if count == -1:
             count = total(run)
         first = message[0]
@@ -498,16 +509,18 @@ class Model:
         queue = self.queues[number]
         messages = queue.messages
         if k > len(messages):
-            raise Refused("9 NoSuchPlace")
+            raise Refused("9 NoSuchPlace", Q=number, N=len(messages), K=k)
         own = rank(self.held[source])
         ranks = [rank(message) for message in messages]
-        if min(ranks[:k], default=own) < own or max(ranks[k:], default=own) > own:
-            raise Refused("10 BadOrder")
+        below = [other for other in ranks[:k] if other < own]
+        if below or max(ranks[k:], default=own) > own:
+            first, then = (below[0], own) if below else (own, max(ranks[k:]))
+            raise Refused("10 BadOrder", K=k, A=first, B=then)
         self.place(number, k, source)
         if not queue.enabling_is_off and queue.wants_to_read:
             self.enable(number)
 
-    @word("Queues", "queue to", 6)
+    @word("Queues", "queue to", 6, settles=True)
     def getq(self, number: int, to: str) -> str | None:
         """Takes the first message off queue Q into R. Reply: ok, none."""
         queue = self.queues[number]
@@ -518,12 +531,12 @@ class Model:
         self.settle(number)
         return None
 
-    @word("Queues", "queue place to", 3)
+    @word("Queues", "queue place to", 3, settles=True)
     def rmvq(self, number: int, k: int, to: str) -> None:
         """Takes the message at place K off queue Q into R. Refusal: NoSuchPlace."""
         messages = self.queues[number].messages
         if k >= len(messages):
-            raise Refused("9 NoSuchPlace")
+            raise Refused("9 NoSuchPlace", Q=number, N=len(messages), K=k)
         self.held[to] = messages.pop(k)
         self.settle(number)
 
@@ -539,12 +552,12 @@ class Model:
         queue.messages = kept
         self.settle(number)
 
-    @word("Queues", "queue flag", 2)
+    @word("Queues", "queue flag", 2, settles=True)
     def flushq(self, number: int, flag: str) -> None:
         """Frees the messages of queue Q, all or those with data."""
         self.flush(number, range(257), flag)
 
-    @word("Queues", "queue band flag", 2)
+    @word("Queues", "queue band flag", 2, settles=True)
     def flushband(self, number: int, band: int, flag: str) -> None:
         """Frees the messages of band B of queue Q, all or those with data."""
         self.flush(number, ranks_of(band), flag)
@@ -562,11 +575,11 @@ class Model:
         queue.wanted.add(band)
         return "no"
 
-    @word("Flow control", "queue marked high low", 8)
+    @word("Flow control", "queue marked high low", 8, settles=True)
     def strqset(self, number: int, band: int, high: int, low: int) -> None:
         """Sets both water marks of band B of queue Q. Refusal: BadMarks."""
         if low >= high:
-            raise Refused("20 BadMarks")
+            raise Refused("20 BadMarks", L=low, H=high)
         self.queues[number].marks[band] = high, low
         self.settle(number)
 
@@ -605,11 +618,11 @@ class Model:
         """Records a wish: a request to hear when `allocb` of this size would succeed. Reply: id. Refusals: TooLarge,
         Full, IdsSpent."""
         if size > self.pool.greatest():
-            raise Refused("1 TooLarge")
+            raise Refused("1 TooLarge", S=size, M=self.pool.greatest())
         if len(self.wishes) == self.pool.bufcalls:
-            raise Refused("12 Full")
-        if self.next_id > 4_294_967_295:
-            raise Refused("13 IdsSpent")
+            raise Refused("12 Full", N=len(self.wishes))
+        if self.next_id > LAST_ID:
+            raise Refused("13 IdsSpent", M=LAST_ID)
         self.wishes.append((self.next_id, size))
         self.next_id += 1
         return f"id {self.wishes[-1][0]}"
@@ -619,7 +632,7 @@ class Model:
         """Withdraws the wish with this id. Refusal: NotPending."""
         kept = [wish for wish in self.wishes if wish[0] != own]
         if kept == self.wishes:
-            raise Refused("14 NotPending")
+            raise Refused("14 NotPending", I=own)
         self.wishes = kept
 
     @word("Wishes and census", "", 3, own=True)

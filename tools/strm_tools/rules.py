@@ -4,13 +4,10 @@ docs/MODEL.md has a table of the same sentences. A name in braces is a number th
 from __future__ import annotations
 
 import copy
+import string
 from typing import Any, Callable, Collection, Mapping, NamedTuple
 
-from strm_tools.model import Block, Model, Queue, Refused, Values, rank, run_of, total
-
-# The most references of a data block, and the last id of a wish.
-REFERENCES = 255
-LAST_ID = 4_294_967_295
+from strm_tools.model import WORDS, Model, Queue, Refused, Values, rank
 
 
 class Rule(NamedTuple):
@@ -77,7 +74,7 @@ QUEUES_OF_RULE = ("Q", "W")
 # What a rule decides, if it is no reply.
 EFFECTS = ("enabled", "not enabled")
 PUTS = ("putq", "putbq", "insq")
-SETTLES = ("getq", "rmvq", "flushq", "flushband", "strqset")
+SETTLES = [word for word, row in WORDS.items() if row.settles]
 SWITCHES = ("noenable", "enableok")
 # The rules of a band that is wanted no longer, where this enables no queue.
 WAKE_NONE = ("no_waker", "waker_runs")
@@ -135,7 +132,11 @@ def why(model: Model, word: str, items: list[str], values: Values) -> Found:
 def why_not(model: Model, word: str, items: list[str], values: Values, reply: str) -> Found:
     """Why a line is refused, or has the reply `no` or `none`. Whether the model has answered it already makes no difference."""
     name = reply.split(" ")[-1]
-    return STEP_RULES[name](model, items, values) if name in STEP_RULES else REPLY_RULES[name](model, word, *values)
+    if name in STEP_RULES:
+        return STEP_RULES[name](model, items, values)
+    if name == "none":
+        return found("idle") if word == "service" else found("nothing", Q=values[0])
+    return why_no(model, word, *values) if name == "no" else why_refused(model, word, *values)
 
 
 # ---- What is checked of every call -----------------------------------------------------------------------------------
@@ -157,57 +158,20 @@ STEP_RULES: dict[str, Callable[[Model, list[str], Values], Found]] = {
 # ---- A call's own refusals, and the replies `no`, and `none` -------------------------------------------------------
 
 
-def size_wanted(model: Model, word: str, *values: Any) -> int:
-    """The bytes of the data block that a call takes, or of the first that it does not find."""
-    if word in ("copyb", "copymsg"):
-        free = list(model.data)
-        for block in model.held[values[0]][: 1 if word == "copyb" else None]:
-            try:
-                model.take(free, len(block.data.octets))
-            except Refused:
-                return len(block.data.octets)
-    if word == "pullupmsg" and values[1] == -1:
-        return total(run_of(model.held[values[0]]))
-    return int(values[-1])
+def why_refused(model: Model, word: str, *values: Any) -> Found:
+    """The rule of a call's own refusal, of those with its name the one whose sentence has the numbers. The call is refused once more."""
+    try:
+        getattr(model, word)(*values)
+    except Refused as refusal:
+        name = str(refusal).split(" ")[-1]
+        for rule in RULES:
+            if RULES[rule].decides == name and fields_of(RULES[rule].sentence) == set(refusal.numbers):
+                return Found(rule, refusal.numbers)
+    raise ValueError(f"{word} has no rule for its refusal, or is not refused")
 
 
-def blocks_wanted(model: Model, word: str, *values: Any) -> int:
-    """How many message blocks a call needs."""
-    return len(model.held[values[0]]) if word in ("dupmsg", "copymsg") else 1
-
-
-def why_many_references(model: Model, word: str, source: str, _to: str) -> Found:
-    blocks = model.held[source][: 1 if word == "dupb" else None]
-    most = max(block.data.names + sum(other.data is block.data for other in blocks) for block in blocks)
-    return found("references", N=most, M=REFERENCES)
-
-
-def why_short(model: Model, word: str, source: str, count: int) -> Found:
-    if word == "pullupmsg" and count < -1:
-        return found("below", N=count)
-    at_end = word == "adjmsg" and count < 0
-    message = model.held[source]
-    run = run_of(message[::-1] if at_end else message)
-    return found("short", END="last" if at_end else "first", F=total(run), N=abs(count))
-
-
-def why_bad_order(model: Model, _word: str, number: int, k: int, source: str) -> Found:
-    own = rank(model.held[source])
-    ranks = [rank(message) for message in model.queues[number].messages]
-    below = [other for other in ranks[:k] if other < own]
-    first, then = (below[0], own) if below else (own, max(ranks[k:]))
-    return found("order", K=k, A=first, B=then)
-
-
-def why_no_place(model: Model, _word: str, number: int, k: int, _register: str) -> Found:
-    return found("no_place", Q=number, N=len(model.queues[number].messages), K=k)
-
-
-def why_not_allocated(model: Model, word: str, size: int) -> Found:
-    """Why `testb` says no."""
-    if size > model.pool.greatest():
-        return REPLY_RULES["TooLarge"](model, word, size)
-    return REPLY_RULES["NoMblk" if model.counts()[0] == 0 else "NoData"](model, word, size)
+def fields_of(sentence: str) -> set[str]:
+    return {field for _, field, *_ in string.Formatter().parse(sentence) if field}
 
 
 def target(model: Model, number: int) -> int:
@@ -217,35 +181,11 @@ def target(model: Model, number: int) -> int:
 
 def why_no(model: Model, word: str, *values: Any) -> Found:
     if word == "testb":
-        return why_not_allocated(model, word, *values)
+        return why_refused(model, "allocb", "", *values)
     number, band = values
     number = target(model, number)
     queue = model.queues[number]
     return found("full", B=band, Q=number, N=queue.bytes_in(band), H=queue.marks_of(band)[0])
-
-
-def block_of(model: Model, source: str, k: int) -> Block:
-    return model.held[source][k]
-
-
-REPLY_RULES: dict[str, Callable[..., Found]] = {
-    "TooLarge": lambda model, *line: found("too_large", S=size_wanted(model, *line), M=model.pool.greatest()),
-    "NoMblk": lambda model, *line: found("no_blocks", N=blocks_wanted(model, *line), F=model.counts()[0]),
-    "NoData": lambda model, *line: found("no_data", S=size_wanted(model, *line)),
-    "RefMax": why_many_references,
-    "NoSuchBlock": lambda model, _, source, k, *more: found("no_block", N=len(model.held[source]), K=k),
-    "Shared": lambda model, _, source, k, *more: found("shared", K=k, N=block_of(model, source, k).data.names),
-    "NoRoom": lambda model, _, source, k, octets: found("no_room", K=k, F=block_of(model, source, k).room(), N=len(octets)),
-    "Short": why_short,
-    "NoSuchPlace": why_no_place,
-    "BadOrder": why_bad_order,
-    "Full": lambda model, *line: found("wishes", N=len(model.wishes)),
-    "IdsSpent": lambda model, *line: found("ids", M=LAST_ID),
-    "NotPending": lambda model, _, own: found("no_wish", I=own),
-    "BadMarks": lambda model, _, number, band, high, low: found("marks", L=low, H=high),
-    "no": why_no,
-    "none": lambda model, word, *values: found("idle") if word == "service" else found("nothing", Q=values[0]),
-}
 
 
 # ---- Enabling --------------------------------------------------------------------------------------------------------
