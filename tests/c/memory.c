@@ -6,8 +6,6 @@
 #include "arena.h"
 #include "check.h"
 
-#include "../../c/heap.h"
-
 #include <pthread.h>
 #include <stdlib.h>
 
@@ -18,6 +16,8 @@
 #ifdef __cplusplus
 extern "C" {
 #endif
+#include "../../c/heap.h"
+
 struct strm_tried __real_strm_heap_alloc(size_t size, size_t align);
 struct strm_tried __real_strm_heap_realloc(void *at, size_t kept, size_t size, size_t align);
 void __real_strm_heap_dealloc(void *at);
