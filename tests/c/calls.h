@@ -18,17 +18,17 @@
 /* A row for each call of strm.h that returns a code, but for those that open and close pools. It is a LOOK if the call is a look, and a CALL
  * otherwise. It has:
  *
- *   - the call's verb, which in lower case is its word, and its name without `strm_`;
- *   - letters for what the call names, in the order of its line;
- *   - its arguments: numbers of `c`, a struct call, and the rest of `a`, a struct arguments;
- *   - its weight when calls are drawn;
- *   - the answers that must come within CALLS_TO_EACH_ANSWER calls: all but RefMax and `taken`.
+ *   - The call's verb, which in lower case is its word. Its name without `strm_`.
+ *   - Letters for what the call names, in the order of its line.
+ *   - Its arguments: numbers of `c`, a struct call, and the rest of `a`, a struct arguments.
+ *   - Its weight when calls are drawn.
+ *   - The answers that must come within CALLS_TO_EACH_ANSWER calls: all but RefMax and `taken`.
  *
  * x, X and Z are registers that it takes from, X and Z if their messages are handed over, and v is one whose name need not be valid. y is a
  * register that it puts into, w one of the other pool. g are registers that it takes from, p some that it puts into, as many as an array has
  * items. i is the number of items. q is a queue, k a place, b a band, s a signed number, t a type, f a flush, o octets. h and l are water
- * marks. Other letters are for a number: r of bytes to move by, d for the id of a wish, m and e for the first block of a held and of a queued
- * message, n for any other.
+ * marks. Other letters are for a number: r of bytes to move by, d for the id of a wish, n for any other. m and e are for the first block of a
+ * held and of a queued message.
  *
  * The calls that the program strm has, too, in the order of the table of strm_pool: */
 #define WORDS(CALL, LOOK) \

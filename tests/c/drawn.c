@@ -581,7 +581,7 @@ int main(int argc, char **argv)
 	if (argc > 3)
 		return write_script(argv[3], calls);
 	if (!find_memory()) {
-		printf("not run: the system gives no huge page\n");
+		printf("the system gives no huge page\n");
 		return EXIT_FAILURE;
 	}
 	for (done = 0; done < calls; done += CALLS_OF_A_POOL)

@@ -126,7 +126,7 @@ void __wrap_strm_heap_dealloc(void *at)
 	__real_strm_heap_dealloc(at);
 }
 
-/* A configuration with so many classes and queues. */
+/* A configuration, with room for all classes and queues. */
 struct setting {
 	struct strm_config config;
 	struct strm_class_spec classes[STRM_MOST_CLASSES];
