@@ -58,6 +58,14 @@ block_filled h k left count a b =
 abbrev pub fill : ℕ → ℕ → ℕ → List ℕ → Arena → Given Arena ℕ
 fill h k count left a = answer_map (block_filled h k left (min count (length left)) a) (own_block h k a)
 
+-- the bytes that `window` lends: all bytes of the block's data block
+abbrev pub bytes_of_window : ℕ → ℕ → Arena → Result (List ℕ) Refusal
+bytes_of_window h k a = answer_map (λ b. (data_block_at a.store b.data_number).bytes) (own_block h k a)
+
+-- the bytes of the data block of block k of the message held at h become these, which are as many; returns r
+abbrev pub window : {R : Type 0} → ℕ → ℕ → R → List ℕ → Arena → Given Arena R
+window h k r left a = answer_map (λ b. (r, with_bytes b.data_number 0 left a)) (own_block h k a)
+
 -- ---- places of a block
 
 -- moves the write place of this block, block k of the message held at h, over bytes that its data block has
@@ -79,6 +87,16 @@ reserve_block h k count a b =
 -- both places of block k of the message held at h, which has no bytes, become `count`: this leaves room before them
 abbrev pub reserve : ℕ → ℕ → ℕ → Arena → Given Arena (Unit {0})
 reserve h k count a = and_then (reserve_block h k count a) (own_block h k a)
+
+-- the read place of this block, block k of the message held at h, becomes `at`, and its length `len`
+abbrev pub shape_block : ℕ → ℕ → ℕ → ℕ → Arena → Block → Given Arena (Unit {0})
+shape_block h k at len a b =
+    if nat_lt (capacity_of a.store b.data_number) (at + len) then Err NoRoom
+    else Ok (tt, with_block h k (record b { offset = at; len = len }) a)
+
+-- the read place of block k of the message held at h becomes `at`, and its length `len`, also where other blocks use its data block
+abbrev pub shape : ℕ → ℕ → ℕ → ℕ → Arena → Given Arena (Unit {0})
+shape h k at len a = and_then (shape_block h k at len a) (block_found h k a)
 
 -- puts bytes before the read place of this block, the first of the message held at h
 abbrev pub prepend_block : ℕ → List ℕ → Arena → Block → Given Arena (Unit {0})

@@ -11,7 +11,7 @@ use Rattle.strm_mblk.specs.BlockCalls.{own_block, with_block}
 use Rattle.strm_mblk.specs.Calls.{Alters, Flushes, Gives, LeavesBlocks, Lends, Puts, Takes, TakesAny, itself}
 use Rattle.strm_mblk.specs.Given.{Given, answer_of, value_after}
 use Rattle.strm_mblk.specs.Messages.{blocks_of}
-use Rattle.strm_mblk.proofs.arena.Frame.{Leaves, Making, leaves_given, leaves_same, leaves_with_block, leaves_with_store}
+use Rattle.strm_mblk.proofs.arena.Frame.{Leaves, Making, leaves_given, leaves_fields, leaves_same, leaves_with_block, leaves_with_store}
 use Rattle.strm_mblk.proofs.arena.Moves.{held_within}
 use Rattle.strm_mblk.proofs.arena.Tokens.{had_again, had_is, had_message, token_had}
 use Rattle.std.proofs.lemmas.Grind.{common_steps}
@@ -54,6 +54,13 @@ had_with_block a s t k c had =
     had_again a (with_block t.head k c (record a { store = s })) t message.0 (set (message_at a t.head) k c) message.1
     (get_or-set_same a.held t.head _ None (held_within a t.head message.0 message.1.held))
     (length-set (message_at a t.head) k c ∙ ap (λ o. length (blocks_of o)) message.1.held) refl
+
+-- block k of the message that a token names gets other fields
+pub alters_fields : {X : Type 0} (a b : Arena) (t : TokenValue) (k : ℕ) (c : Block) → has a t ≡ true → (call : Given Arena X) (given : X) → b ≡ with_block t.head k c a → call ≡ Ok (given, with_block t.head k c a)
+    → Alters itself t t call a b (Ok given)
+alters_fields a b t k c had call given now is =
+    subst (λ d. Alters itself t t call a d (Ok given)) (sym now)
+    (alters_to a (with_block t.head k c a) t call given is (had_with_block a a.store t k c had) (leaves_fields a t.head k c))
 
 -- block k of the message that a token names alone uses its data block, which becomes another
 module _ (a b : Arena) (t : TokenValue) (k : ℕ) (x : Block) (own : own_block t.head k a ≡ Ok x) (had : has a t ≡ true) (s : DataStore) (same : (d : ℕ) → d ≢ x.data_number → data_block_at s d ≡ data_block_at a.store d)

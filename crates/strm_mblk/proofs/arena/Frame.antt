@@ -237,6 +237,9 @@ module _ (a : Arena) where
       → LeavesOthers heads a b
   others_two b h g o p heads first second = grind (arith, common_steps, others_set, leaves_same)
 
+  pub leaves_fields : (h k : ℕ) (c : Block) → Leaves (h ∷ []) a (with_block h k c a)
+  leaves_fields h k c = leaves_one h _
+
   pub leaves_setband : (h band : ℕ) → Leaves (h ∷ []) a (setband h band a)
   leaves_setband h band = leaves_one h (Some (with_band band (message_at a h)))
 

@@ -133,6 +133,34 @@ impl Blocks {
         Ok(count)
     }
 
+    /// Lends all bytes of the data block of a message's block `place` to `change`, which may change them, and returns what
+    /// `change` returns. This is for callers that keep places of their own. Places count from 0. The bytes outside the
+    /// block's places are old, perhaps of another message. All else stays unchanged, the block's places too.
+    ///
+    /// Refused as `NoSuchBlock` if the message has no such block, then as `Shared` if another message block refers to its
+    /// data block. On an error `change` is not called, and nothing changes. Takes at most `place` steps, and copies no
+    /// bytes. In STREAMS, modules do this by hand (`db_base`, `db_lim`).
+    pub fn window<R, F: FnOnce(&mut [u8]) -> R>(
+        &mut self,
+        token: &Token,
+        place: u32,
+        change: F,
+    ) -> Result<R, Refusal>
+        requires had { IsTrue (has self.old token.now) }
+        requires callable { IfOk (model.bytes_of_window token.now.head place self.old)
+            (FnOnceTakesAtMut F.FnOnce change) }
+        ensures { Lends itself token.now (FnOnceReturnsAtMut F.FnOnce change)
+            (model.bytes_of_window token.now.head place self.old)
+            (λ r left. model.window token.now.head place r left self.old) self.old self.new result }
+    {
+        let Found {
+            fields,
+            capacity,
+            ..
+        } = self.own(token, place)?;
+        Ok(self.edit_data(fields.data_number, 0, capacity as usize, change))
+    }
+
     /// Moves the write place of a message's block `place` over `count` bytes that its data block has behind it, such as
     /// those that a device put there. Places count from 0. All else stays unchanged.
     ///
@@ -180,6 +208,37 @@ impl Blocks {
             node,
             Fields {
                 offset: count,
+                ..fields
+            },
+        );
+        Ok(())
+    }
+
+    /// Gives a message's block `place` the `len` bytes of its data block from byte `at` on: its read place becomes `at`, and
+    /// its write place `at + len`. Other blocks may use its data block too, since this writes no byte. Places count from 0.
+    /// The bytes that this adds to the block are old, perhaps of another message. All else stays unchanged.
+    ///
+    /// Refused as `NoSuchBlock` if the message has no such block, then as `NoRoom` if its data block has fewer bytes than
+    /// `at + len`. On an error nothing changes. Takes at most `place` steps. In STREAMS, modules do this by hand (`b_rptr`,
+    /// `b_wptr`).
+    pub fn shape(&mut self, token: &Token, place: u32, at: u32, len: u32) -> Result<(), Refusal>
+        requires { IsTrue (has self.old token.now) }
+        ensures { Alters itself token.now token.now (model.shape token.now.head place at len self.old)
+            self.old self.new result }
+    {
+        let Found {
+            node,
+            fields,
+            capacity,
+        } = self.found(token, place)?;
+        if at > capacity || len > capacity - at {
+            return Err(Refusal::NoRoom);
+        }
+        self.set_fields(
+            node,
+            Fields {
+                offset: at,
+                len,
                 ..fields
             },
         );

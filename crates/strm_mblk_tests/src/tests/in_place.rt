@@ -1,6 +1,6 @@
 use super::bench::Bench;
 use super::in_place_rows::InPlace::{
-    Advance, Edit, Fill, Lent, Overwrite, Placed, Prepend, Reserve, Walk,
+    Advance, Edit, Fill, Lent, Overwrite, Placed, Prepend, Reserve, Shape, Walk, Window,
 };
 use super::rows::Row::{Allocb, Bytes, Dupb, Freemsg, InPlace, OfBytes, Told, Write};
 use super::rows::{A, B, DONE, Row, serve};
@@ -84,6 +84,34 @@ const EDITED: &[Row] = &[
     Freemsg(A),
 ];
 
+// All bytes of a data block are written, and the places move within it, those of a duplicate too.
+const SHAPED: &[Row] = &[
+    Allocb(16, Ok(A)),
+    InPlace(A, Window(1, b"", NO_SUCH_BLOCK)),
+    InPlace(A, Window(0, b"0123456789abcdef", DONE)),
+    InPlace(A, Placed(0, Ok((0, 0, 0, 16)))),
+    InPlace(A, Shape(1, 0, 17, NO_SUCH_BLOCK)),
+    InPlace(A, Shape(0, 0, 17, NO_ROOM)),
+    InPlace(A, Shape(0, 17, 0, NO_ROOM)),
+    InPlace(A, Shape(0, 1, u32::MAX, NO_ROOM)),
+    InPlace(A, Shape(0, u32::MAX, 1, NO_ROOM)),
+    InPlace(A, Shape(0, 16, 0, DONE)),
+    InPlace(A, Shape(0, 0, 16, DONE)),
+    Bytes(A, 0, b"0123456789abcdef"),
+    InPlace(A, Shape(0, 4, 6, DONE)),
+    InPlace(A, Window(0, b"HEAD", DONE)),
+    InPlace(A, Placed(0, Ok((0, 4, 6, 16)))),
+    Dupb(A, Ok(B)),
+    InPlace(B, Shape(0, 0, 5, DONE)),
+    InPlace(B, Shape(0, 16, 1, NO_ROOM)),
+    InPlace(B, Window(0, b"h", SHARED)),
+    InPlace(A, Window(0, b"h", SHARED)),
+    Bytes(B, 0, b"HEAD4"),
+    Bytes(A, 0, b"456789"),
+    Freemsg(B),
+    Freemsg(A),
+];
+
 // Bytes are written over those of both blocks at once.
 const OVERWRITTEN: &[Row] = &[
     OfBytes(16, b"head", &[b"tail"], A),
@@ -116,6 +144,11 @@ fn fills_the_room(rt: HostRuntime) {
 #[test]
 fn edits_what_is_not_shared(rt: HostRuntime) {
     serve(&rt, Bench::opened(&rt, rt.alloc(), 1), EDITED);
+}
+
+#[test]
+fn moves_places_in_a_window(rt: HostRuntime) {
+    serve(&rt, Bench::opened(&rt, rt.alloc(), 1), SHAPED);
 }
 
 #[test]

@@ -18,7 +18,10 @@ pub(super) enum InPlace {
     Edit(u32, &'static [u8], Result<(), Refusal>),
     // Writes these bytes over the front of those that `fill` lends, and says that they are a number of bytes.
     Fill(u32, &'static [u8], usize, Result<u32, Refusal>),
+    // Writes these bytes over the front of those that `window` lends.
+    Window(u32, &'static [u8], Result<(), Refusal>),
     Advance(u32, u32, Result<(), Refusal>),
+    Shape(u32, u32, u32, Result<(), Refusal>),
     Reserve(u32, u32, Result<(), Refusal>),
     Prepend(&'static [u8], Result<(), Refusal>),
     Overwrite(u32, &'static [u8], Result<(), Refusal>),
@@ -102,6 +105,13 @@ impl Bench {
                 });
                 self.assert_is(rt, &given, &answer);
             }
+            InPlace::Window(place, bytes, answer) => {
+                let token = self.purse.lent(rt, &self.blocks, message);
+                let given = self
+                    .blocks
+                    .window(token, place, |lent| write_over(lent, bytes));
+                self.assert_is(rt, &given, &answer);
+            }
             _ => self.move_places(rt, message, call),
         }
     }
@@ -112,6 +122,9 @@ impl Bench {
         let (given, answer) = match call {
             InPlace::Advance(place, count, answer) => {
                 (self.blocks.advance(token, place, count), answer)
+            }
+            InPlace::Shape(place, at, len, answer) => {
+                (self.blocks.shape(token, place, at, len), answer)
             }
             InPlace::Reserve(place, count, answer) => {
                 (self.blocks.reserve(token, place, count), answer)

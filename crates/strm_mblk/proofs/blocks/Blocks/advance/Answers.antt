@@ -5,7 +5,7 @@ use Rattle.strm_mblk.specs.BlocksLayout.{block_of_found}
 use Rattle.strm_mblk.specs.Given.{and_then}
 use Rattle.strm_mblk.specs.InPlace.{advance, advance_block}
 use Rattle.strm_mblk.proofs.altering.Own.{found_own}
-use Rattle.strm_mblk.proofs.arena.Calls.{alters_block}
+use Rattle.strm_mblk.proofs.arena.Calls.{alters_fields}
 use Rattle.strm_mblk.proofs.blocks.Blocks.advance.Goals as goal
 
 pub returns : goal.returns
@@ -17,6 +17,6 @@ returns c =
     let own = sym c.in_ok-node.ensures.answer in
     let within = c.in_ok-node.ensures.within in
     let room : x.offset + x.len + c.args.count ≤ capacity_of a.store x.data_number = omega (arith, c.if-count-capacity.false, within.within, within.capacity) in
-    alters_block a _ c.args.token.now k x own c.requires a.store (λ d other. refl) (advance h k c.args.count a) tt (record x { len = x.len + c.args.count })
+    alters_fields a _ c.args.token.now k (record x { len = x.len + c.args.count }) c.requires (advance h k c.args.count a) tt
     (c.set_fields.ensures h k x (found_own a h k x own) refl)
     (ap (and_then (advance_block h k c.args.count a)) own ∙ cond-false _ _ _ (le-ltb _ _ room))
