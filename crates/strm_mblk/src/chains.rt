@@ -213,13 +213,13 @@ impl Chains {
         self.heads.back(shelf)
     }
 
-    // Whether a message with this head is on a shelf.
+    // The shelf that has a message with this head, if any.
     #[inline(always)]
-    pub(crate) fn is_shelved(&self, head: u32) -> bool
+    pub(crate) fn shelf_of(&self, head: u32) -> Option<u32>
         requires { head < length self.now.held }
-        ensures { result ≡ is_some (shelf_with self.now head) }
+        ensures { result ≡ shelf_with self.now head }
     {
-        self.heads.list_of(head).is_some()
+        self.heads.list_of(head)
     }
 
     // The head of the message after this one on its shelf, if any.

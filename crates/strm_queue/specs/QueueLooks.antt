@@ -1,12 +1,11 @@
 -- Looks at queues and at the messages on them, which change nothing.
-use Rattle.std.specs.Prelude.{ℕ, [], ◌∷◌, length, Option, None, Some, Result, Ok, Err, ok_or, slice_get, if◌then◌else◌}
+use Rattle.std.specs.Prelude.{ℕ, [], ◌∷◌, length, Option, Result, Ok, Err, ok_or, slice_get, if◌then◌else◌}
 use Rattle.strm_data.specs.declared.refusal.Refusal.{Refusal}
 use Rattle.strm_data.specs.declared.refusal.Refusal.TheVariants.{NoSuchPlace, NoSuchQueue}
 use Rattle.strm_data.specs.DataStore.{DataStore}
 use Rattle.strm_links.specs.Rows as rows
-use Rattle.strm_mblk.specs.Arena.{Arena}
 use Rattle.strm_mblk.specs.Block.{Message, kind_of, size_of}
-use Rattle.strm_mblk.specs.Given.{and_then}
+use Rattle.strm_mblk.specs.Given.{and_then, answer_map}
 use Rattle.strm_mblk.specs.Shelves.{heads_at, shelf_of}
 use Rattle.strm_queue.specs.declared.queue_spec.QueueSpec.{QueueSpec}
 use Rattle.strm_queue.specs.declared.queued_info.QueuedInfo.{QueuedInfo}
@@ -22,14 +21,21 @@ queue_spec q v = if has_queue v q then Ok (spec_at v.queues.specs q) else Err No
 abbrev pub first_queued : ℕ → QueuedBlocks → Result (Option ℕ) Refusal
 first_queued q v = if has_queue v q then Ok (rows.first (heads_at v.arena q)) else Err NoSuchQueue
 
--- the head of the message after the one with head h on this queue
-abbrev pub head_behind : Arena → ℕ → Option ℕ → Result (Option ℕ) Refusal
-head_behind a h None = Err NoSuchPlace
-head_behind a h (Some q) = Ok (rows.after h (heads_at a q))
+-- the head of the last message of queue q, if any (`q_last`)
+abbrev pub last_queued : ℕ → QueuedBlocks → Result (Option ℕ) Refusal
+last_queued q v = if has_queue v q then Ok (rows.last (heads_at v.arena q)) else Err NoSuchQueue
+
+-- the queue that has the message with head h
+abbrev pub queue_of : ℕ → QueuedBlocks → Result ℕ Refusal
+queue_of h v = ok_or (shelf_of v.arena h) NoSuchPlace
 
 -- the head of the message after the one with head h on its queue, if any (`b_next`)
 abbrev pub queued_after : ℕ → QueuedBlocks → Result (Option ℕ) Refusal
-queued_after h v = head_behind v.arena h (shelf_of v.arena h)
+queued_after h v = answer_map (λ q. rows.after h (heads_at v.arena q)) (queue_of h v)
+
+-- the head of the message before the one with head h on its queue, if any (`b_prev`)
+abbrev pub queued_before : ℕ → QueuedBlocks → Result (Option ℕ) Refusal
+queued_before h v = answer_map (λ q. rows.before h (heads_at v.arena q)) (queue_of h v)
 
 -- the message at place k of queue q
 abbrev pub queued_message : ℕ → ℕ → QueuedBlocks → Result Message Refusal

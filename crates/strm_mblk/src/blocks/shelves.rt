@@ -31,11 +31,22 @@ impl Blocks {
         self.chains.last(u32::from(shelf))
     }
 
+    /// Returns the shelf that has a message with this head, or none if no shelf has one. Changes nothing. Takes constant
+    /// time.
+    pub fn shelf_of(&self, head: BlockNo) -> Option<u32>
+        ensures { result ≡ shelf_of self.now head }
+    {
+        if head as usize >= self.blocks.len() {
+            return None;
+        }
+        self.chains.shelf_of(head)
+    }
+
     /// Says whether a message with this head is on a shelf. Changes nothing. Takes constant time.
     pub fn is_shelved(&self, head: BlockNo) -> bool
         ensures { result ≡ is_some (shelf_of self.now head) }
     {
-        (head as usize) < self.blocks.len() && self.chains.is_shelved(head)
+        self.shelf_of(head).is_some()
     }
 
     /// Returns the head of the message after this one on its shelf, or none if this is the last. Changes nothing.

@@ -2,18 +2,20 @@
 use Rattle.std.proofs.Common.{◌≡◌, ℕ, zero, suc, Bool, true, Ok, map, ◌+◌, ◌<◌, ◌≤◌, ◌==◌, List, [], ◌∷◌, ◌++◌, length, take, drop, get_or, Option, None, Some, refl, sym, ap, ◌∙◌, subst, arith}
 use Rattle.std.proofs.lemmas.List.{take-append-drop}
 use Rattle.std.proofs.lemmas.Option.{none-some, same_Some, slice_get-map}
-use Rattle.std.specs.Prelude.{count_by, filter, is_some, nat_lt, option_map, slice_get}
+use Rattle.std.specs.Prelude.{count_by, filter, is_some, nat_lt, ok_or, option_map, slice_get}
 use Rattle.std.proofs.lemmas.List.Quantifiers.{position-Some}
 use Rattle.std.specs.List.{All, flat_map}
 use Rattle.std.proofs.lemmas.List.Elements.{filter-append, filter_passes}
 use Rattle.std.proofs.lemmas.Bool.{eqb-true, false≢true}
-use Rattle.strm_links.specs.Rows.{IsApart, after, has}
+use Rattle.strm_links.specs.Rows.{IsApart, has}
 use Rattle.strm_mblk.specs.Arena.{Arena, IsParted, shelf_at}
 use Rattle.strm_mblk.specs.Block.{Block, Message, head_of, kind_of, size_of}
 use Rattle.strm_mblk.specs.Messages.{blocks_of, blocks_on, with_head}
 use Rattle.strm_mblk.specs.Shelves.{head_block, heads_at, is_on, shelf_of, shelved_message}
 use Rattle.strm_data.specs.declared.msg_type.MsgType.{MsgType}
-use Rattle.strm_queue.specs.QueueLooks.{head_behind, info_of_message}
+use Rattle.strm_data.specs.declared.refusal.Refusal.TheVariants.{NoSuchPlace}
+use Rattle.strm_mblk.specs.Given.{answer_map}
+use Rattle.strm_queue.specs.QueueLooks.{info_of_message}
 use Rattle.strm_mblk.proofs.arena.Counts.{blocks_in_adds, count_adds, times-all}
 use Rattle.strm_mblk.proofs.arena.Moves.{head_counts, number_is, one_most}
 use Rattle.strm_mblk.proofs.lists.ListParts.{drop_from}
@@ -148,15 +150,21 @@ info_told a h kind band size blocks kinds bands sizes lengths = of_message (shel
         let length_is = sym (lengths ∙ ap length some) in
         λ i. Ok (record { head = number i; kind = kind_is i; band = band_is i; size = size_is i; blocks = length_is i })
 
--- ---- the message behind one
+-- ---- the shelf that has a message
 
--- a shelf that has a message with a head has that head
-shelf_has : (a : Arena) (h q : ℕ) → shelf_of a h ≡ Some q → is_on a q h ≡ true
-shelf_has a h q is = (position-Some (λ ms. has h (map head_of ms)) a.shelves q [] is).1
+module _ (a : Arena) (h q : ℕ) (is : shelf_of a h ≡ Some q) where
+  pub shelf_there : q < length a.shelves
+  shelf_there = (position-Some (λ ms. has h (map head_of ms)) a.shelves q [] is).0
 
-pub behind_told : (a : Arena) (h : ℕ) → is_some (shelf_of a h) ≡ true → (next : Option ℕ) → ((q : ℕ) → is_on a q h ≡ true → next ≡ after h (heads_at a q)) → head_behind a h (shelf_of a h) ≡ Ok next
-behind_told a h some next told = of_shelf (shelf_of a h) refl some
+  -- it has the message's head
+  shelf_has : is_on a q h ≡ true
+  shelf_has = (position-Some (λ ms. has h (map head_of ms)) a.shelves q [] is).1
+
+-- what is found on it, such as the message behind or before one
+pub found_on_shelf : (a : Arena) (h : ℕ) → is_some (shelf_of a h) ≡ true → (find : List ℕ → Option ℕ) (found : Option ℕ) → ((q : ℕ) → is_on a q h ≡ true → found ≡ find (heads_at a q))
+    → answer_map (λ q. find (heads_at a q)) (ok_or (shelf_of a h) NoSuchPlace) ≡ Ok found
+found_on_shelf a h some find found told = of_shelf (shelf_of a h) refl some
   where
-    of_shelf : (o : Option ℕ) → shelf_of a h ≡ o → is_some o ≡ true → head_behind a h o ≡ Ok next
+    of_shelf : (o : Option ℕ) → shelf_of a h ≡ o → is_some o ≡ true → answer_map (λ q. find (heads_at a q)) (ok_or o NoSuchPlace) ≡ Ok found
     of_shelf None none some = absurd (false≢true some)
     of_shelf (Some q) is some = ap Ok (sym (told q (shelf_has a h q is)))

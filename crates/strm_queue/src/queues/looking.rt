@@ -69,6 +69,32 @@ impl Queues {
         Ok(blocks.first(queue))
     }
 
+    /// Returns the head of the last message on a queue, or none if the queue is empty. Changes nothing, no mark either.
+    /// Refused as `NoSuchQueue` if there is no such queue. Takes constant time. In STREAMS, modules do this by hand (`q_last`).
+    pub fn last_queued(&self, blocks: &Blocks, queue: u8) -> Result<Option<BlockNo>, Refusal>
+        requires { Agrees self.now blocks.now }
+        ensures { result ≡ model.last_queued queue (queued_blocks self.now blocks.now) }
+    {
+        if !self.has_queue(queue) {
+            return Err(Refusal::NoSuchQueue);
+        }
+        Ok(blocks.last(queue))
+    }
+
+    /// Returns the queue that has the message with this head. Changes nothing. Once the message was taken off, its head can be
+    /// that of another message. Refused as `NoSuchPlace` if no message on a queue has this head. Takes constant time. This
+    /// project's own call: in STREAMS a message does not say which queue it is on.
+    pub fn queue_of(&self, blocks: &Blocks, head: BlockNo) -> Result<u8, Refusal>
+        requires { Agrees self.now blocks.now }
+        ensures { result ≡ model.queue_of head (queued_blocks self.now blocks.now) }
+    {
+        self.made_lawful();
+        match blocks.shelf_of(head) {
+            Some(shelf) => Ok(shelf as u8),
+            None => Err(Refusal::NoSuchPlace),
+        }
+    }
+
     /// Returns the head of the message after the one with this head on its queue, or none if that is the last. Changes
     /// nothing. Once a message was taken off, its head can be that of another message, so go on from one that is there.
     /// Refused as `NoSuchPlace` if no message on a queue has this head. Takes constant time. In STREAMS, modules do this by hand
@@ -81,6 +107,20 @@ impl Queues {
             return Err(Refusal::NoSuchPlace);
         }
         Ok(blocks.after(head))
+    }
+
+    /// Returns the head of the message before the one with this head on its queue, or none if that is the first. Changes
+    /// nothing. Once a message was taken off, its head can be that of another message, so go on from one that is there.
+    /// Refused as `NoSuchPlace` if no message on a queue has this head. Takes constant time. In STREAMS, modules do this by hand
+    /// (`b_prev`).
+    pub fn queued_before(&self, blocks: &Blocks, head: BlockNo) -> Result<Option<BlockNo>, Refusal>
+        requires { Agrees self.now blocks.now }
+        ensures { result ≡ model.queued_before head (queued_blocks self.now blocks.now) }
+    {
+        if !blocks.is_shelved(head) {
+            return Err(Refusal::NoSuchPlace);
+        }
+        Ok(blocks.before(head))
     }
 
     /// Returns what the message at `place` of a queue is like, counted from 0. Changes nothing. Refused as `NoSuchQueue` if

@@ -73,6 +73,19 @@ fn assert_backward(rt: &impl Abort, blocks: &Blocks, queue: u8, heads: &[u32])
     assert!(rt; at.is_none());
 }
 
+// A queue has these heads, by its last one, and by the one before each; and each has this queue.
+fn assert_before(rt: &impl Abort, queues: &Queues, blocks: &Blocks, queue: u8, heads: &[u32])
+    requires { Agrees queues.now blocks.now }
+{
+    let mut ahead = None;
+    for head in heads {
+        assert!(rt; queues.queue_of(blocks, *head) == Ok(queue));
+        assert!(rt; queues.queued_before(blocks, *head) == Ok(ahead));
+        ahead = Some(*head);
+    }
+    assert!(rt; queues.last_queued(blocks, queue) == Ok(ahead));
+}
+
 // Read either way, a queue has these heads, and their number is the stored one.
 pub(super) fn assert_on(rt: &impl Abort, queues: &Queues, blocks: &Blocks, queue: u8, heads: &[u32])
     requires { Agrees queues.now blocks.now }
@@ -82,6 +95,7 @@ pub(super) fn assert_on(rt: &impl Abort, queues: &Queues, blocks: &Blocks, queue
             assert!(rt; len as usize == heads.len());
             assert_forward(rt, blocks, queue, heads);
             assert_backward(rt, blocks, queue, heads);
+            assert_before(rt, queues, blocks, queue, heads);
         }
         Err(why) => panic!(rt; "{why:?}"),
     }

@@ -22,6 +22,21 @@ impl Bench {
         assert!(rt; self.queues.bcanput(&self.blocks, at.0, at.1) == wanted);
     }
 
+    // There is no such queue, and so no last message.
+    pub(in crate::tests) fn assert_missing(&self, rt: &impl Abort, queue: u8)
+        requires { Agrees self.now.queues self.now.blocks }
+    {
+        assert!(rt; self.queues.last_queued(&self.blocks, queue) == Err(Refusal::NoSuchQueue));
+    }
+
+    // No queue has a message with this head.
+    pub(in crate::tests) fn assert_unqueued(&self, rt: &impl Abort, head: u32)
+        requires { Agrees self.now.queues self.now.blocks }
+    {
+        assert!(rt; self.queues.queue_of(&self.blocks, head) == Err(Refusal::NoSuchPlace));
+        assert!(rt; self.queues.queued_before(&self.blocks, head) == Err(Refusal::NoSuchPlace));
+    }
+
     // `strqset`, with the high water mark first, returns this.
     pub(in crate::tests) fn strqset(
         &mut self,

@@ -33,6 +33,17 @@ fn tells_nothing(rt: HostRuntime) {
     bench.band_info(&rt, (1, 0), Err(Refusal::NoSuchQueue));
 }
 
+// Looks refuse a missing queue, and a head that is on none.
+#[test]
+fn looks_at_nothing(rt: HostRuntime) {
+    let mut bench = Bench::opened(&rt, rt.alloc(), &CLASSES, &ALONE);
+    bench.assert_missing(&rt, 1);
+    let token = bench.drafted(&rt, ranked(HIGH_RANK));
+    bench.assert_unqueued(&rt, token.head());
+    bench.assert_unqueued(&rt, u32::MAX);
+    bench.free(token);
+}
+
 // Calls on enabling refuse a missing queue.
 #[test]
 fn enables_nothing(rt: HostRuntime) {
