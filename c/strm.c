@@ -111,6 +111,14 @@ static int is_count(const size_t *count, const void *items, size_t length)
 	return count != NULL && (length == 0 || items != (const void *)count);
 }
 
+/* Sets the count of a call on several messages to 0, which it stays unless the crate counts. Returns whether there is a place for it. */
+static int is_zeroed(size_t *count)
+{
+	if (count != NULL)
+		*count = 0;
+	return count != NULL;
+}
+
 /* Whether a configuration has arrays of no more classes and queues than a pool can have. */
 static int is_config(const struct strm_config *config)
 {
@@ -283,28 +291,28 @@ int strm_read_queued(const struct strm_pool *pool, uint32_t queue, uint32_t plac
 
 int strm_allocb_n(struct strm_pool *pool, uint32_t size, struct strm_msg *msgs, size_t length, size_t *count)
 {
-	if (pool == NULL || !is_array(msgs, length, sizeof *msgs) || !is_count(count, msgs, length))
+	if (!is_zeroed(count) || pool == NULL || !is_array(msgs, length, sizeof *msgs) || !is_count(count, msgs, length))
 		return fault_of(pool);
 	return strm_c_allocb_n(pool, size, length == 0 ? &nothing.msg : msgs, length, count);
 }
 
 int strm_freemsg_n(struct strm_pool *pool, const struct strm_msg *msgs, size_t length, size_t *count)
 {
-	if (pool == NULL || !is_array(msgs, length, sizeof *msgs) || count == NULL)
+	if (!is_zeroed(count) || pool == NULL || !is_array(msgs, length, sizeof *msgs))
 		return fault_of(pool);
 	return strm_c_freemsg_n(pool, length == 0 ? &nothing.msg : msgs, length, count);
 }
 
 int strm_putq_n(struct strm_pool *pool, uint32_t queue, const struct strm_msg *msgs, size_t length, size_t *count)
 {
-	if (pool == NULL || !is_array(msgs, length, sizeof *msgs) || count == NULL)
+	if (!is_zeroed(count) || pool == NULL || !is_array(msgs, length, sizeof *msgs))
 		return fault_of(pool);
 	return strm_c_putq_n(pool, queue, length == 0 ? &nothing.msg : msgs, length, count);
 }
 
 int strm_getq_n(struct strm_pool *pool, uint32_t queue, struct strm_msg *msgs, size_t length, size_t *count)
 {
-	if (pool == NULL || !is_array(msgs, length, sizeof *msgs) || !is_count(count, msgs, length))
+	if (!is_zeroed(count) || pool == NULL || !is_array(msgs, length, sizeof *msgs) || !is_count(count, msgs, length))
 		return fault_of(pool);
 	return strm_c_getq_n(pool, queue, length == 0 ? &nothing.msg : msgs, length, count);
 }

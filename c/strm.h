@@ -83,13 +83,15 @@
  * With STRM_NONE nothing is stored through pointers, except that strm_freeb and strm_unlinkb set
  * *rest to STRM_NO_MSG. So *rest is STRM_NO_MSG whenever one of these two or strm_rmvb leaves
  * nothing. After any code but STRM_OK and STRM_NONE, the pool, names, and what pointers lead to are
- * unchanged.
+ * unchanged, except *count of the calls in the next paragraph.
  *
  * A call whose name ends in _n makes single calls, one after another: as many as `length` says, or
- * fewer, up to the first that does not return STRM_OK. It sets *count to the number of calls that
- * returned STRM_OK, and returns STRM_OK. But if the first call returns another code, it returns
- * that code, and *count is unchanged. Items 3 to 5 of the list are those of the first call. If
- * `length` is 0 there is none: *count is 0, with STRM_OK, whatever the other arguments name.
+ * fewer, up to the first that does not return STRM_OK. It returns STRM_OK, and *count is the number
+ * of calls that returned STRM_OK. Compare it with `length`: if it is smaller, the next single call
+ * returns the code that ended the series. But if the first call returns another code, it returns
+ * that code. Items 3 to 5 of the list are those of the first call. If `length` is 0 there is none,
+ * and it returns STRM_OK, whatever the other arguments name. With any code but STRM_OK, even
+ * STRM_NOT_OPEN, *count is 0.
  *
  * A call takes constant time, plus time for each block, message or byte that it goes over.
  *
@@ -836,24 +838,21 @@ int strm_flushband(struct strm_pool *pool, uint32_t queue, uint32_t band, uint32
 
 /*
  * Allocates messages as strm_allocb does, and stores their names in the array `msgs` of `length`
- * names. The rest of the array is unchanged. Compare *count with `length`, also with STRM_OK. If it
- * is smaller, strm_allocb returns the code that ended the series.
+ * names. The rest of the array is unchanged.
  * Not in STREAMS.
  */
 int strm_allocb_n(struct strm_pool *pool, uint32_t size, struct strm_msg *msgs, size_t length, size_t *count);
 
 /*
  * Frees messages as strm_freemsg does: those named in the array `msgs` of `length` names, in this
- * order. Compare *count with `length`, also with STRM_OK. If it is smaller, strm_freemsg of the
- * name at *count returns the code that ended the series. The messages after it are still yours.
+ * order. Those named from *count on are not freed.
  * Not in STREAMS.
  */
 int strm_freemsg_n(struct strm_pool *pool, const struct strm_msg *msgs, size_t length, size_t *count);
 
 /*
  * Puts messages on a queue as strm_putq does: those named in the array `msgs` of `length` names, in
- * this order. Compare *count with `length`, also with STRM_OK. If it is smaller, strm_putq of the
- * name at *count returns the code that ended the series. The messages after it are still yours.
+ * this order. Those named from *count on are not put.
  * Not in STREAMS.
  */
 int strm_putq_n(struct strm_pool *pool, uint32_t queue, const struct strm_msg *msgs, size_t length, size_t *count);
@@ -862,10 +861,9 @@ int strm_putq_n(struct strm_pool *pool, uint32_t queue, const struct strm_msg *m
  * Takes messages off a queue as strm_getq does, and stores their names in the array `msgs` of
  * `length` names. The rest of the array is unchanged. If the queue has fewer than `length`
  * messages, this sets the want-to-read mark, as strm_getq does on an empty queue. If it has exactly
- * `length`, the mark stays off: a service procedure calls again, until *count is below `length` or
- * the call returns STRM_NONE. So compare *count with `length`, also with STRM_OK. With the mark on,
- * a message that strm_putbq puts back enables the queue at once: a service procedure that may put
- * back asks for at most as many as strm_qsize counts.
+ * `length`, the mark stays off: a service procedure calls again, until *count is below `length`.
+ * With the mark on, a message that strm_putbq puts back enables the queue at once: a service
+ * procedure that may put back asks for at most as many as strm_qsize counts.
  * Not in STREAMS.
  */
 int strm_getq_n(struct strm_pool *pool, uint32_t queue, struct strm_msg *msgs, size_t length, size_t *count);

@@ -128,11 +128,17 @@ int make_call(struct scene *scene)
 void refuse_call(struct scene *scene, int code, const char *how)
 {
 	const struct form *form = &forms[scene->call.verb];
+	size_t *done = scene->a.done;
 	char what[200];
 
+	/* a call on several messages counts none */
+	if (names(scene->call.verb, "gp") && done != NULL) {
+		memset(done, UNTOUCHED, sizeof *done);
+		memset((char *)&scene->before + ((char *)done - (char *)&scene->results), 0, sizeof *done);
+	}
 	sprintf(what, "strm_%s%s == %d, %s", form->call, form->arguments, code, how);
 	check(make_call(scene) == code, __FILE__, __LINE__, what);
-	sprintf(what, "strm_%s stored nothing, %s", form->call, how);
+	sprintf(what, "strm_%s stored no result, %s", form->call, how);
 	check(memcmp(&scene->results, &scene->before, sizeof scene->results) == 0, __FILE__, __LINE__, what);
 }
 

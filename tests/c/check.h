@@ -55,7 +55,7 @@ int spoil_call(struct scene *scene);
 /* Makes the call, and returns its code. */
 int make_call(struct scene *scene);
 
-/* Makes the call, which returns this code and stores nothing. `how` says what is wrong with it. */
+/* Makes the call, which returns this code and stores nothing but a count of 0, if it is on several messages. `how` says what is wrong with it. */
 void refuse_call(struct scene *scene, int code, const char *how);
 
 /* Prints 'N passed, M failed', and returns the exit status. */

@@ -77,14 +77,17 @@ static size_t counted(struct face *face, const struct call *call, int is_done, c
 /* Looks whether a call left untouched all that it did not store. */
 static void look(struct face *face, const struct call *call, int is_done, int has_rest, size_t count, const struct results *results)
 {
-	int verb = call->verb;
+	int verb = call->verb, is_counted = has_argument(verb, "->done") && (is_done || names(verb, "gp"));
 
+	/* a call on several messages that does none counts 0 */
+	if (is_counted && !is_done && results->done != 0)
+		face->broken = 1;
 	left(face, &results->y, is_done && has_argument(verb, "->y") ? sizeof results->y : 0, sizeof results->y);
 	left(face, &results->rest, has_rest ? sizeof results->rest : 0, sizeof results->rest);
 	if (!names(verb, "g"))
 		left(face, results->msgs, names(verb, "p") ? count * sizeof results->msgs[0] : 0, sizeof results->msgs);
 	left(face, &results->out, is_done ? stored_in_out(call, count) : 0, sizeof results->out);
-	left(face, &results->done, is_done && has_argument(verb, "->done") ? sizeof results->done : 0, sizeof results->done);
+	left(face, &results->done, is_counted ? sizeof results->done : 0, sizeof results->done);
 }
 
 /* Registers hand over messages, and get others. */
