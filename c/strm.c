@@ -86,7 +86,7 @@ static int fault_of(const struct strm_pool *pool)
 /* A code, after which a call that left no message has set its rest to the name of none. */
 static int with_rest(int code, struct strm_msg *rest)
 {
-	static const struct strm_msg none = { 0, 0, 0 };
+	static const struct strm_msg none = STRM_NO_MSG_INIT;
 
 	if (code == STRM_NONE)
 		*rest = none;

@@ -107,7 +107,7 @@
  * another, has a new one. Only strm_name_at returns a name that was given before. So a caller that
  * frees twice, links twice, or uses a message that is on a queue gets STRM_INVALID. Any bits may be
  * passed as a name. Names may be copied, kept, and compared by strm_same_msg. STRM_NO_MSG, all
- * zeros, is the name of no message, and never valid.
+ * zeros, is the name of no message, and never valid; STRM_NO_MSG_INIT initialises a static variable.
  *
  * Stamps start again after 2^64 names with the same block. Two pools opened with the
  * same id, together or one after the other, can't tell their names apart: give different ids to
@@ -173,7 +173,8 @@
  *
  * In C++ the calls strm_census, strm_class_info, strm_queue_info, strm_band_info, strm_queue_spec
  * and strm_iov are macros, because structs have these names too. So `strm_census c;` declares a
- * variable. The addresses of these functions are `&strm_census_` and so on.
+ * variable, and from C++11 on `strm_census()` is a struct of zeros. The addresses of these functions
+ * are `&strm_census_` and so on.
  *
  *
  * As in STREAMS, and not
@@ -237,11 +238,11 @@ enum {
 	STRM_BAD_FIRST_ID = -19		/* the first id is 0 */
 };
 
-/* True if a code is that of a failure, which is any but STRM_OK and STRM_NONE. */
+/* True if a code is that of a failure, which is any but STRM_OK and STRM_NONE: these two are multiples of ~0u. */
 #ifdef __cplusplus
-#define STRM_FAILED(code) (static_cast<unsigned>(code) + 1u > 1u)
+#define STRM_FAILED(code) (static_cast<unsigned>(code) % ~0u != 0u)
 #else
-#define STRM_FAILED(code) ((unsigned)(code) + 1u > 1u)
+#define STRM_FAILED(code) ((unsigned)(code) % ~0u != 0u)
 #endif
 
 /* Limits. */
@@ -290,16 +291,16 @@ struct strm_msg {
 	uint64_t stamp;			/* how many names with that block were given, this one included */
 };
 
-/*
- * The name of no message. It is a value, for initialisers, assignments and arguments; in C89 it is
- * an initialiser only. In C, a static variable needs no initialiser to be STRM_NO_MSG.
- */
+/* The name of no message: an initialiser, also of static variables. Since 0.3.0. */
+#define STRM_NO_MSG_INIT { 0, 0, 0 }
+
+/* The same as a value, for assignments, arguments and other variables; in C89 an initialiser. */
 #if defined(__cplusplus)
 #define STRM_NO_MSG strm_msg()
 #elif defined(__STDC_VERSION__) && __STDC_VERSION__ >= 199901L
-#define STRM_NO_MSG ((struct strm_msg){ 0, 0, 0 })
+#define STRM_NO_MSG ((struct strm_msg)STRM_NO_MSG_INIT)
 #else
-#define STRM_NO_MSG { 0, 0, 0 }
+#define STRM_NO_MSG STRM_NO_MSG_INIT
 #endif
 
 /* A size class of a configuration. */
@@ -426,12 +427,24 @@ int strm_band_info_(const struct strm_pool *pool, uint32_t queue, uint32_t band,
 int strm_queue_spec_(const struct strm_pool *pool, uint32_t queue, struct strm_queue_spec *spec) __asm__("strm_queue_spec");
 int strm_iov_(const struct strm_pool *pool, struct strm_msg msg, uint32_t from, struct strm_iov *into, size_t length,
 	size_t *count) __asm__("strm_iov");
+#if __cplusplus >= 201103L
+/* The struct of a name with at most one argument, and the call with two to six. */
+#define STRM_SEVENTH(a, b, c, d, e, f, name, ...) name
+#define STRM_NAMED(name, ...) STRM_SEVENTH(__VA_ARGS__, name##_, name##_, name##_, name##_, name##_, name, 0)(__VA_ARGS__)
+#define strm_census(...) STRM_NAMED(strm_census, __VA_ARGS__)
+#define strm_class_info(...) STRM_NAMED(strm_class_info, __VA_ARGS__)
+#define strm_queue_info(...) STRM_NAMED(strm_queue_info, __VA_ARGS__)
+#define strm_band_info(...) STRM_NAMED(strm_band_info, __VA_ARGS__)
+#define strm_queue_spec(...) STRM_NAMED(strm_queue_spec, __VA_ARGS__)
+#define strm_iov(...) STRM_NAMED(strm_iov, __VA_ARGS__)
+#else
 #define strm_census(pool, census) strm_census_(pool, census)
 #define strm_class_info(pool, place, info) strm_class_info_(pool, place, info)
 #define strm_queue_info(pool, queue, info) strm_queue_info_(pool, queue, info)
 #define strm_band_info(pool, queue, band, info) strm_band_info_(pool, queue, band, info)
 #define strm_queue_spec(pool, queue, spec) strm_queue_spec_(pool, queue, spec)
 #define strm_iov(pool, msg, from, into, length, count) strm_iov_(pool, msg, from, into, length, count)
+#endif
 #endif
 
 /* ---- opening and closing: strm_open(3) */

@@ -1266,6 +1266,14 @@ static void test_sizes(void)
 	CHECK(sizeof(struct strm_block_place) == 16 && sizeof(struct strm_iov) == 16 && sizeof(struct strm_queued) == 20);
 }
 
+/* The name of no message initialises a static variable, in each language without a warning. */
+static void test_static_name(void)
+{
+	static const struct strm_msg none = STRM_NO_MSG_INIT, nones[] = { STRM_NO_MSG_INIT, STRM_NO_MSG_INIT };
+
+	CHECK(strm_is_no_msg(none) && strm_is_no_msg(nones[1]));
+}
+
 #ifdef __cplusplus
 /* In C++ a struct needs no `struct`, not even one whose name a call has. */
 static void test_without_struct(void)
@@ -1289,6 +1297,21 @@ static void test_without_struct(void)
 	ANSWERS(strm_iov(&pool, message(&pool, "lion"), 0, &iov, 1, &count), STRM_OK);
 	CHECK(census.free == 4 && info.size == 16 && queue.msgs == 0 && band.bytes == 0 && spec.next == 1 && iov.length == 4);
 	ANSWERS(strm_close(&pool), STRM_OK);
+}
+
+/* In C++ the name of a struct and parentheses are zeros or, around a struct, a copy. */
+static void test_zeros(void)
+{
+	strm_census census = strm_census(), *zeros = new strm_census(), copy = strm_census(census);
+	strm_class_info info = strm_class_info();
+	strm_queue_info queue = strm_queue_info();
+	strm_band_info band = strm_band_info();
+	strm_queue_spec spec = strm_queue_spec();
+	strm_iov iov = strm_iov();
+
+	CHECK(census.held == 0 && zeros->held == 0 && copy.held == 0 && info.total == 0 && queue.enabled == 0 && band.wanted == 0);
+	CHECK(spec.next == 0 && iov.base == NULL && iov.length == 0);
+	delete zeros;
 }
 #endif
 
@@ -1424,8 +1447,10 @@ int main(void)
 	test_failed();
 	test_version();
 	test_sizes();
+	test_static_name();
 #ifdef __cplusplus
 	test_without_struct();
+	test_zeros();
 #endif
 	test_wishes();
 	test_classes();
