@@ -66,8 +66,7 @@
  *     else if (code == STRM_NONE)
  *         puts("the queue is empty");
  *
- * STRM_FAILED alone is not enough before you use a result: with STRM_NONE, `msg` was not stored.
- * Test for STRM_OK there.
+ * Before you use a result, test for STRM_OK: with STRM_NONE, `msg` was not stored.
  *
  * If several codes apply, a call returns the first in this list (strm_open has its own order):
  *
@@ -81,17 +80,14 @@
  *   5. The refusals that the call's comment lists, in that order.
  *
  * With STRM_NONE nothing is stored through pointers, except that strm_freeb and strm_unlinkb set
- * *rest to STRM_NO_MSG. So *rest is STRM_NO_MSG whenever one of these two or strm_rmvb leaves
- * nothing. After any code but STRM_OK and STRM_NONE, the pool, names, and what pointers lead to are
- * unchanged, except *count of the calls in the next paragraph.
+ * *rest to STRM_NO_MSG. After any code but STRM_OK and STRM_NONE, the pool, names, and what pointers
+ * lead to are unchanged, except *count as below.
  *
- * A call whose name ends in _n makes single calls, one after another: as many as `length` says, or
- * fewer, up to the first that does not return STRM_OK. It returns STRM_OK, and *count is the number
- * of calls that returned STRM_OK. Compare it with `length`: if it is smaller, the next single call
- * returns the code that ended the series. But if the first call returns another code, it returns
- * that code. Items 3 to 5 of the list are those of the first call. If `length` is 0 there is none,
- * and it returns STRM_OK, whatever the other arguments name. With any code but STRM_OK, even
- * STRM_NOT_OPEN, *count is 0.
+ * A call whose name ends in _n makes `length` single calls, or fewer, up to the first that does not
+ * return STRM_OK. It returns the code of the first one, or STRM_OK if `length` is 0, whatever the
+ * other arguments name. *count is the number of single calls that returned STRM_OK: 0 if the call
+ * returns another code, even STRM_NOT_OPEN. If *count is below `length` with STRM_OK, the next single
+ * call returns the code that ended the series.
  *
  * A call takes constant time, plus time for each block, message or byte that it goes over.
  *
@@ -107,7 +103,7 @@
  * another, has a new one. Only strm_name_at returns a name that was given before. So a caller that
  * frees twice, links twice, or uses a message that is on a queue gets STRM_INVALID. Any bits may be
  * passed as a name. Names may be copied, kept, and compared by strm_same_msg. STRM_NO_MSG, all
- * zeros, is the name of no message, and never valid; STRM_NO_MSG_INIT initialises a static variable.
+ * zeros, is the name of no message, and never valid. Its initialiser is STRM_NO_MSG_INIT.
  *
  * Stamps start again after 2^64 names with the same block. Two pools opened with the
  * same id, together or one after the other, can't tell their names apart: give different ids to
@@ -173,8 +169,8 @@
  *
  * In C++ the calls strm_census, strm_class_info, strm_queue_info, strm_band_info, strm_queue_spec
  * and strm_iov are macros, because structs have these names too. So `strm_census c;` declares a
- * variable, and from C++11 on `strm_census()` is a struct of zeros. The addresses of these functions
- * are `&strm_census_` and so on.
+ * variable, and from C++11 on `strm_census()` is a struct of zeros. The addresses of these
+ * functions are `&strm_census_` and so on.
  *
  *
  * As in STREAMS, and not
@@ -238,7 +234,7 @@ enum {
 	STRM_BAD_FIRST_ID = -19		/* the first id is 0 */
 };
 
-/* True if a code is that of a failure, which is any but STRM_OK and STRM_NONE: these two are multiples of ~0u. */
+/* True if a code is that of a failure: any but STRM_OK and STRM_NONE, which are multiples of ~0u. */
 #ifdef __cplusplus
 #define STRM_FAILED(code) (static_cast<unsigned>(code) % ~0u != 0u)
 #else
@@ -453,8 +449,7 @@ int strm_iov_(const struct strm_pool *pool, struct strm_msg msg, uint32_t from, 
  * Opens a pool, with all blocks free and all queues empty. It allocates all memory, 68 MB for the
  * largest pool, and copies the configuration. It uses 11 KB of stack, far more than other calls.
  * The fields `classes` and `queues` may be null if their count is 0. A count of 0 is refused as
- * STRM_BAD_CLASSES or STRM_BAD_QUEUES, a count above its limit as STRM_BAD_ARGUMENT. The first id
- * must be above 0 even if `bufcalls` is 0.
+ * STRM_BAD_CLASSES or STRM_BAD_QUEUES, a count above its limit as STRM_BAD_ARGUMENT.
  * Refused as STRM_NOT_OPEN for a null handle, STRM_IS_OPEN, STRM_BAD_ARGUMENT, the first fault from
  * STRM_BAD_MBLKS to STRM_BAD_FIRST_ID, or STRM_NO_MEMORY, in this order. If strm_open fails, an
  * open handle is unchanged, and any other stays closed.
@@ -524,7 +519,7 @@ int strm_dupmsg(struct strm_pool *pool, struct strm_msg msg, struct strm_msg *co
 /*
  * Copies the first block of a message. The new block has a data block of its own, allocated as by
  * strm_allocb for the capacity of the old data block. Type, band, and bytes with their places are
- * the same.
+ * the same. The rest of the new data block keeps what was there: see strm_advance.
  * Refused as STRM_NO_MBLK, STRM_NO_DATA.
  * Differs from STREAMS: which data block is taken.
  */
@@ -632,13 +627,11 @@ int strm_name_at(const struct strm_pool *pool, uint32_t head, struct strm_msg *m
 int strm_bytes(const struct strm_pool *pool, struct strm_msg msg, uint32_t place, const uint8_t **bytes, size_t *length);
 
 /*
- * Sets base and length of consecutive blocks of a message, as strm_bytes does, in the array `into`
- * of `length` structs, from the block numbered `from` on. *count is the number of blocks: `length`,
- * or fewer if the message ends before. If the message has no block `from`, *count is 0, with
- * STRM_OK. The rest of the array is unchanged. If *count is `length`, there may be more: ask again
- * from `from` + `length` on. writev takes the array as `(const struct iovec *)into`, with at most
- * IOV_MAX structs. strm_iov counts to each block from the first one, so a message of many blocks
- * takes time for the square of their number.
+ * Sets base and length of consecutive blocks of a message, as strm_bytes does, in an array that is
+ * filled as by strm_blocks. If *count is `length`, there may be more: ask again from `from` +
+ * `length` on. writev takes the array as `(const struct iovec *)into`, with at most IOV_MAX structs.
+ * strm_iov counts to each block from the first one, so a message of many blocks takes time for the
+ * square of their number.
  * Not in STREAMS.
  */
 int strm_iov(const struct strm_pool *pool, struct strm_msg msg, uint32_t from, struct strm_iov *into, size_t length,
@@ -685,7 +678,10 @@ int strm_prepend(struct strm_pool *pool, struct strm_msg msg, const void *bytes,
 
 /*
  * Moves the write place of the block numbered `place` past `count` bytes that the data block has
- * there already: what was last written there, by this message or an earlier one, or zeros.
+ * there already: what was last written there, by this message or a freed one, or zeros. No call
+ * clears bytes. So before you free or trim a message with secrets, write zeros over them by
+ * strm_overwrite. strm_pullupmsg and strm_transfer leave bytes in the data blocks that they free:
+ * duplicate the message before, and afterwards overwrite and free the duplicate.
  * Refused as STRM_NO_SUCH_BLOCK, STRM_SHARED, STRM_NO_ROOM; the first two also for a count of 0.
  * STREAMS: adding to b_wptr.
  */
@@ -737,8 +733,10 @@ int strm_adjmsg(struct strm_pool *pool, struct strm_msg msg, int32_t count);
 /*
  * Gathers the first `count` bytes of a message in its first block, from its leading blocks of the
  * first block's type; -1 means all bytes of these blocks. If the first block has the bytes already,
- * nothing is done. Otherwise the first block gets a new data block, allocated as by strm_allocb,
- * and blocks that gave all their bytes are freed.
+ * nothing is done. Otherwise it gets a new data block, allocated as by strm_allocb, with the bytes
+ * at its beginning: headroom is lost. Blocks that gave all their bytes are freed, and empty ones
+ * before the last byte; empty ones after it stay. Old data blocks, and the rest of the new one,
+ * keep what was there: see strm_advance.
  * Refused as STRM_SHORT if `count` is below -1 or these blocks have fewer bytes, STRM_TOO_LARGE,
  * STRM_NO_DATA.
  * Differs from STREAMS: bytes are not aligned.
@@ -749,8 +747,8 @@ int strm_pullupmsg(struct strm_pool *pool, struct strm_msg msg, int32_t count);
  * Makes a message anew in another pool, with the same blocks, bytes with their places, types and
  * bands, and frees it here. `msg` is no longer valid; *moved is the name of the new message, in the
  * pool `other`. Each new block has a data block of its own, allocated as by strm_allocb for the
- * capacity of the old one. Both handles must be open, and threads that share a pool hold the locks
- * of both.
+ * capacity of the old one. Old data blocks, and the rest of the new ones, keep what was there: see
+ * strm_advance. Both handles must be open, and threads that share a pool hold the locks of both.
  * Refused as STRM_TOO_LARGE, STRM_NO_MBLK, STRM_NO_DATA, all of the pool `other`.
  * Not in STREAMS.
  */
@@ -850,22 +848,22 @@ int strm_flushband(struct strm_pool *pool, uint32_t queue, uint32_t band, uint32
 /* ---- several messages at once: strm_allocb_n(3) */
 
 /*
- * Allocates messages as strm_allocb does, and stores their names in the array `msgs` of `length`
- * names. The rest of the array is unchanged.
+ * Allocates messages as strm_allocb does, and stores their number in *count, and their names in the
+ * array `msgs` of `length` names. The rest of the array is unchanged.
  * Not in STREAMS.
  */
 int strm_allocb_n(struct strm_pool *pool, uint32_t size, struct strm_msg *msgs, size_t length, size_t *count);
 
 /*
  * Frees messages as strm_freemsg does: those named in the array `msgs` of `length` names, in this
- * order. Those named from *count on are not freed.
+ * order.
  * Not in STREAMS.
  */
 int strm_freemsg_n(struct strm_pool *pool, const struct strm_msg *msgs, size_t length, size_t *count);
 
 /*
  * Puts messages on a queue as strm_putq does: those named in the array `msgs` of `length` names, in
- * this order. Those named from *count on are not put.
+ * this order.
  * Not in STREAMS.
  */
 int strm_putq_n(struct strm_pool *pool, uint32_t queue, const struct strm_msg *msgs, size_t length, size_t *count);

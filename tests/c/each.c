@@ -749,6 +749,85 @@ static void test_advance(void)
 	ANSWERS(strm_close(&pool), STRM_OK);
 }
 
+/* Fills a message with zeros, and frees it. */
+static void wipe(struct strm_pool *pool, struct strm_msg msg)
+{
+	static const char zeros[64] = "";
+	uint32_t bytes;
+
+	ANSWERS(strm_size(pool, msg, &bytes), STRM_OK);
+	ANSWERS(strm_overwrite(pool, msg, 0, zeros, bytes), STRM_OK);
+	ANSWERS(strm_freemsg(pool, msg), STRM_OK);
+}
+
+/* How many of the free data blocks have a byte that is not 0. The pool has no message, and as many message blocks as data blocks. */
+static int dirty(struct strm_pool *pool)
+{
+	struct strm_msg msgs[STRM_MOST_CLASSES];
+	struct strm_block_info block;
+	const uint8_t *bytes;
+	size_t count, length, i, at;
+	int found = 0, is_dirty;
+
+	ANSWERS(strm_allocb_n(pool, 16, msgs, STRM_MOST_CLASSES, &count), STRM_OK);
+	CHECK(count == STRM_MOST_CLASSES);
+	for (i = 0; i < count; i++) {
+		ANSWERS(strm_block(pool, msgs[i], 0, &block), STRM_OK);
+		ANSWERS(strm_advance(pool, msgs[i], 0, block.room), STRM_OK);
+		ANSWERS(strm_bytes(pool, msgs[i], 0, &bytes, &length), STRM_OK);
+		for (at = 0, is_dirty = 0; at < length; at++)
+			is_dirty |= bytes[at] != 0;
+		found += is_dirty;
+	}
+	ANSWERS(strm_freemsg_n(pool, msgs, count, &count), STRM_OK);
+	return found;
+}
+
+/* Bytes of freed messages stay in the pool, also around copies, unless they are overwritten as strm.h says at strm_advance. */
+static void test_secrets(void)
+{
+	struct strm_pool pool = opened(STRM_MOST_CLASSES), other = opened(STRM_MOST_CLASSES);
+	struct strm_msg a, b, copy, moved;
+	const uint8_t *bytes;
+	size_t length;
+
+	wipe(&pool, message(&pool, "secret"));
+	CHECK(dirty(&pool) == 0);
+	/* the rest of a copy's data block is from the freed message */
+	a = message(&pool, "two");
+	b = message(&pool, "secret");
+	ANSWERS(strm_freemsg(&pool, b), STRM_OK);
+	ANSWERS(strm_copyb(&pool, a, &copy), STRM_OK);
+	ANSWERS(strm_advance(&pool, copy, 0, 3), STRM_OK);
+	CHECK(has_bytes(&pool, copy, "tworet"));
+	ANSWERS(strm_advance(&pool, a, 0, 13), STRM_OK);
+	wipe(&pool, a);
+	wipe(&pool, copy);
+	CHECK(dirty(&pool) == 0);
+	/* pulled up without headroom, with an empty block in between, which is freed, and one after, which stays */
+	ANSWERS(strm_allocb(&pool, 16, &a), STRM_OK);
+	ANSWERS(strm_reserve(&pool, a, 0, 4), STRM_OK);
+	ANSWERS(strm_write(&pool, a, 0, "sec", 3), STRM_OK);
+	ANSWERS(strm_linkb(&pool, a, message(&pool, "")), STRM_OK);
+	ANSWERS(strm_linkb(&pool, a, message(&pool, "ret")), STRM_OK);
+	ANSWERS(strm_linkb(&pool, a, message(&pool, "")), STRM_OK);
+	ANSWERS(strm_dupmsg(&pool, a, &copy), STRM_OK);
+	ANSWERS(strm_pullupmsg(&pool, a, -1), STRM_OK);
+	wipe(&pool, copy);
+	CENSUS(&pool, STRM_MOST_CLASSES - 2, 0, 2);
+	ANSWERS(strm_bytes(&pool, a, 0, &bytes, &length), STRM_OK);
+	CHECK(length == 6 && (size_t)bytes % 16 == 0);
+	/* transferred */
+	ANSWERS(strm_dupmsg(&pool, a, &copy), STRM_OK);
+	ANSWERS(strm_transfer(&pool, &other, a, &moved), STRM_OK);
+	wipe(&pool, copy);
+	CHECK(dirty(&pool) == 0 && has_bytes(&other, moved, "secret"));
+	ANSWERS(strm_freemsg(&other, moved), STRM_OK);
+	CHECK(dirty(&other) == 1);
+	ANSWERS(strm_close(&other), STRM_OK);
+	ANSWERS(strm_close(&pool), STRM_OK);
+}
+
 static void test_name_at(void)
 {
 	struct strm_pool pool = opened(6);
@@ -1432,6 +1511,7 @@ int main(void)
 	test_overwrite();
 	test_headroom();
 	test_advance();
+	test_secrets();
 	test_name_at();
 	test_transfer();
 	test_transfer_refused();
