@@ -80,14 +80,14 @@
  *   5. The refusals that the call's comment lists, in that order.
  *
  * With STRM_NONE nothing is stored through pointers, except that strm_freeb and strm_unlinkb set
- * *rest to STRM_NO_MSG. After any code but STRM_OK and STRM_NONE, the pool, names, and what pointers
- * lead to are unchanged, except *count as below.
+ * *rest to STRM_NO_MSG. After any code but STRM_OK and STRM_NONE, the pool, names, and what
+ * pointers lead to are unchanged, except *count as below.
  *
  * A call whose name ends in _n makes `length` single calls, or fewer, up to the first that does not
  * return STRM_OK. It returns the code of the first one, or STRM_OK if `length` is 0, whatever the
  * other arguments name. *count is the number of single calls that returned STRM_OK: 0 if the call
- * returns another code, even STRM_NOT_OPEN. If *count is below `length` with STRM_OK, the next single
- * call returns the code that ended the series.
+ * returns another code, even STRM_NOT_OPEN. If *count is below `length` with STRM_OK, the next
+ * single call returns the code that ended the series.
  *
  * A call takes constant time, plus time for each block, message or byte that it goes over.
  *
@@ -629,9 +629,9 @@ int strm_bytes(const struct strm_pool *pool, struct strm_msg msg, uint32_t place
 /*
  * Sets base and length of consecutive blocks of a message, as strm_bytes does, in an array that is
  * filled as by strm_blocks. If *count is `length`, there may be more: ask again from `from` +
- * `length` on. writev takes the array as `(const struct iovec *)into`, with at most IOV_MAX structs.
- * strm_iov counts to each block from the first one, so a message of many blocks takes time for the
- * square of their number.
+ * `length` on. writev takes the array as `(const struct iovec *)into`, with at most IOV_MAX
+ * structs. strm_iov counts to each block from the first one, so a message of many blocks takes time
+ * for the square of their number.
  * Not in STREAMS.
  */
 int strm_iov(const struct strm_pool *pool, struct strm_msg msg, uint32_t from, struct strm_iov *into, size_t length,
