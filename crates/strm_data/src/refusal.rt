@@ -11,24 +11,23 @@ use thiserror::Error;
 /// this project's own choice.
 #[derive(Clone, Copy, Debug, PartialEq, Eq, Error)]
 pub enum Refusal {
-    /// `allocb`, `bufcall` or `pullupmsg` asks for more bytes than a data block of the largest class has. Or `transfer`
-    /// would copy a data block that is larger than the other pool's largest class.
+    /// A call asks for more bytes than a data block of the largest class has. Or `transfer` would copy a data block that is
+    /// larger than the other pool's largest class.
     #[error("the size is above the largest class")]
     TooLarge = 1,
-    /// `allocb`, `dupb`, `dupmsg`, `copyb`, `copymsg` or `transfer` needs more message blocks than are free.
+    /// A call needs more message blocks than are free.
     #[error("fewer message blocks are free than the call needs")]
     NoMblk = 2,
-    /// `allocb`, `copyb`, `copymsg`, `transfer` or `pullupmsg` finds no free data block that is large enough.
+    /// A call needs a data block, and no free one is large enough.
     #[error("no data block is free of a class that fits")]
     NoData = 3,
-    /// `dupb` or `dupmsg` would give a data block more than `MOST_REFERENCES` references.
+    /// A data block would get more than `MOST_REFERENCES` references.
     #[error("too many message blocks would refer to one data block")]
     RefMax = 4,
     /// A call names a block that the message does not have. Blocks count from 0.
     #[error("the message has no such block")]
     NoSuchBlock = 5,
-    /// `write`, `settype` or a call that changes bytes in place would change a data block that another message block
-    /// refers to.
+    /// A call would change a data block that another message block refers to.
     #[error("more than one message block refers to the data block")]
     Shared = 6,
     /// `write` or `advance` has more bytes than fit after the write place, `prepend` more than fit before the read place.
@@ -40,11 +39,10 @@ pub enum Refusal {
     /// the leading blocks have, or its count is below -1. Or `overwrite` would go past the message's last byte.
     #[error("the message has too few bytes, or too few of one type")]
     Short = 8,
-    /// `insq` names a place after the queue's end, or `rmvq` or a look at a queue a place without a message. Places count
-    /// from 0.
+    /// A call names a place at which the queue has no message, `insq` one after the queue's end. Places count from 0.
     #[error("the queue has no such place")]
     NoSuchPlace = 9,
-    /// `insq` would put a message before one of a greater rank, or after one of a lesser rank.
+    /// A message would be put before one of a greater rank, or after one of a lesser rank.
     #[error("the ranks would rise from front to back")]
     BadOrder = 10,
     /// A call names a queue that the pool does not have. Queues count from 0.
@@ -71,7 +69,7 @@ pub enum Refusal {
     /// A shared pool is to be taken apart, but a desk that it handed out is missing.
     #[error("a desk that was handed out is not among those gathered")]
     DeskMissing = 19,
-    /// `strqset` gets a low water mark that is not below the high one.
+    /// A band would get a low water mark that is not below the high one.
     #[error("the low water mark is not below the high one")]
     BadMarks = 20,
     /// A pool is to be shared with no desk or too many, with a trace of no entries or too many, or from a first stamp
