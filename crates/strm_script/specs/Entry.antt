@@ -1,5 +1,5 @@
 -- Entries: what a line of a script says, by its words.
-use Rattle.std.specs.Prelude.{ℕ, Bool, List, [], ◌∷◌, Option, option_map, Result, codes}
+use Rattle.std.specs.Prelude.{ℕ, Bool, List, [], ◌∷◌, Option, option_map, Result, Ok, codes}
 use Rattle.strm_data.specs.declared.class_spec.ClassSpec.{ClassSpec}
 use Rattle.strm_queue.specs.declared.queue_spec.QueueSpec.{QueueSpec}
 use Rattle.strm_pool.specs.declared.call.Call.{Call}
@@ -7,7 +7,7 @@ use Rattle.strm_pool.specs.declared.call.Call.TheVariants as calls
 use Rattle.strm_script.specs.declared.fault.Kind.{Kind}
 use Rattle.strm_script.specs.declared.word.Word.{Word}
 use Rattle.strm_script.specs.declared.word.Word.TheVariants as words
-use Rattle.strm_script.specs.Shape.{none, one, two, three, four}
+use Rattle.strm_script.specs.Shape.{none, one, two, three, four, ◌>>=◌}
 use Rattle.strm_script.specs.Form.{u32_of, u8_of, i32_of, register_of, type_of, flush_of, service_of, next_of, octets_of}
 use Rattle.strm_script.specs.Word.{found}
 
@@ -77,6 +77,14 @@ class_spec size count = Class (record { size = size; count = count })
 
 abbrev pub queue_spec : ℕ → ℕ → Bool → Option ℕ → Entry
 queue_spec hiwat lowat service next = Queue (record { hiwat = hiwat; lowat = lowat; service = service; next = next })
+
+-- the call that was stored, if its arguments were read, or their fault
+abbrev pub read_call : Result (Unit {0}) Kind → Call → Result Call Kind
+read_call read call = read >>= (λ _. Ok call)
+
+-- the same of the command with a first word, if there is one
+abbrev pub stored : Option (Result (Unit {0}) Kind) → Call → Option (Result Call Kind)
+stored read call = option_map (λ r. read_call r call) read
 
 -- what a line with this first word and these arguments says
 abbrev pub entry_of : Word → List (List ℕ) → Result Entry Kind

@@ -1,7 +1,8 @@
-//! The call of a command line, read by the call's row in strm_pool's table.
+//! The call of a command line, read by the call's row in strm_pool's table. It is stored through `call`, so that a call with many
+//! bytes is made where it stays.
 ghost use Rattle.std.specs.Prelude.{◌≡◌, length, bytes_eq};
 ghost use Rattle.strm_script.specs.Cut.{words_behind};
-ghost use Rattle.strm_script.specs.Entry.{call_among, call_of, commands};
+ghost use Rattle.strm_script.specs.Entry.{call_among, call_of, commands, stored};
 ghost use Rattle.strm_script.specs.Word.{of_length};
 
 use crate::fault::Kind;
@@ -10,11 +11,11 @@ use strm_pool::{Call, calls};
 
 // Reads the call of the row, if any, that has this first word.
 macro_rules! called {
-    ($first:ident, $arguments:ident; $(
+    ($first:ident, $arguments:ident, $call:ident; $(
         $word:literal $name:ident $(($($field:ident),+ $(; $lent:ident)?))?: $act:ident $regs:tt;
     )+) => {{
         $(if is_word($first, $word) {
-            return Some(read!($arguments, $name $($($field)+ $($lent)?)?));
+            return Some(read!($arguments, $call, $name $($($field)+ $($lent)?)?));
         })+
         None
     }};
@@ -35,75 +36,94 @@ fn is_word(first: &[u8], word: &[u8]) -> bool
 
 // Reads a word for each field of a call.
 macro_rules! read {
-    ($words:expr, $name:ident) => { none($words).map(|()| Call::$name) };
-    ($words:expr, $name:ident $a:ident) => { one($words).map(Call::$name) };
-    ($words:expr, $name:ident $a:ident $b:ident) => { two($words).map(|($a, $b)| Call::$name($a, $b)) };
-    ($words:expr, $name:ident $a:ident $b:ident $c:ident) => { three($words).map(|($a, $b, $c)| Call::$name($a, $b, $c)) };
-    ($words:expr, $name:ident $a:ident $b:ident $c:ident $d:ident) => {
-        four($words).map(|($a, $b, $c, $d)| Call::$name($a, $b, $c, $d))
+    ($words:ident, $call:ident, $name:ident) => { read!(none($words), $call, () => Call::$name) };
+    ($words:ident, $call:ident, $name:ident $a:ident) => { read!(one($words), $call, $a => Call::$name($a)) };
+    ($words:ident, $call:ident, $name:ident $a:ident $b:ident) => { read!(two($words), $call, ($a, $b) => Call::$name($a, $b)) };
+    ($words:ident, $call:ident, $name:ident $a:ident $b:ident $c:ident) => {
+        read!(three($words), $call, ($a, $b, $c) => Call::$name($a, $b, $c))
+    };
+    ($words:ident, $call:ident, $name:ident $a:ident $b:ident $c:ident $d:ident) => {
+        read!(four($words), $call, ($a, $b, $c, $d) => Call::$name($a, $b, $c, $d))
+    };
+    ($words:expr, $call:ident, $fields:pat => $made:expr) => {
+        match $words {
+            Ok($fields) => {
+                *$call = $made;
+                Ok(())
+            }
+            Err(kind) => Err(kind),
+        }
     };
 }
 
 // The call of a command of four letters.
-fn four_letters(first: &[u8], arguments: Option<&[u8]>) -> Option<Result<Call, Kind>>
+fn four_letters(first: &[u8], arguments: Option<&[u8]>, call: &mut Call) -> Option<Result<(), Kind>>
     requires { length first.now ≡ 4 }
-    ensures { result ≡ call_among (of_length 4 commands) first.now (words_behind arguments.entry) }
+    ensures { stored result call.new ≡ call_among (of_length 4 commands) first.now (words_behind arguments.entry) }
 {
-    calls!(4 called first, arguments;)
+    calls!(4 called first, arguments, call;)
 }
 
 // The call of a command of five letters.
-fn five_letters(first: &[u8], arguments: Option<&[u8]>) -> Option<Result<Call, Kind>>
+fn five_letters(first: &[u8], arguments: Option<&[u8]>, call: &mut Call) -> Option<Result<(), Kind>>
     requires { length first.now ≡ 5 }
-    ensures { result ≡ call_among (of_length 5 commands) first.now (words_behind arguments.entry) }
+    ensures { stored result call.new ≡ call_among (of_length 5 commands) first.now (words_behind arguments.entry) }
 {
-    calls!(5 called first, arguments;)
+    calls!(5 called first, arguments, call;)
 }
 
 // The call of a command of six letters.
-fn six_letters(first: &[u8], arguments: Option<&[u8]>) -> Option<Result<Call, Kind>>
+fn six_letters(first: &[u8], arguments: Option<&[u8]>, call: &mut Call) -> Option<Result<(), Kind>>
     requires { length first.now ≡ 6 }
-    ensures { result ≡ call_among (of_length 6 commands) first.now (words_behind arguments.entry) }
+    ensures { stored result call.new ≡ call_among (of_length 6 commands) first.now (words_behind arguments.entry) }
 {
-    calls!(6 called first, arguments;)
+    calls!(6 called first, arguments, call;)
 }
 
 // The call of a command of seven letters.
-fn seven_letters(first: &[u8], arguments: Option<&[u8]>) -> Option<Result<Call, Kind>>
+fn seven_letters(
+    first: &[u8],
+    arguments: Option<&[u8]>,
+    call: &mut Call,
+) -> Option<Result<(), Kind>>
     requires { length first.now ≡ 7 }
-    ensures { result ≡ call_among (of_length 7 commands) first.now (words_behind arguments.entry) }
+    ensures { stored result call.new ≡ call_among (of_length 7 commands) first.now (words_behind arguments.entry) }
 {
-    calls!(7 called first, arguments;)
+    calls!(7 called first, arguments, call;)
 }
 
 // The call of a command of eight letters.
-fn eight_letters(first: &[u8], arguments: Option<&[u8]>) -> Option<Result<Call, Kind>>
+fn eight_letters(
+    first: &[u8],
+    arguments: Option<&[u8]>,
+    call: &mut Call,
+) -> Option<Result<(), Kind>>
     requires { length first.now ≡ 8 }
-    ensures { result ≡ call_among (of_length 8 commands) first.now (words_behind arguments.entry) }
+    ensures { stored result call.new ≡ call_among (of_length 8 commands) first.now (words_behind arguments.entry) }
 {
-    calls!(8 called first, arguments;)
+    calls!(8 called first, arguments, call;)
 }
 
 // The call of a command of nine letters.
-fn nine_letters(first: &[u8], arguments: Option<&[u8]>) -> Option<Result<Call, Kind>>
+fn nine_letters(first: &[u8], arguments: Option<&[u8]>, call: &mut Call) -> Option<Result<(), Kind>>
     requires { length first.now ≡ 9 }
-    ensures { result ≡ call_among (of_length 9 commands) first.now (words_behind arguments.entry) }
+    ensures { stored result call.new ≡ call_among (of_length 9 commands) first.now (words_behind arguments.entry) }
 {
-    calls!(9 called first, arguments;)
+    calls!(9 called first, arguments, call;)
 }
 
-/// Makes the call of the command with this first word, if there is one, from the text of its arguments, if any. Returns `Shape` if
-/// the number of arguments is wrong, otherwise the first fault of the arguments, from the left.
-pub fn call_of(first: &[u8], arguments: Option<&[u8]>) -> Option<Result<Call, Kind>>
-    ensures { result ≡ call_of first.now (words_behind arguments.entry) }
+/// Stores the call of the command with this first word, if there is one, made from the text of its arguments, if any. Returns `Shape`
+/// if the number of arguments is wrong, otherwise the first fault of the arguments, from the left.
+pub fn call_of(first: &[u8], arguments: Option<&[u8]>, call: &mut Call) -> Option<Result<(), Kind>>
+    ensures { stored result call.new ≡ call_of first.now (words_behind arguments.entry) }
 {
     match first.len() {
-        4 => four_letters(first, arguments),
-        5 => five_letters(first, arguments),
-        6 => six_letters(first, arguments),
-        7 => seven_letters(first, arguments),
-        8 => eight_letters(first, arguments),
-        9 => nine_letters(first, arguments),
+        4 => four_letters(first, arguments, call),
+        5 => five_letters(first, arguments, call),
+        6 => six_letters(first, arguments, call),
+        7 => seven_letters(first, arguments, call),
+        8 => eight_letters(first, arguments, call),
+        9 => nine_letters(first, arguments, call),
         _ => None,
     }
 }

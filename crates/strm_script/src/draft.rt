@@ -3,7 +3,7 @@ ghost use Rattle.std.specs.Prelude.{◌≡◌, ◌<◌, ◌≤◌, ◌++◌, ◌
 ghost use Rattle.strm_script.specs.Cut.{words_behind};
 ghost use Rattle.strm_pool.specs.Limits.{most_workers};
 ghost use Rattle.strm_script.specs.Limits.{most_command_lines};
-ghost use Rattle.strm_script.specs.Entry.{Worker, Command, entry_of};
+ghost use Rattle.strm_script.specs.Entry.{Worker, Command, entry_of, read_call};
 ghost use Rattle.strm_script.specs.Script.{Numbered, is_full, may_stand, with_word, with_call, with_entry, is_skipped, with_line, script_or_fault};
 ghost use Rattle.strm_script.specs.Word.{word_of};
 ghost use Rattle.strm_script.specs.Draft.{StandsFor, HasRoom, Reads, with_first};
@@ -127,10 +127,15 @@ impl Draft {
         Ok(())
     }
 
-    // Takes in a command line with this call, or with this fault of its arguments.
-    fn take_call(&mut self, number: u32, call: Result<Call, Kind>) -> Result<(), LineFault>
+    // Takes in a command line with this call, or with the fault of its arguments.
+    fn take_call(
+        &mut self,
+        number: u32,
+        read: Result<(), Kind>,
+        call: Call,
+    ) -> Result<(), LineFault>
         ensures { (es : List Numbered) → StandsFor self.old es
-            → Reads self.new result (with_call es number call) }
+            → Reads self.new result (with_call es number (read_call read call)) }
     {
         if self.stage != Stage::Body {
             return Err(LineFault::Kind(Kind::Order));
@@ -138,7 +143,8 @@ impl Draft {
         if self.left == 0 {
             return Err(LineFault::Kind(Kind::Toomany));
         }
-        self.put_call(number, call?)?;
+        read?;
+        self.put_call(number, call)?;
         Ok(())
     }
 
@@ -190,8 +196,9 @@ impl Draft {
             return Ok(());
         }
         let (first, arguments) = cut_word(text);
-        if let Some(call) = call_of(first, arguments) {
-            return self.take_call(number, call);
+        let mut call = Call::Census;
+        if let Some(read) = call_of(first, arguments, &mut call) {
+            return self.take_call(number, read, call);
         }
         let word = self.first_word(first)?;
         self.take(number, word, arguments)
