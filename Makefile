@@ -274,7 +274,7 @@ FORCE:
 # Where the library is installed.
 LIB := $(DESTDIR)$(PREFIX)/lib
 
-# Installs both libraries for C, their header and their manuals. With them is what pkg-config and CMake find them by. Then it prints the lines
+# Installs both libraries for C, their headers for C and C++ and their manuals. With them is what pkg-config and CMake find them by. Then it prints the lines
 # that let pkg-config and the loader find them, unless they are to be moved from DESTDIR.
 install-lib: $(ARCHIVE) $(SHARED)
 	install -D -m 644 $(ARCHIVE) $(LIB)/libstrm.a
@@ -285,6 +285,7 @@ install-lib: $(ARCHIVE) $(SHARED)
 	install -D -m 644 c/strm-config.cmake $(LIB)/cmake/strm/strm-config.cmake
 	$(FORM) c/strm-config-version.cmake.in | install -m 644 /dev/stdin $(LIB)/cmake/strm/strm-config-version.cmake
 	install -D -m 644 c/strm.h $(DESTDIR)$(PREFIX)/include/strm.h
+	install -m 644 bindings/cpp/strm.hpp $(DESTDIR)$(PREFIX)/include/strm.hpp
 	tools/man_pages 3 $(SHARE)/man/man3
 	@$(if $(DESTDIR),,echo 'export PKG_CONFIG_PATH=$(PREFIX)/lib/pkgconfig$${PKG_CONFIG_PATH:+:$$PKG_CONFIG_PATH}')
 	@$(if $(DESTDIR),,echo 'export LD_LIBRARY_PATH=$(PREFIX)/lib$${LD_LIBRARY_PATH:+:$$LD_LIBRARY_PATH}')

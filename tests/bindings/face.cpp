@@ -1,0 +1,325 @@
+// Does the drawn calls of tests/c/drawn.c through bindings/cpp/strm.hpp, by the throwing form of a call and by the other in turn. It takes the
+// place of tests/c/face.c.
+#include "face.h"
+
+#include "strm.hpp"
+
+#include <cstring>
+#include <vector>
+
+namespace {
+
+bool same(const strm_msg& a, const strm_msg& b) { return std::memcmp(&a, &b, sizeof a) == 0; }
+
+// A face during a call: its pool, and the messages of registers that the call gets. In the end they go back.
+class lent {
+public:
+    explicit lent(face& of) : pool(of.pool), of_(of) {}
+    ~lent() {
+        for (each& it : taken_)
+            go_back(it);
+        pool.release();
+    }
+    strm::message& take(int reg) {
+        taken_.push_back({ reg, pool.adopt(of_.registers[reg]) });
+        return taken_.back().msg;
+    }
+    // Puts a new message into a register, once those that the call got are back.
+    void put(int reg, strm::message msg) {
+        for (each& it : taken_)
+            go_back(it);
+        taken_.clear();
+        if (!msg || same(msg.name(), of_.registers[reg]))
+            of_.broken = 1;
+        of_.registers[reg] = msg.release();
+        of_.holds[reg] = 1;
+    }
+    // A refused call leaves all messages as they were.
+    void refused() {
+        for (const each& it : taken_)
+            if (!it.msg || !same(it.msg.name(), of_.registers[it.reg]))
+                of_.broken = 1;
+    }
+    void must(bool holds) {
+        if (!holds)
+            of_.broken = 1;
+    }
+    face& of() { return of_; }
+
+    strm::pool pool;
+
+private:
+    struct each {
+        int reg;
+        strm::message msg;
+    };
+
+    void go_back(each& it) {
+        if (!it.msg)
+            of_.holds[it.reg] = 0;
+        else
+            of_.registers[it.reg] = it.msg.release();
+    }
+
+    face& of_;
+    std::vector<each> taken_ = reserved();
+    static std::vector<each> reserved() {
+        std::vector<each> none;
+        none.reserve(MOST_ITEMS + 2);
+        return none;
+    }
+};
+
+reply numbers(enum kind kind, std::initializer_list<uint32_t> all) {
+    reply reply = reply_of(kind);
+    std::copy(all.begin(), all.end(), reply.numbers);
+    return reply;
+}
+
+reply asked(bool yes) { return reply_of(yes ? YES : NO); }
+
+template <class T, class Told>
+reply optional(const std::optional<T>& found, Told told) {
+    return found ? told(*found) : reply_of(NOTHING);
+}
+
+reply number(enum kind kind, const std::optional<uint32_t>& found) {
+    return optional(found, [kind](uint32_t number) { return told(kind, number, 0); });
+}
+
+// The bytes that a look copied into a buffer, which it must not touch behind them.
+template <class Read>
+reply bytes_told(lent& it, Read read) {
+    std::array<std::byte, MOST_OCTETS + 1> bytes;
+    reply reply = reply_of(TOLD_BYTES);
+
+    bytes.fill(std::byte(0xA5));
+    const size_t count = read(strm::buffer(bytes.data(), MOST_OCTETS));
+    for (size_t i = count; i < bytes.size(); i++)
+        it.must(bytes[i] == std::byte(0xA5));
+    reply.numbers[0] = static_cast<uint32_t>(count);
+    std::memcpy(reply.octets, bytes.data(), count);
+    return reply;
+}
+
+reply block_bytes_told(strm::bytes bytes) {
+    reply reply = told(TOLD_BYTES, static_cast<uint32_t>(bytes.size()), 0);
+    for (size_t i = 0; i < bytes.size() && i < MOST_OCTETS; i++)
+        reply.octets[i] = static_cast<uint8_t>(bytes[i]);
+    return reply;
+}
+
+reply blocks_told(const strm::message& x, const call& call, strm::report to) {
+    std::array<strm_block_info, MOST_ITEMS> infos;
+    const size_t count = x.blocks(call.place, strm::span<strm_block_info>(infos.data(), call.items), to);
+    reply reply = told(TOLD_BLOCKS, static_cast<uint32_t>(count), 0);
+    for (size_t i = 0; i < count; i++)
+        put_block(&reply, 1 + 5 * static_cast<int>(i), &infos[i]);
+    return reply;
+}
+
+// The lengths and the first bytes of some blocks, which the range of blocks must have too.
+reply iov_told(lent& it, const strm::message& x, const call& call, strm::report to) {
+    std::array<strm_iov, MOST_ITEMS> iov;
+    const size_t count = x.iov(call.place, strm::span<strm_iov>(iov.data(), call.items), to);
+    reply reply = told(TOLD_IOV, static_cast<uint32_t>(count), 0);
+    size_t had = 0, place = 0, seen = 0;
+
+    for (size_t i = 0; i < count; i++) {
+        reply.numbers[1 + i] = static_cast<uint32_t>(iov[i].length);
+        for (size_t from = 0; from < iov[i].length && had < MOST_OCTETS; from++)
+            reply.octets[had++] = static_cast<const uint8_t*>(iov[i].base)[from];
+    }
+    for (const auto& block : x.blocks()) {
+        if (place >= call.place && place < call.place + count) {
+            it.must(block.bytes.data() == iov[place - call.place].base && block.bytes.size() == iov[place - call.place].length);
+            it.must(block.length == block.bytes.size());
+            seen++;
+        }
+        place++;
+    }
+    it.must(seen == count);
+    return reply;
+}
+
+reply name_told(lent& it, std::optional<strm_msg> name) {
+    if (!name)
+        return reply_of(NOTHING);
+    for (uint32_t reg = 0; reg < REGISTERS; reg++)
+        if (it.of().holds[reg] && same(*name, it.of().registers[reg]))
+            return told(TOLD_NAME, reg, 0);
+    it.must(false);
+    return reply_of(NOTHING);
+}
+
+// The register gets a message, unless there is none.
+reply given(lent& it, int reg, strm::message msg) {
+    if (!msg)
+        return reply_of(NOTHING);
+    it.put(reg, std::move(msg));
+    return reply_of(DONE);
+}
+
+// Registers get messages, or hand them over, by one call.
+reply gave_many(lent& it, const call& call, strm::report to) {
+    std::array<strm::message, MOST_ITEMS + 1> messages;
+    const strm::span<strm::message> into(messages.data(), call.items);
+    const size_t count = call.verb == ALLOCB_N ? it.pool.allocb_n(call.number, into, to) : it.pool.queue(call.queue).get_n(into, to);
+    for (size_t i = 0; i < messages.size(); i++)
+        if (i < count)
+            it.put(call.many[i], std::move(messages[i]));
+        else
+            it.must(!messages[i]);
+    return call.verb == GETQ_N && count == 0 && call.items > 0 ? reply_of(NOTHING) : told(TOLD_COUNT, static_cast<uint32_t>(count), 0);
+}
+
+reply took_many(lent& it, const call& call, strm::report to) {
+    std::vector<strm::message> messages;
+    for (uint32_t i = 0; i < call.items; i++)
+        messages.push_back(it.pool.adopt(it.of().registers[call.many[i]]));
+    size_t count = 0;
+    const auto go_back = [&] {
+        for (uint32_t i = 0; i < call.items; i++)
+            if (i < count)
+                it.of().holds[call.many[i]] = 0;
+            else
+                it.must(same(messages[i].release(), it.of().registers[call.many[i]]));
+    };
+    try {
+        count = call.verb == FREEMSG_N ? it.pool.freemsg_n(messages, to) : it.pool.queue(call.queue).put_n(messages, to);
+    } catch (...) {
+        go_back();
+        throw;
+    }
+    go_back();
+    return told(TOLD_COUNT, static_cast<uint32_t>(count), 0);
+}
+
+// Does a call that takes no message.
+reply apply_to_pool(lent& it, const call& call, strm::report to) {
+    strm::pool& pool = it.pool;
+    strm::queue queue = pool.queue(call.queue);
+
+    switch (call.verb) {
+    case ALLOCB: return given(it, call.y, pool.allocb(call.number, to));
+    case TESTB: return asked(pool.testb(call.number, to));
+    case GETQ: {
+        std::optional<strm::message> msg = queue.get(to);
+        return msg ? given(it, call.y, std::move(*msg)) : reply_of(NOTHING);
+    }
+    case RMVQ: return given(it, call.y, queue.remove(call.place, to));
+    case FLUSHQ: return queue.flushq(call.flush, to), reply_of(DONE);
+    case FLUSHBAND: return queue.flushband(call.band, call.flush, to), reply_of(DONE);
+    case BCANPUT: return asked(queue.bcanput(call.band, to));
+    case STRQSET: return queue.strqset(call.band, call.hiwat, call.lowat, to), reply_of(DONE);
+    case STRQGET: {
+        const strm_marks marks = queue.strqget(call.band, to);
+        return told(TOLD_MARKS, marks.hiwat, marks.lowat);
+    }
+    case QSIZE: return told(TOLD_SIZE, queue.size(to), 0);
+    case QENABLE: return queue.qenable(to), reply_of(DONE);
+    case NOENABLE: return queue.noenable(to), reply_of(DONE);
+    case ENABLEOK: return queue.enableok(to), reply_of(DONE);
+    case SERVICE: return number(TOLD_QUEUE, pool.next_service(to));
+    case BUFCALL: return told(TOLD_ID, pool.bufcall(call.number, to), 0);
+    case UNBUFCALL: return pool.unbufcall(call.number, to), reply_of(DONE);
+    case READY: return optional(pool.take_ready(to), [](strm_wish wish) { return told(TOLD_READY, wish.id, wish.size); });
+    case CENSUS: {
+        const strm_census census = pool.census(to);
+        return numbers(TOLD_CENSUS, { census.free, census.queued, census.held });
+    }
+    case NAME_AT: return name_told(it, pool.name_at(call.number, to));
+    case QUEUED_AT: {
+        const strm_queued queued = queue.queued_at(call.place, to);
+        return numbers(TOLD_QUEUED, { queued.head, queued.type, queued.band, queued.bytes, queued.blocks });
+    }
+    case READ_QUEUED:
+        return bytes_told(it, [&](strm::buffer into) { return queue.read_queued(call.place, call.number, into, to); });
+    case FIRST_QUEUED: return number(TOLD_HEAD, queue.first_queued(to));
+    case QUEUED_AFTER: return number(TOLD_HEAD, pool.queued_after(call.number, to));
+    case QUEUE_SPEC: {
+        const strm_queue_spec spec = queue.spec(to);
+        return numbers(TOLD_SPEC, { spec.hiwat, spec.lowat, spec.service, spec.next });
+    }
+    case ALLOCB_N: case GETQ_N: return gave_many(it, call, to);
+    default: return took_many(it, call, to);
+    }
+}
+
+// Does a call that takes a message.
+reply apply_to_message(lent& it, lent& other, const call& call, strm::report to) {
+    const strm::bytes octets(reinterpret_cast<const std::byte*>(call.octets), call.length);
+    strm::queue queue = it.pool.queue(call.queue);
+    strm::message& x = it.take(call.x);
+
+    switch (call.verb) {
+    case DUPB: return given(it, call.y, x.dupb(to));
+    case DUPMSG: return given(it, call.y, x.dupmsg(to));
+    case COPYB: return given(it, call.y, x.copyb(to));
+    case COPYMSG: return given(it, call.y, x.copymsg(to));
+    case WRITE: return x.write(call.place, octets, to), reply_of(DONE);
+    case SETTYPE: return x.settype(call.place, call.type, to), reply_of(DONE);
+    case SETBAND: return x.setband(call.band, to), reply_of(DONE);
+    case LINKB: return x.linkb(std::move(it.take(call.z)), to), reply_of(DONE);
+    case UNLINKB: return given(it, call.y, x.unlinkb(to));
+    case RMVB: return given(it, call.y, x.rmvb(call.place, to));
+    case ADJMSG: return x.adjmsg(call.count, to), reply_of(DONE);
+    case PULLUPMSG: return x.pullupmsg(call.count, to), reply_of(DONE);
+    case MSGDSIZE: return told(TOLD_SIZE, x.msgdsize(to), 0);
+    case SIZE: return told(TOLD_SIZE, x.size(to), 0);
+    case READ: return bytes_told(it, [&](strm::buffer into) { return x.read(call.place, into, to); });
+    case BLOCK: {
+        const strm_block_info info = x.block(call.place, to);
+        return told_block(&info);
+    }
+    case FREEB: return x.freeb(to), reply_of(DONE);
+    case FREEMSG: return x.freemsg(to), reply_of(DONE);
+    case PUTQ: return queue.put(std::move(x), to), reply_of(DONE);
+    case PUTBQ: return queue.put_back(std::move(x), to), reply_of(DONE);
+    case INSQ: return queue.insert(call.place, std::move(x), to), reply_of(DONE);
+    case BLOCKS: return blocks_told(x, call, to);
+    case BYTES: return block_bytes_told(x.bytes(call.place, to));
+    case IOV: return iov_told(it, x, call, to);
+    case PLACE: {
+        const strm_block_place where = x.place(call.place, to);
+        return numbers(TOLD_PLACE, { where.data, where.at, where.length, where.capacity });
+    }
+    case OVERWRITE: return x.overwrite(call.place, octets, to), reply_of(DONE);
+    case RESERVE: return x.reserve(call.place, call.number, to), reply_of(DONE);
+    case PREPEND: return x.prepend(octets, to), reply_of(DONE);
+    case ADVANCE: return x.advance(call.place, call.number, to), reply_of(DONE);
+    default: return given(other, call.y, x.transfer(other.pool, to));
+    }
+}
+
+// The reply of a call that was refused. The model gives no refusal of arguments.
+reply refused_by(lent& it, std::error_code code) {
+    it.refused();
+    if (code == strm::refusal::invalid)
+        return reply_of(EMPTY);
+    it.must(code.category() == strm::category() && code.value() > 0);
+    return refused(code.value());
+}
+
+}  // namespace
+
+struct reply face_apply(struct face* face, struct face* other, const struct call* call) {
+    static unsigned long calls;
+    lent own(*face), another(*other);
+    std::error_code code;
+    reply reply = reply_of(NOTHING);
+    const auto apply = [&](strm::report to) {
+        return std::strchr(forms[call->verb].names, 'x') == nullptr ? apply_to_pool(own, *call, to) : apply_to_message(own, another, *call, to);
+    };
+
+    if (calls++ % 2 == 0) {
+        reply = apply(code);
+    } else {
+        try {
+            reply = apply({});
+        } catch (const std::system_error& refusal) {
+            code = refusal.code();
+        }
+    }
+    return code ? refused_by(own, code) : reply;
+}
