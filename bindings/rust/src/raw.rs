@@ -1,0 +1,314 @@
+//! The calls of strm.h, and all unsafe code of the crate.
+//!
+//! A `safe fn` below keeps each promise of strm.h by its types: a reference leads to one object, which nothing else writes during the call; a look
+//! takes `&Handle`, and any other call `&mut Handle`. Only `open` and `Pool::from_handle` make a handle that is not closed, and no handle is copied.
+#![allow(unsafe_code)]
+
+use core::ffi::{c_char, c_int, c_void, CStr};
+use core::marker::PhantomData;
+use core::ops::Deref;
+use core::slice;
+
+use crate::{BlockInfo, BlockPlace, Census, ClassInfo, ClassSpec, Config, Marks, Message, Name, Pool, Queued, Wish};
+
+/// A pool's handle, as `struct strm_pool` of strm.h.
+#[derive(Debug)]
+#[repr(C)]
+pub struct Handle {
+    /// The pool.
+    pub at: *mut c_void,
+    /// `STRM_POOL_OPEN`, if the handle is open.
+    pub state: usize,
+}
+
+// SAFETY: a pool is memory of malloc, which is tied to no thread.
+unsafe impl Send for Handle {}
+// SAFETY: by `&Handle` there are only looks, and strm.h lets these run at the same time.
+unsafe impl Sync for Handle {}
+
+impl Handle {
+    pub(crate) const CLOSED: Handle = Handle { at: core::ptr::null_mut(), state: 0 };
+}
+
+/// Bytes of a message block in place, as a slice.
+#[derive(Clone, Copy, Debug)]
+#[repr(C)]
+pub struct Iov<'pool> {
+    base: *const u8,
+    length: usize,
+    of: PhantomData<&'pool [u8]>,
+}
+
+// SAFETY: it is a shared slice.
+unsafe impl Send for Iov<'_> {}
+// SAFETY: it is a shared slice.
+unsafe impl Sync for Iov<'_> {}
+
+impl Default for Iov<'_> {
+    fn default() -> Self {
+        let none: &[u8] = &[];
+        Iov { base: none.as_ptr(), length: 0, of: PhantomData }
+    }
+}
+
+impl Deref for Iov<'_> {
+    type Target = [u8];
+
+    fn deref(&self) -> &[u8] {
+        // SAFETY: only `default` and `strm_iov` make one. The bytes stay until a call by `&mut Pool`, which `'pool` excludes.
+        unsafe { slice::from_raw_parts(self.base, self.length) }
+    }
+}
+
+#[derive(Clone, Copy, Default)]
+#[repr(C)]
+pub(crate) struct QueueSpec {
+    pub hiwat: u32,
+    pub lowat: u32,
+    pub service: u32,
+    pub next: u32,
+}
+
+#[derive(Default)]
+#[repr(C)]
+pub(crate) struct QueueInfo {
+    pub msgs: u32,
+    pub bytes: u32,
+    pub read: u32,
+    pub noenable: u32,
+    pub enabled: u32,
+}
+
+#[derive(Default)]
+#[repr(C)]
+pub(crate) struct BandInfo {
+    pub bytes: u32,
+    pub full: u32,
+    pub wanted: u32,
+}
+
+#[repr(C)]
+pub(crate) struct RawConfig {
+    id: u32,
+    mblks: u32,
+    classes: *const ClassSpec,
+    class_count: usize,
+    queues: *const QueueSpec,
+    queue_count: usize,
+    bufcalls: u32,
+    first_id: u32,
+}
+
+// SAFETY: these are the declarations of strm.h.
+unsafe extern "C" {
+    fn strm_open(pool: &mut Handle, config: &RawConfig) -> c_int;
+    fn strm_memory(config: &RawConfig, bytes: &mut usize) -> c_int;
+    pub(crate) safe fn strm_close(pool: &mut Handle) -> c_int;
+    pub(crate) safe fn strm_is_open(pool: &Handle) -> c_int;
+    pub(crate) safe fn strm_allocb(pool: &mut Handle, size: u32, msg: &mut Name) -> c_int;
+    pub(crate) safe fn strm_testb(pool: &Handle, size: u32, yes: &mut u32) -> c_int;
+    pub(crate) safe fn strm_dupb(pool: &mut Handle, msg: Name, copy: &mut Name) -> c_int;
+    pub(crate) safe fn strm_dupmsg(pool: &mut Handle, msg: Name, copy: &mut Name) -> c_int;
+    pub(crate) safe fn strm_copyb(pool: &mut Handle, msg: Name, copy: &mut Name) -> c_int;
+    pub(crate) safe fn strm_copymsg(pool: &mut Handle, msg: Name, copy: &mut Name) -> c_int;
+    pub(crate) safe fn strm_freeb(pool: &mut Handle, msg: Name, rest: &mut Name) -> c_int;
+    pub(crate) safe fn strm_freemsg(pool: &mut Handle, msg: Name) -> c_int;
+    fn strm_write(pool: &mut Handle, msg: Name, place: u32, bytes: *const c_void, length: usize) -> c_int;
+    fn strm_read(pool: &Handle, msg: Name, at: u32, into: *mut c_void, length: usize, count: &mut usize) -> c_int;
+    pub(crate) safe fn strm_settype(pool: &mut Handle, msg: Name, place: u32, r#type: u32) -> c_int;
+    pub(crate) safe fn strm_setband(pool: &mut Handle, msg: Name, band: u32) -> c_int;
+    pub(crate) safe fn strm_size(pool: &Handle, msg: Name, bytes: &mut u32) -> c_int;
+    pub(crate) safe fn strm_msgdsize(pool: &Handle, msg: Name, bytes: &mut u32) -> c_int;
+    pub(crate) safe fn strm_block(pool: &Handle, msg: Name, place: u32, block: &mut BlockInfo) -> c_int;
+    fn strm_blocks(pool: &Handle, msg: Name, from: u32, into: *mut BlockInfo, length: usize, count: &mut usize) -> c_int;
+    pub(crate) safe fn strm_has(pool: &Handle, msg: Name, yes: &mut u32) -> c_int;
+    pub(crate) safe fn strm_name_at(pool: &Handle, head: u32, msg: &mut Name) -> c_int;
+    fn strm_bytes(pool: &Handle, msg: Name, place: u32, bytes: &mut *const u8, length: &mut usize) -> c_int;
+    fn strm_iov(pool: &Handle, msg: Name, from: u32, into: *mut Iov<'_>, length: usize, count: &mut usize) -> c_int;
+    pub(crate) safe fn strm_place(pool: &Handle, msg: Name, place: u32, r#where: &mut BlockPlace) -> c_int;
+    fn strm_overwrite(pool: &mut Handle, msg: Name, at: u32, bytes: *const c_void, length: usize) -> c_int;
+    pub(crate) safe fn strm_reserve(pool: &mut Handle, msg: Name, place: u32, count: u32) -> c_int;
+    fn strm_prepend(pool: &mut Handle, msg: Name, bytes: *const c_void, length: usize) -> c_int;
+    pub(crate) safe fn strm_advance(pool: &mut Handle, msg: Name, place: u32, count: u32) -> c_int;
+    pub(crate) safe fn strm_same_msg(a: Name, b: Name) -> c_int;
+    pub(crate) safe fn strm_is_no_msg(msg: Name) -> c_int;
+    pub(crate) safe fn strm_linkb(pool: &mut Handle, msg: Name, tail: Name) -> c_int;
+    pub(crate) safe fn strm_unlinkb(pool: &mut Handle, msg: Name, rest: &mut Name) -> c_int;
+    pub(crate) safe fn strm_rmvb(pool: &mut Handle, msg: Name, place: u32, block: &mut Name, rest: &mut Name) -> c_int;
+    pub(crate) safe fn strm_adjmsg(pool: &mut Handle, msg: Name, count: i32) -> c_int;
+    pub(crate) safe fn strm_pullupmsg(pool: &mut Handle, msg: Name, count: i32) -> c_int;
+    pub(crate) safe fn strm_transfer(pool: &mut Handle, other: &mut Handle, msg: Name, moved: &mut Name) -> c_int;
+    pub(crate) safe fn strm_putq(pool: &mut Handle, queue: u32, msg: Name) -> c_int;
+    pub(crate) safe fn strm_putbq(pool: &mut Handle, queue: u32, msg: Name) -> c_int;
+    pub(crate) safe fn strm_insq(pool: &mut Handle, queue: u32, place: u32, msg: Name) -> c_int;
+    pub(crate) safe fn strm_getq(pool: &mut Handle, queue: u32, msg: &mut Name) -> c_int;
+    pub(crate) safe fn strm_rmvq(pool: &mut Handle, queue: u32, place: u32, msg: &mut Name) -> c_int;
+    pub(crate) safe fn strm_qsize(pool: &Handle, queue: u32, msgs: &mut u32) -> c_int;
+    pub(crate) safe fn strm_queued_at(pool: &Handle, queue: u32, place: u32, queued: &mut Queued) -> c_int;
+    fn strm_read_queued(pool: &Handle, queue: u32, place: u32, at: u32, into: *mut c_void, length: usize, count: &mut usize) -> c_int;
+    pub(crate) safe fn strm_first_queued(pool: &Handle, queue: u32, head: &mut u32) -> c_int;
+    pub(crate) safe fn strm_queued_after(pool: &Handle, head: u32, after: &mut u32) -> c_int;
+    pub(crate) safe fn strm_flushq(pool: &mut Handle, queue: u32, flush: u32) -> c_int;
+    pub(crate) safe fn strm_flushband(pool: &mut Handle, queue: u32, band: u32, flush: u32) -> c_int;
+    fn strm_allocb_n(pool: &mut Handle, size: u32, msgs: *mut Message, length: usize, count: &mut usize) -> c_int;
+    fn strm_freemsg_n(pool: &mut Handle, msgs: *const Message, length: usize, count: &mut usize) -> c_int;
+    fn strm_putq_n(pool: &mut Handle, queue: u32, msgs: *const Message, length: usize, count: &mut usize) -> c_int;
+    fn strm_getq_n(pool: &mut Handle, queue: u32, msgs: *mut Message, length: usize, count: &mut usize) -> c_int;
+    pub(crate) safe fn strm_bcanput(pool: &mut Handle, queue: u32, band: u32, yes: &mut u32) -> c_int;
+    pub(crate) safe fn strm_strqset(pool: &mut Handle, queue: u32, band: u32, hiwat: u32, lowat: u32) -> c_int;
+    pub(crate) safe fn strm_strqget(pool: &Handle, queue: u32, band: u32, marks: &mut Marks) -> c_int;
+    pub(crate) safe fn strm_qenable(pool: &mut Handle, queue: u32) -> c_int;
+    pub(crate) safe fn strm_noenable(pool: &mut Handle, queue: u32) -> c_int;
+    pub(crate) safe fn strm_enableok(pool: &mut Handle, queue: u32) -> c_int;
+    pub(crate) safe fn strm_next_service(pool: &mut Handle, queue: &mut u32) -> c_int;
+    pub(crate) safe fn strm_run_at(pool: &Handle, place: u32, queue: &mut u32) -> c_int;
+    pub(crate) safe fn strm_bufcall(pool: &mut Handle, size: u32, id: &mut u32) -> c_int;
+    pub(crate) safe fn strm_unbufcall(pool: &mut Handle, id: u32) -> c_int;
+    pub(crate) safe fn strm_take_ready(pool: &mut Handle, wish: &mut Wish) -> c_int;
+    pub(crate) safe fn strm_wish_at(pool: &Handle, place: u32, wish: &mut Wish) -> c_int;
+    pub(crate) safe fn strm_queue_spec(pool: &Handle, queue: u32, spec: &mut QueueSpec) -> c_int;
+    pub(crate) safe fn strm_census(pool: &Handle, census: &mut Census) -> c_int;
+    pub(crate) safe fn strm_class_info(pool: &Handle, place: u32, info: &mut ClassInfo) -> c_int;
+    pub(crate) safe fn strm_queue_info(pool: &Handle, queue: u32, info: &mut QueueInfo) -> c_int;
+    pub(crate) safe fn strm_band_info(pool: &Handle, queue: u32, band: u32, info: &mut BandInfo) -> c_int;
+    safe fn strm_error(code: c_int) -> *const c_char;
+    fn strm_name(code: c_int, text: *mut c_char, length: usize) -> usize;
+    fn strm_version(text: *mut c_char, length: usize) -> usize;
+}
+
+/// Has a call read a configuration.
+fn with_config(config: &Config, call: impl FnOnce(&RawConfig) -> c_int) -> c_int {
+    let mut queues = [QueueSpec::default(); 16];
+    for (into, from) in queues.iter_mut().zip(config.queues) {
+        *into = (*from).into();
+    }
+    call(&RawConfig {
+        id: config.id,
+        mblks: config.mblks,
+        classes: config.classes.as_ptr(),
+        class_count: config.classes.len(),
+        queues: queues.as_ptr(),
+        queue_count: config.queues.len(),
+        bufcalls: config.bufcalls,
+        first_id: config.first_id,
+    })
+}
+
+pub(crate) fn open(handle: &mut Handle, config: &Config) -> c_int {
+    // SAFETY: the arrays have as many items as their counts say; strm_open refuses more than 16 queues before it reads them.
+    with_config(config, |raw| unsafe { strm_open(handle, raw) })
+}
+
+pub(crate) fn memory(config: &Config, bytes: &mut usize) -> c_int {
+    // SAFETY: as in `open`.
+    with_config(config, |raw| unsafe { strm_memory(raw, bytes) })
+}
+
+#[inline]
+pub(crate) fn write(pool: &mut Handle, msg: Name, place: u32, bytes: &[u8]) -> c_int {
+    // SAFETY: the pointer and the length are those of a slice. It is none of this pool, since `&mut Handle` ends all slices of `bytes`.
+    unsafe { strm_write(pool, msg, place, bytes.as_ptr().cast(), bytes.len()) }
+}
+
+#[inline]
+pub(crate) fn overwrite(pool: &mut Handle, msg: Name, at: u32, bytes: &[u8]) -> c_int {
+    // SAFETY: as in `write`.
+    unsafe { strm_overwrite(pool, msg, at, bytes.as_ptr().cast(), bytes.len()) }
+}
+
+#[inline]
+pub(crate) fn prepend(pool: &mut Handle, msg: Name, bytes: &[u8]) -> c_int {
+    // SAFETY: as in `write`.
+    unsafe { strm_prepend(pool, msg, bytes.as_ptr().cast(), bytes.len()) }
+}
+
+#[inline]
+pub(crate) fn read(pool: &Handle, msg: Name, at: u32, into: &mut [u8], count: &mut usize) -> c_int {
+    // SAFETY: the pointer and the length are those of a slice that nothing else uses.
+    unsafe { strm_read(pool, msg, at, into.as_mut_ptr().cast(), into.len(), count) }
+}
+
+#[inline]
+pub(crate) fn read_queued(pool: &Handle, queue: u32, place: u32, at: u32, into: &mut [u8], count: &mut usize) -> c_int {
+    // SAFETY: as in `read`.
+    unsafe { strm_read_queued(pool, queue, place, at, into.as_mut_ptr().cast(), into.len(), count) }
+}
+
+#[inline]
+pub(crate) fn blocks(pool: &Handle, msg: Name, from: u32, into: &mut [BlockInfo], count: &mut usize) -> c_int {
+    // SAFETY: as in `read`; the call stores numbers only.
+    unsafe { strm_blocks(pool, msg, from, into.as_mut_ptr(), into.len(), count) }
+}
+
+#[inline]
+pub(crate) fn iov<'pool>(pool: &'pool Handle, msg: Name, from: u32, into: &mut [Iov<'pool>], count: &mut usize) -> c_int {
+    // SAFETY: as in `read`; what the call stores are bytes of the pool, which stay for `'pool`.
+    unsafe { strm_iov(pool, msg, from, into.as_mut_ptr(), into.len(), count) }
+}
+
+/// The bytes of a block in place. They are the pool's until the next call by `&mut Handle`, as strm.h says.
+#[inline]
+pub(crate) fn bytes(pool: &Handle, msg: Name, place: u32) -> Result<&[u8], c_int> {
+    let (mut first, mut length) = (core::ptr::null(), 0);
+    // SAFETY: both places are variables.
+    match unsafe { strm_bytes(pool, msg, place, &mut first, &mut length) } {
+        // SAFETY: the call was done, so the pointer is not null and leads to that many bytes, which no look changes.
+        0 => Ok(unsafe { slice::from_raw_parts(first, length) }),
+        code => Err(code),
+    }
+}
+
+#[inline]
+pub(crate) fn allocb_n(pool: &mut Handle, size: u32, into: &mut [Message], count: &mut usize) -> c_int {
+    // SAFETY: as in `read`; a message is a name.
+    unsafe { strm_allocb_n(pool, size, into.as_mut_ptr(), into.len(), count) }
+}
+
+#[inline]
+pub(crate) fn getq_n(pool: &mut Handle, queue: u32, into: &mut [Message], count: &mut usize) -> c_int {
+    // SAFETY: as in `read`; a message is a name.
+    unsafe { strm_getq_n(pool, queue, into.as_mut_ptr(), into.len(), count) }
+}
+
+#[inline]
+pub(crate) fn freemsg_n(pool: &mut Handle, from: &[Message], count: &mut usize) -> c_int {
+    // SAFETY: as in `write`; a message is a name.
+    unsafe { strm_freemsg_n(pool, from.as_ptr(), from.len(), count) }
+}
+
+#[inline]
+pub(crate) fn putq_n(pool: &mut Handle, queue: u32, from: &[Message], count: &mut usize) -> c_int {
+    // SAFETY: as in `write`; a message is a name.
+    unsafe { strm_putq_n(pool, queue, from.as_ptr(), from.len(), count) }
+}
+
+/// The text of a code.
+pub(crate) fn text_of(code: c_int) -> &'static str {
+    // SAFETY: the text ends with a 0, and stays as long as the library is loaded.
+    unsafe { CStr::from_ptr(strm_error(code)) }.to_str().unwrap_or("")
+}
+
+/// The name of a code, in the buffer.
+pub(crate) fn name_of(code: c_int, text: &mut [u8; 32]) -> &str {
+    // SAFETY: the pointer and the length are those of the buffer.
+    let length = unsafe { strm_name(code, text.as_mut_ptr().cast(), text.len()) };
+    core::str::from_utf8(&text[..length]).unwrap_or("")
+}
+
+/// The version of the library, in the buffer.
+pub(crate) fn version(text: &mut [u8; 32]) -> &str {
+    // SAFETY: the pointer and the length are those of the buffer.
+    let length = unsafe { strm_version(text.as_mut_ptr().cast(), text.len()) };
+    core::str::from_utf8(&text[..length]).unwrap_or("")
+}
+
+impl Pool {
+    /// Takes over a handle that C opened, or returns `None` if it is not open.
+    ///
+    /// # Safety
+    ///
+    /// The handle was not changed since strm_open, and is used nowhere else from now on.
+    pub unsafe fn from_handle(handle: Handle) -> Option<Pool> {
+        (strm_is_open(&handle) == 1).then_some(Pool { handle })
+    }
+}

@@ -1,0 +1,340 @@
+//! Does the drawn calls of tests/c/drawn.c through the crate of bindings/rust. It takes the place of tests/c/face.c.
+use std::ffi::{c_char, c_int, CStr};
+
+use strm::{BlockInfo, Flush, Handle, Iov, Marks, Message, MsgType, Name, Pool, Refusal, Rejected};
+
+const REGISTERS: usize = 26;
+const MOST_OCTETS: usize = 64;
+const MOST_ITEMS: usize = 4;
+const UNTOUCHED: u8 = 0xA5;
+
+// The kinds of replies, as enum kind of calls.h has them.
+const DONE: u32 = 0;
+const YES: u32 = 1;
+const NO: u32 = 2;
+const NOTHING: u32 = 3;
+const EMPTY: u32 = 4;
+const TOLD_SIZE: u32 = 6;
+const TOLD_BYTES: u32 = 7;
+const TOLD_BLOCK: u32 = 8;
+const TOLD_ID: u32 = 9;
+const TOLD_READY: u32 = 10;
+const TOLD_QUEUE: u32 = 11;
+const TOLD_MARKS: u32 = 12;
+const TOLD_CENSUS: u32 = 13;
+const TOLD_BLOCKS: u32 = 14;
+const TOLD_NAME: u32 = 15;
+const TOLD_IOV: u32 = 16;
+const TOLD_PLACE: u32 = 17;
+const TOLD_QUEUED: u32 = 18;
+const TOLD_HEAD: u32 = 19;
+const TOLD_SPEC: u32 = 20;
+const TOLD_COUNT: u32 = 21;
+const REFUSED: u32 = 22;
+
+#[repr(C)]
+pub struct Form {
+    word: *const c_char,
+    names: *const c_char,
+}
+
+#[repr(C)]
+pub struct Face {
+    pool: Handle,
+    registers: [Name; REGISTERS],
+    holds: [c_int; REGISTERS],
+    broken: c_int,
+}
+
+#[repr(C)]
+pub struct Call {
+    verb: u32,
+    x: c_int,
+    y: c_int,
+    z: c_int,
+    queue: u32,
+    place: u32,
+    band: u32,
+    number: u32,
+    r#type: u32,
+    flush: u32,
+    hiwat: u32,
+    lowat: u32,
+    length: u32,
+    items: u32,
+    count: i32,
+    many: [c_int; MOST_ITEMS],
+    octets: [u8; MOST_OCTETS],
+}
+
+#[repr(C)]
+pub struct Reply {
+    kind: u32,
+    numbers: [u32; 1 + 5 * MOST_ITEMS],
+    octets: [u8; MOST_OCTETS],
+}
+
+extern "C" {
+    static forms: Form;
+}
+
+/// Why there is no reply.
+enum Fault {
+    Refused(Refusal),
+    Broken,
+}
+
+impl From<Refusal> for Fault {
+    fn from(why: Refusal) -> Fault {
+        Fault::Refused(why)
+    }
+}
+
+type Told = Result<Reply, Fault>;
+
+fn told(kind: u32, numbers: &[u32]) -> Reply {
+    let mut reply = Reply { kind, numbers: [0; 1 + 5 * MOST_ITEMS], octets: [0; MOST_OCTETS] };
+    reply.numbers[..numbers.len()].copy_from_slice(numbers);
+    reply
+}
+
+fn done((): ()) -> Reply {
+    told(DONE, &[])
+}
+
+fn asked(yes: bool) -> Reply {
+    told(if yes { YES } else { NO }, &[])
+}
+
+fn optional<T>(found: Option<T>, told_of: impl FnOnce(T) -> Reply) -> Reply {
+    found.map_or(told(NOTHING, &[]), told_of)
+}
+
+fn must(holds: bool) -> Result<(), Fault> {
+    if holds { Ok(()) } else { Err(Fault::Broken) }
+}
+
+fn told_bytes(bytes: &[u8]) -> Reply {
+    let mut reply = told(TOLD_BYTES, &[bytes.len() as u32]);
+    let had = bytes.len().min(MOST_OCTETS);
+    reply.octets[..had].copy_from_slice(&bytes[..had]);
+    reply
+}
+
+/// The bytes that a look copied, which must not touch the buffer after them.
+fn told_read(read: impl FnOnce(&mut [u8]) -> Result<usize, Refusal>) -> Told {
+    let mut bytes = [UNTOUCHED; MOST_OCTETS + 1];
+    let count = read(&mut bytes[..MOST_OCTETS])?;
+    must(bytes[count..].iter().all(|byte| *byte == UNTOUCHED))?;
+    Ok(told_bytes(&bytes[..count]))
+}
+
+fn numbers_of(info: &BlockInfo) -> [u32; 5] {
+    [info.r#type.0, info.length, info.band, info.room, info.names]
+}
+
+impl Face {
+    /// Gives a register a new message.
+    fn put(&mut self, reg: c_int, msg: Message) -> Result<(), Fault> {
+        let at = reg as usize;
+        must(msg.name() != self.registers[at])?;
+        self.registers[at] = msg.into_name();
+        self.holds[at] = 1;
+        Ok(())
+    }
+
+    fn given(&mut self, reg: c_int, msg: Option<Message>) -> Told {
+        match msg {
+            None => Ok(told(NOTHING, &[])),
+            Some(msg) => self.put(reg, msg).map(done),
+        }
+    }
+
+    /// Empties a register whose message was handed over. One that was refused must come back as it was.
+    fn spent<T>(&mut self, reg: c_int, result: Result<T, Rejected>) -> Result<T, Fault> {
+        match result {
+            Ok(it) => {
+                self.holds[reg as usize] = 0;
+                Ok(it)
+            }
+            Err(Rejected { why, message }) => {
+                must(message.into_name() == self.registers[reg as usize])?;
+                Err(Fault::Refused(why))
+            }
+        }
+    }
+
+    fn apply_to_pool(&mut self, pool: &mut Pool, word: &str, call: &Call) -> Told {
+        let Call { queue, place, band, number, .. } = *call;
+        let flush = if call.flush == 0 { Flush::All } else { Flush::Data };
+
+        Ok(match word {
+            "allocb" => return self.put(call.y, pool.allocb(number)?).map(done),
+            "testb" => asked(pool.testb(number)?),
+            "getq" => return { let msg = pool.getq(queue)?; self.given(call.y, msg) },
+            "rmvq" => return self.put(call.y, pool.rmvq(queue, place)?).map(done),
+            "flushq" => done(pool.flushq(queue, flush)?),
+            "flushband" => done(pool.flushband(queue, band, flush)?),
+            "bcanput" => asked(pool.bcanput(queue, band)?),
+            "strqset" => done(pool.strqset(queue, band, Marks { hiwat: call.hiwat, lowat: call.lowat })?),
+            "strqget" => { let marks = pool.strqget(queue, band)?; told(TOLD_MARKS, &[marks.hiwat, marks.lowat]) }
+            "qsize" => told(TOLD_SIZE, &[pool.qsize(queue)?]),
+            "qenable" => done(pool.qenable(queue)?),
+            "noenable" => done(pool.noenable(queue)?),
+            "enableok" => done(pool.enableok(queue)?),
+            "service" => optional(pool.next_service()?, |queue| told(TOLD_QUEUE, &[queue])),
+            "bufcall" => told(TOLD_ID, &[pool.bufcall(number)?]),
+            "unbufcall" => done(pool.unbufcall(number)?),
+            "ready" => optional(pool.take_ready()?, |wish| told(TOLD_READY, &[wish.id, wish.size])),
+            "census" => { let it = pool.census()?; told(TOLD_CENSUS, &[it.free, it.queued, it.held]) }
+            "name_at" => match pool.name_at(number)? {
+                None => told(NOTHING, &[]),
+                Some(name) => {
+                    let reg = (0..REGISTERS).find(|reg| self.holds[*reg] != 0 && self.registers[*reg] == name).ok_or(Fault::Broken)?;
+                    told(TOLD_NAME, &[reg as u32])
+                }
+            },
+            "queued_at" => {
+                let it = pool.queued_at(queue, place)?;
+                must(pool.queued(queue).nth(place as usize) == Some(it))?;
+                told(TOLD_QUEUED, &[it.head, it.r#type.0, it.band, it.bytes, it.blocks])
+            }
+            "read_queued" => told_read(|into| pool.read_queued(queue, place, number, into))?,
+            "first_queued" => optional(pool.first_queued(queue)?, |head| told(TOLD_HEAD, &[head])),
+            "queued_after" => optional(pool.queued_after(number)?, |head| told(TOLD_HEAD, &[head])),
+            "queue_spec" => {
+                let it = pool.queue_spec(queue)?;
+                told(TOLD_SPEC, &[it.hiwat, it.lowat, it.service.into(), it.next.unwrap_or(u32::MAX)])
+            }
+            "allocb_n" | "getq_n" => return self.gave_many(pool, word, call),
+            "freemsg_n" | "putq_n" => return self.took_many(pool, word, call),
+            _ => return Err(Fault::Broken),
+        })
+    }
+
+    /// Registers get messages, beside one that the vector has before.
+    fn gave_many(&mut self, pool: &mut Pool, word: &str, call: &Call) -> Told {
+        let before = Name { pool: 7, head: 7, stamp: 7 };
+        let mut msgs = vec![pool.adopt(before)];
+        let items = call.items as usize;
+        let result = if word == "allocb_n" { pool.allocb_n(call.number, items, &mut msgs) } else { pool.getq_n(call.queue, items, &mut msgs) };
+        must(msgs.len() == 1 + *result.as_ref().unwrap_or(&0) && msgs.remove(0).into_name() == before)?;
+        let count = result?;
+        for (msg, reg) in msgs.into_iter().zip(call.many) {
+            self.put(reg, msg)?;
+        }
+        Ok(if word == "getq_n" && items > 0 && count == 0 { told(NOTHING, &[]) } else { told(TOLD_COUNT, &[count as u32]) })
+    }
+
+    fn took_many(&mut self, pool: &mut Pool, word: &str, call: &Call) -> Told {
+        let regs: Vec<usize> = call.many[..call.items as usize].iter().map(|reg| *reg as usize).collect();
+        let mut msgs: Vec<Message> = regs.iter().map(|reg| pool.adopt(self.registers[*reg])).collect();
+        let result = if word == "freemsg_n" { pool.freemsg_n(&mut msgs) } else { pool.putq_n(call.queue, &mut msgs) };
+        let count = *result.as_ref().unwrap_or(&0);
+        must(msgs.into_iter().map(Message::into_name).eq(regs[count..].iter().map(|reg| self.registers[*reg])))?;
+        for reg in &regs[..count] {
+            self.holds[*reg] = 0;
+        }
+        Ok(told(TOLD_COUNT, &[result? as u32]))
+    }
+
+    fn apply_to_message(&mut self, pool: &mut Pool, other: &mut Face, word: &str, call: &Call) -> Told {
+        let Call { queue, place, number, .. } = *call;
+        let octets = &call.octets[..call.length as usize];
+        let x = pool.adopt(self.registers[call.x as usize]);
+
+        Ok(match word {
+            "dupb" => return self.put(call.y, pool.dupb(&x)?).map(done),
+            "dupmsg" => return self.put(call.y, pool.dupmsg(&x)?).map(done),
+            "copyb" => return self.put(call.y, pool.copyb(&x)?).map(done),
+            "copymsg" => return self.put(call.y, pool.copymsg(&x)?).map(done),
+            "write" => done(pool.write(&x, place, octets)?),
+            "settype" => done(pool.settype(&x, place, MsgType(call.r#type))?),
+            "setband" => done(pool.setband(&x, call.band)?),
+            "linkb" => { let tail = pool.adopt(self.registers[call.z as usize]); done(self.spent(call.z, pool.linkb(&x, tail))?) }
+            "unlinkb" => return { let rest = pool.unlinkb(&x)?; self.given(call.y, rest) },
+            "rmvb" => {
+                let (block, rest) = self.spent(call.x, pool.rmvb(x, place))?;
+                rest.map_or(Ok(()), |rest| self.put(call.x, rest))?;
+                return self.put(call.y, block).map(done);
+            }
+            "adjmsg" => done(pool.adjmsg(&x, call.count)?),
+            "pullupmsg" => done(pool.pullupmsg(&x, call.count)?),
+            "msgdsize" => told(TOLD_SIZE, &[pool.msgdsize(&x)?]),
+            "size" => told(TOLD_SIZE, &[pool.size(&x)?]),
+            "read" => told_read(|into| pool.read(&x, place, into))?,
+            "block" => told(TOLD_BLOCK, &numbers_of(&pool.block(&x, place)?)),
+            "freeb" => { let rest = self.spent(call.x, pool.freeb(x))?; done(rest.map_or(Ok(()), |rest| self.put(call.x, rest))?) }
+            "freemsg" => done(self.spent(call.x, pool.freemsg(x))?),
+            "putq" => done(self.spent(call.x, pool.putq(queue, x))?),
+            "putbq" => done(self.spent(call.x, pool.putbq(queue, x))?),
+            "insq" => done(self.spent(call.x, pool.insq(queue, place, x))?),
+            "blocks" => {
+                let mut infos = [BlockInfo::default(); MOST_ITEMS];
+                let count = pool.block_infos(&x, place, &mut infos[..call.items as usize])?;
+                must(pool.blocks(&x).skip(place as usize).take(count).map(|(info, _)| info).eq(infos[..count].iter().copied()))?;
+                let numbers: Vec<u32> = std::iter::once(count as u32).chain(infos[..count].iter().flat_map(numbers_of)).collect();
+                told(TOLD_BLOCKS, &numbers)
+            }
+            "bytes" => told_bytes(pool.bytes(&x, place)?),
+            "iov" => {
+                let mut iov = [Iov::default(); MOST_ITEMS];
+                let count = pool.iov(&x, place, &mut iov[..call.items as usize])?;
+                must(pool.blocks(&x).skip(place as usize).take(count).map(|(_, bytes)| bytes).eq(iov[..count].iter().map(|iov| &**iov)))?;
+                let numbers: Vec<u32> = std::iter::once(count as u32).chain(iov[..count].iter().map(|iov| iov.len() as u32)).collect();
+                let mut reply = told(TOLD_IOV, &numbers);
+                for (into, byte) in reply.octets.iter_mut().zip(iov[..count].iter().flat_map(|iov| iov.iter())) {
+                    *into = *byte;
+                }
+                reply
+            }
+            "place" => { let it = pool.place(&x, place)?; told(TOLD_PLACE, &[it.data, it.at, it.length, it.capacity]) }
+            "overwrite" => done(pool.overwrite(&x, place, octets)?),
+            "reserve" => done(pool.reserve(&x, place, number)?),
+            "prepend" => done(pool.prepend(&x, octets)?),
+            "advance" => done(pool.advance(&x, place, number)?),
+            "transfer" => {
+                let mut into = other.lend();
+                let moved = self.spent(call.x, pool.transfer(&mut into, x));
+                other.pool = into.into_handle();
+                return other.put(call.y, moved?).map(done);
+            }
+            _ => return Err(Fault::Broken),
+        })
+    }
+
+    /// The pool of the handle, which is back in the face once the call was done.
+    fn lend(&mut self) -> Pool {
+        let closed = Handle { at: std::ptr::null_mut(), state: 0 };
+        // SAFETY: drawn.c opened the handle, and the face has none meanwhile.
+        unsafe { Pool::from_handle(std::mem::replace(&mut self.pool, closed)) }.expect("drawn.c opened it")
+    }
+}
+
+/// # Safety
+///
+/// The pointers lead to what drawn.c has there: two faces, or one twice, and a call.
+#[no_mangle]
+pub unsafe extern "C" fn face_apply(face: *mut Face, other: *mut Face, call: *const Call) -> Reply {
+    let (call, form) = (&*call, &*(&raw const forms).add((*call).verb as usize));
+    let (word, names) = (CStr::from_ptr(form.word).to_str().unwrap(), CStr::from_ptr(form.names).to_str().unwrap());
+    let face = &mut *face;
+    let mut pool = face.lend();
+    let told_of = if names.contains('w') {
+        face.apply_to_message(&mut pool, &mut *other, word, call)
+    } else if names.contains('x') {
+        let mut none = Face { pool: Handle { at: std::ptr::null_mut(), state: 0 }, registers: [Name::default(); REGISTERS], holds: [0; REGISTERS], broken: 0 };
+        face.apply_to_message(&mut pool, &mut none, word, call)
+    } else {
+        face.apply_to_pool(&mut pool, word, call)
+    };
+    face.pool = pool.into_handle();
+    told_of.unwrap_or_else(|fault| match fault {
+        Fault::Refused(Refusal::Invalid) => told(EMPTY, &[]),
+        Fault::Refused(why) if why.code() > 0 => told(REFUSED, &[why.code() as u32]),
+        _ => {
+            face.broken = 1;
+            told(NOTHING, &[])
+        }
+    })
+}
