@@ -1,0 +1,314 @@
+#!/usr/bin/env python3
+"""Tests bindings/python over the library that STRM_LIBRARY names. With files of tests/c/drawn.c, the pool does the calls of SCRIPT, and must give the
+replies of TEXT. Without, it tests what the binding adds to the calls of strm.h, and if Debian's hypothesis is there, drawn lines beside the plain model
+of the tools. The last line is 'N passed, M failed'.
+
+    tests/bindings/each.py [SCRIPT TEXT]
+"""
+import gc
+import os
+import sys
+import threading
+
+TOP = os.path.dirname(os.path.dirname(os.path.dirname(os.path.abspath(__file__))))
+sys.path[:0] = [os.path.join(TOP, "tools"), os.path.join(TOP, "bindings", "python")]
+
+import strm  # noqa: E402
+from strm_tools import model, script  # noqa: E402
+
+passed = failed = 0
+
+
+def check(holds, what):
+    """Counts a check."""
+    global passed, failed
+    passed, failed = passed + bool(holds), failed + (not holds)
+    if not holds:
+        print(f"not {what}")
+
+
+def refused(code, call, *args):
+    """Counts whether a call is refused with a code."""
+    try:
+        call(*args)
+    except strm.Refusal as why:
+        check(why.code == code, f"{code.name} but {why.code!r} of {call.__name__}")
+    else:
+        check(False, f"{code.name} of {call.__name__}")
+
+
+# ---- lines of scripts
+
+
+class Player:
+    """A pool and registers, which give the reply of strm to lines of a script."""
+
+    def __init__(self, of):
+        queues = [strm.QueueSpec(high, low, service == "s", 2**32 - 1 if after == "-" else after) for high, low, service, after in of.queues]
+        self.pool = strm.Pool(of.mblks, of.classes, queues, of.bufcalls, of.first_id)
+        self.held = {}
+
+    def reply(self, word, items, values):
+        given = dict(zip(items, values))
+        sources = [value for item, value in zip(items, values) if item == "from"]
+        is_missing = given.get("queue", 0) >= len(self.pool.queues)
+        if not is_missing and len(self.held.keys() & {*sources}) == len(sources) and given.get("to") in self.held:
+            return "taken"
+        try:
+            return self.told(word, sources, given) or "ok"
+        except strm.Refusal as why:
+            if why.code == strm.Code.INVALID:
+                return "refused 11 NoSuchQueue" if is_missing else "empty"
+            return f"refused {why.code:d} {why.code.name.title().replace('_', '')}"
+        finally:
+            self.held = {name: msg for name, msg in self.held.items() if msg.has()}
+
+    def message(self, register):
+        return self.held.get(register) or self.pool.adopt(strm.Name(self.pool.id, 0, 0))
+
+    def told(self, word, sources, given):
+        """The reply to a word, or None for ok."""
+        pool, queue, of_queue = self.pool, strm.Queue(self.pool, given.get("queue", 0)), "put putb ins get rmv flush".split()
+        x, *rest = [*map(self.message, sources), None]
+        flag = strm.Flush[given.get("flag", "all").upper()]
+        if word in ("allocb", "dupb", "dupmsg", "copyb", "copymsg", "unlinkb", "rmvb", "getq", "rmvq"):
+            made = (
+                pool.allocb(given["size"]) if word == "allocb" else x.rmvb(given["block"]) if word == "rmvb" else queue.get() if word == "getq"
+                else queue.remove(given["place"]) if word == "rmvq" else getattr(x, word)()
+            )  # fmt: skip
+            if made is None:
+                return "none"
+            self.held[given["to"]] = made
+            return None
+        if word == "write":
+            return x.write(given["block"], given["octets"])
+        if word == "settype":
+            return x.settype(given["block"], strm.MsgType[given["kind"]])
+        if word == "setband":
+            return x.setband(given["band"])
+        if word == "linkb":
+            return x.linkb(rest[0])
+        if word in ("adjmsg", "pullupmsg"):
+            return getattr(x, word)(given["count"])
+        if word in ("msgdsize", "size"):
+            return f"size {getattr(x, word)()}"
+        if word == "read":
+            return f"bytes {x.read(given['at'], 64).hex() or '-'}"  # as many as drawn.c has
+        if word == "block":
+            told = x.block(given["block"])
+            return f"block {strm.MsgType(told.type).name} len={told.length} band={told.band} room={told.room} names={told.names}"
+        if word in ("freeb", "freemsg"):
+            return getattr(x, word)()
+        if word in ("putq", "putbq"):
+            return (queue.put if word == "putq" else queue.put_back)(x)
+        if word == "insq":
+            return queue.insert(given["place"], x)
+        if word == "flushq":
+            return queue.flushq(flag)
+        if word == "flushband":
+            return queue.flushband(given["band"], flag)
+        if word in ("testb", "bcanput"):
+            return "yes" if (pool.testb(given["size"]) if word == "testb" else queue.bcanput(given["band"])) else "no"
+        if word == "strqset":
+            return queue.strqset(given["marked"], given["high"], given["low"])
+        if word == "strqget":
+            return "marks {} {}".format(*queue.strqget(given["marked"]))
+        if word == "qsize":
+            return f"size {queue.size()}"
+        if word in ("qenable", "noenable", "enableok"):
+            return getattr(queue, word)()
+        if word == "service":
+            first = pool.next_service()
+            return f"queue {first.number}" if first else "none"
+        if word == "bufcall":
+            return f"id {pool.bufcall(given['size'])}"
+        if word == "unbufcall":
+            return pool.unbufcall(given["id"])
+        if word == "ready":
+            wish = pool.take_ready()
+            return "ready {} {}".format(*wish) if wish else "none"
+        return "census {} {} {}".format(*pool.census())
+
+    def report(self):
+        """The report of strm, by looks."""
+        pool = self.pool
+        yield "blocks free={} queued={} held={} total={}".format(*pool.census(), sum(pool.census()))
+        for info in iter_until_none(pool.class_info):
+            yield f"data size={info.size} free={info.free} total={info.total}"
+        for queue in pool.queues:
+            info = queue.info()
+            yield f"queue {queue.number} msgs={info.msgs} bytes={info.bytes} read={info.read} noenable={info.noenable} enabled={info.enabled}"
+            for band in reversed(range(256)):
+                of_band = queue.band(band)
+                if of_band.bytes > 0:
+                    yield f"band {band} bytes={of_band.bytes} full={of_band.full} wanted={of_band.wanted}"
+        yield f"run {' '.join(map(str, iter_until_none(pool.run_at))) or '-'}"
+        yield f"wishes {' '.join('{}:{}'.format(*wish) for wish in iter_until_none(pool.wish_at)) or '-'}"
+
+
+def iter_until_none(look):
+    place = 0
+    while (found := look(place)) is not None:
+        yield found
+        place += 1
+
+
+def play(script_text, text):
+    """Counts a script whose replies are right, each 1,000 lines as one."""
+    pool, (section,) = script.lazily(script_text)
+    player = Player(pool)
+    replies = text.splitlines()
+    for start in range(0, len(section), 1000):
+        part = range(start, min(start + 1000, len(section)))
+        wrong = [k for k in part if player.reply(*section[k][1:]) != replies[k]]
+        check(not wrong, f"the reply of strm to call {wrong[:1]}, {[section[k] for k in wrong[:1]]}: {[replies[k] for k in wrong[:1]]}")
+    check(len(replies) == len(section) > 0, "a reply to each line")
+
+
+# ---- what the binding adds
+
+
+def pool_of(**changed):
+    given = {"mblks": 40, "classes": [(8, 40)], "queues": [strm.QueueSpec(64, 16, 1, 1), strm.QueueSpec()]}
+    return strm.Pool(**{**given, **changed})
+
+
+def filled(pool, data):
+    msg = pool.allocb(8)
+    msg.write(0, data)
+    return msg
+
+
+def messages():
+    with pool_of() as pool, pool_of() as other:
+        msg, kept = filled(pool, b"lion"), filled(pool, bytearray(b"wolf"))
+        check(msg.read() == b"lion" and msg.read(1, 2) == b"io" and msg != kept and msg == pool.adopt(msg.name), "two messages")
+        check(repr(msg) == "<Message 0: M_DATA band=0 bytes 6c696f6e>", f"the text of a message: {msg!r}")
+        check(repr(pool) == f"<Pool {pool.id}: free=38 queued=0 held=2>", f"the text of a pool: {pool!r}")
+        pool.queues[0].put(msg)
+        check(repr(msg) == "<Message, spent>" and repr(pool.queues[0]) == "<Queue 0: msgs=1 bytes=4 read=1 noenable=0 enabled=1>", "the text of a queue")
+        check([it.bytes for it in pool.queues[0]] == [4] and pool.queues[0].read_queued(0) == b"lion", "the messages on a queue")
+        check(pool.queued_after(pool.queues[0].first_queued()) is None and pool.run_at(0) == 0, "one message on a queue")
+        for call in (msg.freemsg, msg.size, msg.dupb, msg.unlinkb, msg.freeb):
+            refused(strm.Code.INVALID, call)
+        refused(strm.Code.INVALID, pool.queues[0].put, msg)
+        refused(strm.Code.INVALID, other.queues[0].put, kept)
+        refused(strm.Code.INVALID, kept.linkb, kept)
+        refused(strm.Code.NO_SUCH_BLOCK, kept.block, 1)
+        refused(strm.Code.BAD_ARGUMENT, kept.block, -1)
+        refused(strm.Code.BAD_ARGUMENT, pool.allocb, 2**32 + 1)
+        refused(strm.Code.BAD_ARGUMENT, kept.adjmsg, 2**31)
+        moved = kept.transfer(other)
+        check(moved.read() == b"wolf" and not kept.has() and other.census().held == 1, "a message in another pool")
+        with filled(pool, b"bear") as freed:
+            freed.setband(3)
+        check(not freed.has() and pool.census() == (39, 1, 0), "a message that is freed at the end")
+        with pool.queues[0].get() as passed_on:
+            pool.queues[1].put(passed_on)
+        name = filled(pool, b"leak").name
+        check([*pool.leaked()] == [name] and pool.adopt(name).read() == b"leak", "a message that leaked")
+        first = filled(pool, b"ab")
+        first.linkb(filled(pool, b"cd"))
+        first.prepend(b"") or first.overwrite(1, b"BC")
+        check([bytes(part) for part in first.iov()] == [b"aB", b"Cd"] and [it.length for it in first.blocks()] == [2, 2], "the bytes of blocks")
+        check(first.place(1).capacity == 8 and first.rmvb(0).read() == b"aB" and first.read() == b"Cd", "a block that is taken out")
+        check(first.unlinkb() is None and first.freeb() is None and not first.has(), "the last block")
+    refused(strm.Code.NOT_OPEN, pool.allocb, 1)
+    check("closed" in repr(pool) and "closed" in repr(pool.queues[0]) and repr(name and moved) == "<Message, spent>", "texts after the end")
+
+
+def bytes_in_place():
+    with pool_of() as pool:
+        msg = filled(pool, b"lion")
+        view = msg.bytes(0)
+        check(view.readonly and bytes(view) == b"lion" and msg.size() == 4 and bytes(view[1:]) == b"ion", "bytes in place, after a look")
+        pool.queues[0].qenable()
+        try:
+            check(view[0] < 0, "no byte after a change")
+        except ValueError:
+            check(True, "")
+        view = msg.bytes(0)
+        held = memoryview(view).__class__(view)
+        del held
+        check(len(msg.bytes(0)) == 4 and not msg.rmvb(0).size() != 4, "bytes twice")
+
+
+def series():
+    with pool_of() as pool:
+        msgs = pool.allocb_n(8, 50)
+        check(len(msgs) == 40 and len({msg.name for msg in msgs}) == 40, "40 messages")
+        refused(strm.Code.NO_MBLK, pool.allocb_n, 8, 1)
+        msgs[30].freemsg()
+        check(pool.queues[1].put_n(msgs) == 30 and not msgs[29].has() and msgs[31].has(), "30 messages put")
+        check(pool.freemsg_n(msgs[31:]) == 9 and len(pool.queues[1].get_n(50)) == 30 and pool.queues[1].get_n(1) == [], "the others")
+
+
+def pools():
+    refused(strm.Code.BAD_MBLKS, strm.Pool, 0, [(8, 1)], [strm.QueueSpec()])
+    refused(strm.Code.BAD_ARGUMENT, strm.Pool, 8, [(8, 1)], [strm.QueueSpec()] * 17)
+    refused(strm.Code.BAD_ARGUMENT, strm.Pool, 8, [(8, -1)], [strm.QueueSpec()])
+    check(strm.Pool.memory(40, [(8, 40)], [strm.QueueSpec()]) > 320, "the bytes of a pool")
+    with open(os.path.join(TOP, "VERSION"), encoding="utf-8") as file:
+        check(strm.version() == file.read().strip(), "the version")
+    try:
+        pool_of().allocb(9)
+    except strm.Refusal as why:
+        check(str(why) == "the size is above the largest class" and why.name == "STRM_TOO_LARGE", "the text of a refusal")
+    gc.collect()
+    with pool_of(mblks=400, classes=[(8, 400)]) as pool:
+        sent = [threading.Thread(target=lambda: [pool.queues[1].put(filled(pool, b"n")) for _ in range(100)]) for _ in range(4)]
+        for thread in sent:
+            thread.start()
+        for thread in sent:
+            thread.join()
+        check(pool.queues[1].size() == 400 and pool.queues[1].spec().next == 2**32 - 1, "the messages of four threads")
+
+
+# ---- drawn lines beside the model
+
+
+def properties():
+    try:
+        from hypothesis import given, settings
+        from hypothesis import strategies as st
+    except ImportError:
+        print("not run: drawn lines beside the plain model: there is no hypothesis (Debian package python3-hypothesis)")
+        return
+    drawn = {
+        "from": st.sampled_from("abc"), "to": st.sampled_from("abc"), "queue": st.integers(0, 2), "band": st.sampled_from([0, 1, 255]),
+        "marked": st.sampled_from([0, 1]), "octets": st.binary(max_size=5), "kind": st.sampled_from(model.ORDINARY + model.HIGH_PRIORITY),
+        "flag": st.sampled_from(["all", "data"]), "count": st.integers(-6, 6), "size": st.integers(0, 9), "id": st.integers(0, 4),
+    }  # fmt: skip
+    line = st.sampled_from(sorted(script.ITEMS)).flatmap(
+        lambda word: st.tuples(st.just(word), st.tuples(*(drawn.get(item, st.integers(0, 4)) for item in script.ITEMS[word])))
+    )
+
+    @settings(max_examples=300, deadline=None, database=None, derandomize=True)
+    @given(st.lists(line, max_size=40))
+    def same(lines):
+        of = model.Pool(6, [(4, 4), (8, 2)], [(6, 3, "s", 1), (8, 2, "s", "-")], 2, 1)
+        plain, player = model.Model(of), Player(of)
+        plain.begin()
+        for word, values in lines:
+            items = script.ITEMS[word]
+            assert player.reply(word, items, values) == plain.answer(word, items, values), (word, values)
+        assert [*player.report()] == plain.report()
+
+    try:
+        same()
+        check(True, "")
+    except AssertionError as fault:
+        check(False, f"the reply of the model: {fault}")
+
+
+if len(sys.argv) == 3:
+    texts = []
+    for path in sys.argv[1:]:
+        with open(path, encoding="utf-8") as file:
+            texts.append(file.read())
+    play(*texts)
+else:
+    for test in (messages, bytes_in_place, series, pools, properties):
+        test()
+print(f"{passed} passed, {failed} failed")
+sys.exit(1 if failed else 0)
