@@ -13,7 +13,7 @@
 
 /* An answer as one of 64 bits: a kind of reply, or a refusal by its code. */
 #define IS(kind) ((uint64_t)1 << (kind))
-#define NOT(code) ((uint64_t)1 << (REFUSED + (code)))
+#define NOT(code) ((uint64_t)1 << ((int)REFUSED + (code)))
 
 /* A row for each call of strm.h that returns a code, but for those that open and close pools. It is a LOOK if the call is a look, and a CALL
  * otherwise. It has:
