@@ -70,10 +70,10 @@ private:
     }
 };
 
-reply numbers(enum kind kind, std::initializer_list<uint32_t> all) {
-    reply reply = reply_of(kind);
-    std::copy(all.begin(), all.end(), reply.numbers);
-    return reply;
+// A struct of numbers as a reply.
+template <class Numbers>
+reply told_of(enum kind kind, const Numbers& numbers) {
+    return told_from(kind, &numbers);
 }
 
 reply asked(bool yes) { return reply_of(yes ? YES : NO); }
@@ -113,8 +113,7 @@ reply blocks_told(const strm::message& x, const call& call, strm::report to) {
     std::array<strm_block_info, MOST_ITEMS> infos;
     const size_t count = x.blocks(call.place, strm::span<strm_block_info>(infos.data(), call.items), to);
     reply reply = told(TOLD_BLOCKS, static_cast<uint32_t>(count), 0);
-    for (size_t i = 0; i < count; i++)
-        put_block(&reply, 1 + 5 * static_cast<int>(i), &infos[i]);
+    std::memcpy(reply.numbers + 1, infos.data(), count * sizeof infos[0]);
     return reply;
 }
 
@@ -195,7 +194,7 @@ reply took_many(lent& it, const call& call, strm::report to) {
     return told(TOLD_COUNT, static_cast<uint32_t>(count), 0);
 }
 
-// Does a call that takes no message.
+// Does a call that needs no valid message.
 reply apply_to_pool(lent& it, const call& call, strm::report to) {
     strm::pool& pool = it.pool;
     strm::queue queue = pool.queue(call.queue);
@@ -212,10 +211,7 @@ reply apply_to_pool(lent& it, const call& call, strm::report to) {
     case FLUSHBAND: return queue.flushband(call.band, call.flush, to), reply_of(DONE);
     case BCANPUT: return asked(queue.bcanput(call.band, to));
     case STRQSET: return queue.strqset(call.band, call.hiwat, call.lowat, to), reply_of(DONE);
-    case STRQGET: {
-        const strm_marks marks = queue.strqget(call.band, to);
-        return told(TOLD_MARKS, marks.hiwat, marks.lowat);
-    }
+    case STRQGET: return told_of(TOLD_MARKS, queue.strqget(call.band, to));
     case QSIZE: return told(TOLD_SIZE, queue.size(to), 0);
     case QENABLE: return queue.qenable(to), reply_of(DONE);
     case NOENABLE: return queue.noenable(to), reply_of(DONE);
@@ -223,24 +219,21 @@ reply apply_to_pool(lent& it, const call& call, strm::report to) {
     case SERVICE: return number(TOLD_QUEUE, pool.next_service(to));
     case BUFCALL: return told(TOLD_ID, pool.bufcall(call.number, to), 0);
     case UNBUFCALL: return pool.unbufcall(call.number, to), reply_of(DONE);
-    case READY: return optional(pool.take_ready(to), [](strm_wish wish) { return told(TOLD_READY, wish.id, wish.size); });
-    case CENSUS: {
-        const strm_census census = pool.census(to);
-        return numbers(TOLD_CENSUS, { census.free, census.queued, census.held });
-    }
+    case READY: return optional(pool.take_ready(to), [](strm_wish wish) { return told_of(TOLD_READY, wish); });
+    case CENSUS: return told_of(TOLD_CENSUS, pool.census(to));
+    case HAS: return asked(it.take(call.x).has(to));
+    case RUN_AT: return number(TOLD_QUEUE, pool.run_at(call.place, to));
+    case WISH_AT: return optional(pool.wish_at(call.place, to), [](strm_wish wish) { return told_of(TOLD_READY, wish); });
+    case CLASS_INFO: return optional(pool.class_info(call.place, to), [](strm_class_info info) { return told_of(TOLD_CLASS, info); });
+    case QUEUE_INFO: return told_of(TOLD_STATE, queue.info(to));
+    case BAND_INFO: return told_of(TOLD_BAND, queue.band(call.band, to));
     case NAME_AT: return name_told(it, pool.name_at(call.number, to));
-    case QUEUED_AT: {
-        const strm_queued queued = queue.queued_at(call.place, to);
-        return numbers(TOLD_QUEUED, { queued.head, queued.type, queued.band, queued.bytes, queued.blocks });
-    }
+    case QUEUED_AT: return told_of(TOLD_QUEUED, queue.queued_at(call.place, to));
     case READ_QUEUED:
         return bytes_told(it, [&](strm::buffer into) { return queue.read_queued(call.place, call.number, into, to); });
     case FIRST_QUEUED: return number(TOLD_HEAD, queue.first_queued(to));
     case QUEUED_AFTER: return number(TOLD_HEAD, pool.queued_after(call.number, to));
-    case QUEUE_SPEC: {
-        const strm_queue_spec spec = queue.spec(to);
-        return numbers(TOLD_SPEC, { spec.hiwat, spec.lowat, spec.service, spec.next });
-    }
+    case QUEUE_SPEC: return told_of(TOLD_SPEC, queue.spec(to));
     case ALLOCB_N: case GETQ_N: return gave_many(it, call, to);
     default: return took_many(it, call, to);
     }
@@ -268,10 +261,7 @@ reply apply_to_message(lent& it, lent& other, const call& call, strm::report to)
     case MSGDSIZE: return told(TOLD_SIZE, x.msgdsize(to), 0);
     case SIZE: return told(TOLD_SIZE, x.size(to), 0);
     case READ: return bytes_told(it, [&](strm::buffer into) { return x.read(call.place, into, to); });
-    case BLOCK: {
-        const strm_block_info info = x.block(call.place, to);
-        return told_block(&info);
-    }
+    case BLOCK: return told_of(TOLD_BLOCK, x.block(call.place, to));
     case FREEB: return x.freeb(to), reply_of(DONE);
     case FREEMSG: return x.freemsg(to), reply_of(DONE);
     case PUTQ: return queue.put(std::move(x), to), reply_of(DONE);
@@ -280,10 +270,7 @@ reply apply_to_message(lent& it, lent& other, const call& call, strm::report to)
     case BLOCKS: return blocks_told(x, call, to);
     case BYTES: return block_bytes_told(x.bytes(call.place, to));
     case IOV: return iov_told(it, x, call, to);
-    case PLACE: {
-        const strm_block_place where = x.place(call.place, to);
-        return numbers(TOLD_PLACE, { where.data, where.at, where.length, where.capacity });
-    }
+    case PLACE: return told_of(TOLD_PLACE, x.place(call.place, to));
     case OVERWRITE: return x.overwrite(call.place, octets, to), reply_of(DONE);
     case RESERVE: return x.reserve(call.place, call.number, to), reply_of(DONE);
     case PREPEND: return x.prepend(octets, to), reply_of(DONE);
@@ -309,7 +296,7 @@ struct reply face_apply(struct face* face, struct face* other, const struct call
     std::error_code code;
     reply reply = reply_of(NOTHING);
     const auto apply = [&](strm::report to) {
-        return std::strchr(forms[call->verb].names, 'x') == nullptr ? apply_to_pool(own, *call, to) : apply_to_message(own, another, *call, to);
+        return names(call->verb, "xX") ? apply_to_message(own, another, *call, to) : apply_to_pool(own, *call, to);
     };
 
     if (calls++ % 2 == 0) {

@@ -1,5 +1,5 @@
 //! Does the drawn calls of tests/c/drawn.c through the crate of bindings/rust. It takes the place of tests/c/face.c.
-use std::ffi::{c_char, c_int, CStr};
+use std::ffi::{c_char, c_int, c_uint, CStr};
 
 use strm::{BlockInfo, Flush, Handle, Iov, Marks, Message, MsgType, Name, Pool, Refusal, Rejected};
 
@@ -8,7 +8,7 @@ const MOST_OCTETS: usize = 64;
 const MOST_ITEMS: usize = 4;
 const UNTOUCHED: u8 = 0xA5;
 
-// The kinds of replies, as enum kind of calls.h has them.
+// The kinds of replies, as `KINDS` of calls.h has them.
 const DONE: u32 = 0;
 const YES: u32 = 1;
 const NO: u32 = 2;
@@ -29,13 +29,21 @@ const TOLD_PLACE: u32 = 17;
 const TOLD_QUEUED: u32 = 18;
 const TOLD_HEAD: u32 = 19;
 const TOLD_SPEC: u32 = 20;
-const TOLD_COUNT: u32 = 21;
-const REFUSED: u32 = 22;
+const TOLD_CLASS: u32 = 21;
+const TOLD_STATE: u32 = 22;
+const TOLD_BAND: u32 = 23;
+const TOLD_COUNT: u32 = 24;
+const REFUSED: u32 = 25;
 
 #[repr(C)]
 pub struct Form {
-    word: *const c_char,
-    names: *const c_char,
+    verb: *const c_char,
+    call: *const c_char,
+    letters: *const c_char,
+    arguments: *const c_char,
+    is_look: c_int,
+    weight: c_uint,
+    answers: u64,
 }
 
 #[repr(C)]
@@ -182,11 +190,20 @@ impl Face {
             "qenable" => done(pool.qenable(queue)?),
             "noenable" => done(pool.noenable(queue)?),
             "enableok" => done(pool.enableok(queue)?),
-            "service" => optional(pool.next_service()?, |queue| told(TOLD_QUEUE, &[queue])),
+            "next_service" => optional(pool.next_service()?, |queue| told(TOLD_QUEUE, &[queue])),
             "bufcall" => told(TOLD_ID, &[pool.bufcall(number)?]),
             "unbufcall" => done(pool.unbufcall(number)?),
-            "ready" => optional(pool.take_ready()?, |wish| told(TOLD_READY, &[wish.id, wish.size])),
+            "take_ready" => optional(pool.take_ready()?, |wish| told(TOLD_READY, &[wish.id, wish.size])),
             "census" => { let it = pool.census()?; told(TOLD_CENSUS, &[it.free, it.queued, it.held]) }
+            "has" => { let x = pool.adopt(self.registers[call.x as usize]); asked(pool.has(&x)?) }
+            "run_at" => optional(pool.run_at(place)?, |queue| told(TOLD_QUEUE, &[queue])),
+            "wish_at" => optional(pool.wish_at(place)?, |wish| told(TOLD_READY, &[wish.id, wish.size])),
+            "class_info" => optional(pool.class_info(place)?, |it| told(TOLD_CLASS, &[it.size, it.free, it.total])),
+            "queue_info" => {
+                let it = pool.queue_info(queue)?;
+                told(TOLD_STATE, &[it.msgs, it.bytes, it.read.into(), it.noenable.into(), it.enabled.into()])
+            }
+            "band_info" => { let it = pool.band_info(queue, band)?; told(TOLD_BAND, &[it.bytes, it.full.into(), it.wanted.into()]) }
             "name_at" => match pool.name_at(number)? {
                 None => told(NOTHING, &[]),
                 Some(name) => {
@@ -317,12 +334,12 @@ impl Face {
 #[no_mangle]
 pub unsafe extern "C" fn face_apply(face: *mut Face, other: *mut Face, call: *const Call) -> Reply {
     let (call, form) = (&*call, &*(&raw const forms).add((*call).verb as usize));
-    let (word, names) = (CStr::from_ptr(form.word).to_str().unwrap(), CStr::from_ptr(form.names).to_str().unwrap());
+    let (word, names) = (CStr::from_ptr(form.call).to_str().unwrap(), CStr::from_ptr(form.letters).to_str().unwrap());
     let face = &mut *face;
     let mut pool = face.lend();
     let told_of = if names.contains('w') {
         face.apply_to_message(&mut pool, &mut *other, word, call)
-    } else if names.contains('x') {
+    } else if names.contains(['x', 'X']) {
         let mut none = Face { pool: Handle { at: std::ptr::null_mut(), state: 0 }, registers: [Name::default(); REGISTERS], holds: [0; REGISTERS], broken: 0 };
         face.apply_to_message(&mut pool, &mut none, word, call)
     } else {
