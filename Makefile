@@ -274,7 +274,7 @@ FORCE:
 # Where the library is installed.
 LIB := $(DESTDIR)$(PREFIX)/lib
 
-# Installs both libraries for C, their headers for C and C++ and their manuals. With them is what pkg-config and CMake find them by. Then it prints the lines
+# Installs both libraries for C, their headers and their manuals. With them is what pkg-config and CMake find them by. Then it prints the lines
 # that let pkg-config and the loader find them, unless they are to be moved from DESTDIR.
 install-lib: $(ARCHIVE) $(SHARED)
 	install -D -m 644 $(ARCHIVE) $(LIB)/libstrm.a

@@ -68,7 +68,7 @@ class Player:
 
     def told(self, word, sources, given):
         """The reply to a word, or None for ok."""
-        pool, queue, of_queue = self.pool, strm.Queue(self.pool, given.get("queue", 0)), "put putb ins get rmv flush".split()
+        pool, queue = self.pool, strm.Queue(self.pool, given.get("queue", 0))
         x, *rest = [*map(self.message, sources), None]
         flag = strm.Flush[given.get("flag", "all").upper()]
         if word in ("allocb", "dupb", "dupmsg", "copyb", "copymsg", "unlinkb", "rmvb", "getq", "rmvq"):
@@ -255,6 +255,7 @@ def pools():
     except strm.Refusal as why:
         check(str(why) == "the size is above the largest class" and why.name == "STRM_TOO_LARGE", "the text of a refusal")
     gc.collect()
+    check(type(strm._LIBRARY) is strm.ctypes.PyDLL, "the interpreter's lock during each call")
     with pool_of(mblks=400, classes=[(8, 400)]) as pool:
         sent = [threading.Thread(target=lambda: [pool.queues[1].put(filled(pool, b"n")) for _ in range(100)]) for _ in range(4)]
         for thread in sent:
