@@ -27,7 +27,6 @@
  */
 #ifndef STRM_HPP
 #define STRM_HPP
-
 #include <strm.h>
 
 #include <algorithm>
@@ -38,7 +37,6 @@
 #include <string>
 #include <string_view>
 #include <system_error>
-#include <type_traits>
 #include <utility>
 #include <vector>
 #if __cplusplus >= 202002L && __has_include(<span>)
@@ -422,11 +420,14 @@ public:
 };
 
 /* ---- pools */
-/* A pool, which its constructor opens. */
+/* A pool, which its constructor opens, by strm_open_with if there is an allocator. */
 class pool {
 public:
     explicit pool(const config& config, STRM_REPORT) : at_(new detail::shared) {
         to(detail::with_config(config, [this](const strm_config* from) { return strm_open(handle(), from); }));
+    }
+    pool(const config& config, const strm_allocator& allocator, STRM_REPORT) : at_(new detail::shared) {
+        to(detail::with_config(config, [&](const strm_config* from) { return strm_open_with(handle(), from, &allocator); }));
     }
     static size_t memory(const config& config, STRM_REPORT) {
         size_t bytes = 0;

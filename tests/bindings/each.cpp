@@ -5,6 +5,7 @@
 #include "strm.hpp"
 
 #include <algorithm>
+#include <new>
 #include <string>
 #include <vector>
 
@@ -144,6 +145,36 @@ void pools_that_move_and_end() {
     REFUSED(bad_argument);
 }
 
+void memory_of_ones_own() {
+    struct memory {
+        void* at = nullptr;
+        size_t bytes = 0;
+    } memory;
+    const strm_allocator allocator = {
+        [](void* context, size_t bytes, size_t) {
+            auto* it = static_cast<struct memory*>(context);
+            it->bytes = bytes;
+            return it->at = ::operator new(bytes);
+        },
+        [](void* context, void* at, size_t) {
+            auto* it = static_cast<struct memory*>(context);
+            CHECK(at == it->at);
+            ::operator delete(at);
+            it->at = nullptr;
+        },
+        &memory,
+    };
+    {
+        strm::pool pool(config(1), allocator, code);
+        DONE();
+        CHECK(memory.at != nullptr && memory.bytes == strm::pool::memory(config(1), code) && text_of(filled(pool, "lion")) == "lion");
+    }
+    CHECK(memory.at == nullptr && memory.bytes > 800);
+    strm::pool none(config(1), { nullptr, nullptr, nullptr }, code);
+    REFUSED(bad_argument);
+    CHECK(!none.is_open());
+}
+
 void blocks_and_looks() {
     strm::pool pool(config(1), code);
     const strm::pool& looked = pool;
@@ -230,6 +261,7 @@ int main() {
     messages_are_freed();
     empty_messages();
     pools_that_move_and_end();
+    memory_of_ones_own();
     blocks_and_looks();
     series();
     refusals();

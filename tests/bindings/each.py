@@ -280,8 +280,8 @@ def properties():
         "marked": st.sampled_from([0, 1]), "octets": st.binary(max_size=5), "kind": st.sampled_from(model.ORDINARY + model.HIGH_PRIORITY),
         "flag": st.sampled_from(["all", "data"]), "count": st.integers(-6, 6), "size": st.integers(0, 9), "id": st.integers(0, 4),
     }  # fmt: skip
-    line = st.sampled_from(sorted(script.ITEMS)).flatmap(
-        lambda word: st.tuples(st.just(word), st.tuples(*(drawn.get(item, st.integers(0, 4)) for item in script.ITEMS[word])))
+    line = st.sampled_from(sorted(model.WORDS)).flatmap(
+        lambda word: st.tuples(st.just(word), st.tuples(*(drawn.get(item, st.integers(0, 4)) for item in model.WORDS[word].items)))
     )
 
     @settings(max_examples=300, deadline=None, database=None, derandomize=True)
@@ -291,7 +291,7 @@ def properties():
         plain, player = model.Model(of), Player(of)
         plain.begin()
         for word, values in lines:
-            items = script.ITEMS[word]
+            items = model.WORDS[word].items
             assert player.reply(word, items, values) == plain.answer(word, items, values), (word, values)
         assert [*player.report()] == plain.report()
 

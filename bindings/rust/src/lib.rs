@@ -38,7 +38,7 @@ use core::mem;
 
 mod raw;
 
-pub use raw::{Handle, Iov};
+pub use raw::{Allocator, Handle, Iov};
 
 /// The next queue of a queue that has none, and the name of no message.
 const NO_QUEUE: u32 = u32::MAX;

@@ -9,7 +9,7 @@ use core::marker::PhantomData;
 use core::ops::Deref;
 use core::slice;
 
-use crate::{BlockInfo, BlockPlace, Census, ClassInfo, ClassSpec, Config, Marks, Message, Name, Pool, Queued, Wish};
+use crate::{BlockInfo, BlockPlace, Census, ClassInfo, ClassSpec, Config, Marks, Message, Name, Pool, Queued, Refusal, Wish};
 
 /// A pool's handle, as `struct strm_pool` of strm.h.
 #[derive(Debug)]
@@ -87,6 +87,18 @@ pub(crate) struct BandInfo {
     pub wanted: u32,
 }
 
+/// Where a pool's memory is, as `struct strm_allocator` of strm.h.
+#[derive(Clone, Copy, Debug)]
+#[repr(C)]
+pub struct Allocator {
+    /// Returns the address of `bytes` bytes at a multiple of `align`, or null.
+    pub allocate: unsafe extern "C" fn(context: *mut c_void, bytes: usize, align: usize) -> *mut c_void,
+    /// Takes back what `allocate` returned.
+    pub release: unsafe extern "C" fn(context: *mut c_void, at: *mut c_void, bytes: usize),
+    /// Passed to both.
+    pub context: *mut c_void,
+}
+
 #[repr(C)]
 pub(crate) struct RawConfig {
     id: u32,
@@ -102,6 +114,7 @@ pub(crate) struct RawConfig {
 // SAFETY: these are the declarations of strm.h.
 unsafe extern "C" {
     fn strm_open(pool: &mut Handle, config: &RawConfig) -> c_int;
+    fn strm_open_with(pool: &mut Handle, config: &RawConfig, allocator: &Allocator) -> c_int;
     fn strm_memory(config: &RawConfig, bytes: &mut usize) -> c_int;
     pub(crate) safe fn strm_close(pool: &mut Handle) -> c_int;
     pub(crate) safe fn strm_is_open(pool: &Handle) -> c_int;
@@ -303,6 +316,42 @@ pub(crate) fn version(text: &mut [u8; 32]) -> &str {
 }
 
 impl Pool {
+    /// strm_open_with
+    ///
+    /// ```
+    /// use std::alloc::{alloc, dealloc, Layout};
+    /// use std::ffi::c_void;
+    /// # use strm::{Allocator, ClassSpec, Config, Pool, QueueSpec};
+    ///
+    /// unsafe extern "C" fn allocate(_: *mut c_void, bytes: usize, align: usize) -> *mut c_void {
+    ///     alloc(Layout::from_size_align(bytes, align).unwrap()).cast()
+    /// }
+    ///
+    /// unsafe extern "C" fn release(_: *mut c_void, at: *mut c_void, bytes: usize) {
+    ///     dealloc(at.cast(), Layout::from_size_align(bytes, 16).unwrap());
+    /// }
+    ///
+    /// let config = Config {
+    ///     mblks: 4,
+    ///     classes: &[ClassSpec { size: 16, count: 2 }],
+    ///     queues: &[QueueSpec::default()],
+    ///     ..Config::default()
+    /// };
+    /// let allocator = Allocator { allocate, release, context: std::ptr::null_mut() };
+    /// let mut pool = unsafe { Pool::open_with(&config, &allocator) }.unwrap();
+    /// assert!(pool.allocb(4).is_ok());
+    /// ```
+    ///
+    /// # Safety
+    ///
+    /// The functions do what strm.h says, on any thread, as long as the pool is there.
+    pub unsafe fn open_with(config: &Config<'_>, allocator: &Allocator) -> Result<Pool, Refusal> {
+        let mut handle = Handle::CLOSED;
+        // SAFETY: as in `open`; the caller speaks for the allocator.
+        let code = with_config(config, |raw| unsafe { strm_open_with(&mut handle, raw, allocator) });
+        Refusal::of(code).map_or(Ok(Pool { handle }), Err)
+    }
+
     /// Takes over a handle that C opened, or returns `None` if it is not open.
     ///
     /// # Safety
