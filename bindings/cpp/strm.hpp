@@ -90,22 +90,26 @@ public:
     report() noexcept = default;
 #endif
     report(std::error_code& code) noexcept : code_(&code) {}
-    /* Whether this is the code of a call that was done. If not, reports it. */
+    /* Whether a call with this code stored its results. Reports a refusal. */
     bool operator()(int code) const {
-        if (!STRM_FAILED(code)) {
-            if (code_ != nullptr && *code_)
-                code_->clear();
-            return true;
-        }
-#ifdef __cpp_exceptions
-        if (code_ == nullptr)
-            throw std::system_error(make_error_code(static_cast<refusal>(code)));
-#endif
-        *code_ = make_error_code(static_cast<refusal>(code));
-        return false;
+        if (code != STRM_OK)
+            code_ == nullptr ? raise(code) : void(*code_ = error_of(code));
+        else if (code_ != nullptr && *code_)
+            code_->clear();
+        return code == STRM_OK;
     }
 
 private:
+    /* Kept out of the code of calls that are done. */
+    [[gnu::cold, gnu::noinline]] static std::error_code error_of(int code) noexcept {
+        return STRM_FAILED(code) ? make_error_code(static_cast<refusal>(code)) : std::error_code();
+    }
+    [[gnu::cold, gnu::noinline]] static void raise([[maybe_unused]] int code) {
+#ifdef __cpp_exceptions
+        if (STRM_FAILED(code))
+            throw std::system_error(error_of(code));
+#endif
+    }
     std::error_code* code_ = nullptr;
 };
 
@@ -161,10 +165,7 @@ struct shared {
 
 inline strm_pool* handle_of(shared* at) noexcept { return at != nullptr ? &at->handle : nullptr; }
 
-inline void leave(shared* at) noexcept {
-    if (--at->users == 0)
-        delete at;
-}
+inline void leave(shared* at) noexcept { --at->users == 0 ? delete at : void(); }
 
 /* Has a call read a configuration. */
 template <class Call> int with_config(const config& from, Call call) {
@@ -186,8 +187,7 @@ template <class T, class Call, class... Args> T stored(report to, Call call, Arg
 /* The result that a call stores, or none if there is nothing to give. */
 template <class T, class Call, class... Args> std::optional<T> found(report to, Call call, Args... args) {
     T result{};
-    const int code = call(args..., &result);
-    return to(code) && code == STRM_OK ? std::optional<T>(result) : std::nullopt;
+    return to(call(args..., &result)) ? std::optional<T>(result) : std::nullopt;
 }
 }  // namespace detail
 
@@ -223,10 +223,10 @@ public:
     /* All blocks with their bytes: for (auto block : msg.blocks()). Of an empty message there are none. */
     strm::blocks blocks() const noexcept;
     strm::bytes bytes(uint32_t place, STRM_REPORT) const {
-        const uint8_t* first = nullptr;
-        size_t length = 0;
-        to(call(strm_bytes, place, &first, &length));
-        return { reinterpret_cast<const std::byte*>(first), length };
+        const uint8_t* first;
+        size_t length;
+        const bool is_there = to(call(strm_bytes, place, &first, &length));
+        return is_there ? strm::bytes(reinterpret_cast<const std::byte*>(first), length) : strm::bytes();
     }
     size_t iov(uint32_t from, span<strm_iov> into, STRM_REPORT) const { return filled(to, strm_iov_, from, into); }
     strm_block_place place(uint32_t place, STRM_REPORT) const { return stored<strm_block_place>(to, strm_place, place); }
@@ -245,14 +245,16 @@ public:
     message dupmsg(STRM_REPORT) { return made(to, strm_dupmsg); }
     message copyb(STRM_REPORT) { return made(to, strm_copyb); }
     message copymsg(STRM_REPORT) { return made(to, strm_copymsg); }
-    void freemsg(STRM_REPORT) { to(hand_over(at_.get(), strm_freemsg)); }
+    void freemsg(STRM_REPORT) { hand_over(to, at_.get(), strm_freemsg); }
     /* The message has the other blocks afterwards, or is empty if there are none. */
     void freeb(STRM_REPORT) {
         strm_msg rest;
-        if (to(call(strm_freeb, &rest)))
+        if (const int code = call(strm_freeb, &rest); to(code) || code == STRM_NONE)
             become(rest);
     }
-    void linkb(message&& tail, STRM_REPORT) { to(at_ ? tail.hand_over(at_.get(), strm_linkb, name()) : STRM_BAD_ARGUMENT); }
+    void linkb(message&& tail, STRM_REPORT) {
+        at_ ? tail.hand_over(to, at_.get(), strm_linkb, name()) : void(to(STRM_BAD_ARGUMENT));
+    }
     /* Returns the other blocks, or an empty message. */
     message unlinkb(STRM_REPORT) { return made(to, strm_unlinkb); }
     /* Returns the block. The message has the other blocks afterwards, or is empty if there are none. */
@@ -299,17 +301,15 @@ private:
         return !at_ ? STRM_BAD_ARGUMENT : at_.get() != pool ? STRM_INVALID : STRM_OK;
     }
     /* Hands the message to a call, which gets its name last. */
-    template <class Call, class... Args> int hand_over(detail::shared* pool, Call call, Args... args) {
-        int code = fault(pool);
-        if (code == STRM_OK && !STRM_FAILED(code = call(&pool->handle, args..., name())))
-            forget();
-        return code;
+    template <class Call, class... Args> void hand_over(report to, detail::shared* pool, Call call, Args... args) {
+        const int code = fault(pool);
+        if (to(code == STRM_OK ? call(&pool->handle, args..., name()) : code))
+            detail::leave(at_.release());
     }
     /* The message that a call gives, or an empty one. */
     template <class Call, class... Args> static message given(report to, detail::shared* pool, Call call, Args... args) {
         strm_msg name;
-        const int code = call(detail::handle_of(pool), args..., &name);
-        return to(code) && code == STRM_OK ? message(pool, name) : message();
+        return to(call(detail::handle_of(pool), args..., &name)) ? message(pool, name) : message();
     }
     /* Has a call give messages, or hands messages to it, some at a time. Returns the number of those that were given or taken. */
     template <bool gives, class Call, class... Args>
@@ -398,9 +398,9 @@ protected:
 class queue : public queue_view {
 public:
     using queue_view::queue_view;
-    void put(message&& msg, STRM_REPORT) { to(msg.hand_over(at_, strm_putq, number_)); }
-    void put_back(message&& msg, STRM_REPORT) { to(msg.hand_over(at_, strm_putbq, number_)); }
-    void insert(uint32_t place, message&& msg, STRM_REPORT) { to(msg.hand_over(at_, strm_insq, number_, place)); }
+    void put(message&& msg, STRM_REPORT) { msg.hand_over(to, at_, strm_putq, number_); }
+    void put_back(message&& msg, STRM_REPORT) { msg.hand_over(to, at_, strm_putbq, number_); }
+    void insert(uint32_t place, message&& msg, STRM_REPORT) { msg.hand_over(to, at_, strm_insq, number_, place); }
     std::optional<message> get(STRM_REPORT) {
         message first = message::given(to, at_, strm_getq, number_);
         return first ? std::optional<message>(std::move(first)) : std::nullopt;
