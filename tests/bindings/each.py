@@ -7,6 +7,7 @@ of the tools. The last line is 'N passed, M failed'.
 """
 import gc
 import os
+import subprocess
 import sys
 import threading
 
@@ -15,6 +16,9 @@ sys.path[:0] = [os.path.join(TOP, "tools"), os.path.join(TOP, "bindings", "pytho
 
 import strm  # noqa: E402
 from strm_tools import model, script  # noqa: E402
+from strm_tools.library import Library  # noqa: E402
+from strm_tools.listing import listed  # noqa: E402
+from strm_tools.play.session import Session, changes_of  # noqa: E402
 
 passed = failed = 0
 
@@ -40,127 +44,15 @@ def refused(code, call, *args):
 # ---- lines of scripts
 
 
-class Player:
-    """A pool and registers, which give the reply of strm to lines of a script."""
-
-    def __init__(self, of):
-        queues = [strm.QueueSpec(high, low, service == "s", 2**32 - 1 if after == "-" else after) for high, low, service, after in of.queues]
-        self.pool = strm.Pool(of.mblks, of.classes, queues, of.bufcalls, of.first_id)
-        self.held = {}
-
-    def reply(self, word, items, values):
-        given = dict(zip(items, values))
-        sources = [value for item, value in zip(items, values) if item == "from"]
-        is_missing = given.get("queue", 0) >= len(self.pool.queues)
-        if not is_missing and len(self.held.keys() & {*sources}) == len(sources) and given.get("to") in self.held:
-            return "taken"
-        try:
-            return self.told(word, sources, given) or "ok"
-        except strm.Refusal as why:
-            if why.code == strm.Code.INVALID:
-                return "refused 11 NoSuchQueue" if is_missing else "empty"
-            return f"refused {why.code:d} {why.code.name.title().replace('_', '')}"
-        finally:
-            self.held = {name: msg for name, msg in self.held.items() if msg.has()}
-
-    def message(self, register):
-        return self.held.get(register) or self.pool.adopt(strm.Name(self.pool.id, 0, 0))
-
-    def told(self, word, sources, given):
-        """The reply to a word, or None for ok."""
-        pool, queue = self.pool, strm.Queue(self.pool, given.get("queue", 0))
-        x, *rest = [*map(self.message, sources), None]
-        flag = strm.Flush[given.get("flag", "all").upper()]
-        if word in ("allocb", "dupb", "dupmsg", "copyb", "copymsg", "unlinkb", "rmvb", "getq", "rmvq"):
-            made = (
-                pool.allocb(given["size"]) if word == "allocb" else x.rmvb(given["block"]) if word == "rmvb" else queue.get() if word == "getq"
-                else queue.remove(given["place"]) if word == "rmvq" else getattr(x, word)()
-            )  # fmt: skip
-            if made is None:
-                return "none"
-            self.held[given["to"]] = made
-            return None
-        if word == "write":
-            return x.write(given["block"], given["octets"])
-        if word == "settype":
-            return x.settype(given["block"], strm.MsgType[given["kind"]])
-        if word == "setband":
-            return x.setband(given["band"])
-        if word == "linkb":
-            return x.linkb(rest[0])
-        if word in ("adjmsg", "pullupmsg"):
-            return getattr(x, word)(given["count"])
-        if word in ("msgdsize", "size"):
-            return f"size {getattr(x, word)()}"
-        if word == "read":
-            return f"bytes {x.read(given['at'], 64).hex() or '-'}"  # as many as drawn.c has
-        if word == "block":
-            told = x.block(given["block"])
-            return f"block {strm.MsgType(told.type).name} len={told.length} band={told.band} room={told.room} names={told.names}"
-        if word in ("freeb", "freemsg"):
-            return getattr(x, word)()
-        if word in ("putq", "putbq"):
-            return (queue.put if word == "putq" else queue.put_back)(x)
-        if word == "insq":
-            return queue.insert(given["place"], x)
-        if word == "flushq":
-            return queue.flushq(flag)
-        if word == "flushband":
-            return queue.flushband(given["band"], flag)
-        if word in ("testb", "bcanput"):
-            return "yes" if (pool.testb(given["size"]) if word == "testb" else queue.bcanput(given["band"])) else "no"
-        if word == "strqset":
-            return queue.strqset(given["marked"], given["high"], given["low"])
-        if word == "strqget":
-            return "marks {} {}".format(*queue.strqget(given["marked"]))
-        if word == "qsize":
-            return f"size {queue.size()}"
-        if word in ("qenable", "noenable", "enableok"):
-            return getattr(queue, word)()
-        if word == "service":
-            first = pool.next_service()
-            return f"queue {first.number}" if first else "none"
-        if word == "bufcall":
-            return f"id {pool.bufcall(given['size'])}"
-        if word == "unbufcall":
-            return pool.unbufcall(given["id"])
-        if word == "ready":
-            wish = pool.take_ready()
-            return "ready {} {}".format(*wish) if wish else "none"
-        return "census {} {} {}".format(*pool.census())
-
-    def report(self):
-        """The report of strm, by looks."""
-        pool = self.pool
-        yield "blocks free={} queued={} held={} total={}".format(*pool.census(), sum(pool.census()))
-        for info in iter_until_none(pool.class_info):
-            yield f"data size={info.size} free={info.free} total={info.total}"
-        for queue in pool.queues:
-            info = queue.info()
-            yield f"queue {queue.number} msgs={info.msgs} bytes={info.bytes} read={info.read} noenable={info.noenable} enabled={info.enabled}"
-            for band in reversed(range(256)):
-                of_band = queue.band(band)
-                if of_band.bytes > 0:
-                    yield f"band {band} bytes={of_band.bytes} full={of_band.full} wanted={of_band.wanted}"
-        yield f"run {' '.join(map(str, iter_until_none(pool.run_at))) or '-'}"
-        yield f"wishes {' '.join('{}:{}'.format(*wish) for wish in iter_until_none(pool.wish_at)) or '-'}"
-
-
-def iter_until_none(look):
-    place = 0
-    while (found := look(place)) is not None:
-        yield found
-        place += 1
-
-
 def play(script_text, text):
     """Counts a script whose replies are right, each 1,000 lines as one."""
     pool, (section,) = script.lazily(script_text)
-    player = Player(pool)
+    player = Library(strm, pool)
+    player.begin()
     replies = text.splitlines()
     for start in range(0, len(section), 1000):
         part = range(start, min(start + 1000, len(section)))
-        wrong = [k for k in part if player.reply(*section[k][1:]) != replies[k]]
+        wrong = [k for k in part if player.answer(*section[k][1:]) != replies[k]]
         check(not wrong, f"the reply of strm to call {wrong[:1]}, {[section[k] for k in wrong[:1]]}: {[replies[k] for k in wrong[:1]]}")
     check(len(replies) == len(section) > 0, "a reply to each line")
 
@@ -265,6 +157,39 @@ def pools():
         check(pool.queues[1].size() == 400 and pool.queues[1].spec().next == 2**32 - 1, "the messages of four threads")
 
 
+# ---- the tools
+
+
+def said_by(tool, *words, **given):
+    return subprocess.run([sys.executable, os.path.join(TOP, "tools", tool), *words], capture_output=True, text=True, **given).stdout
+
+
+def tools():
+    """strm-play and strm-list have the library reply, say so, and say where it differs from the plain model."""
+    path = os.path.join(TOP, "examples", "full_band.strm")
+    said = said_by("strm-play", path, input="getq 0 e\nworker\nsize c\nundo 2\nreport\nbcanput 0 0\n").splitlines()
+    check(said[0] == f"The proved library {strm.version()} replies, in this process.", f"that the library replies: {said[0]!r}")
+    wanted = ["ok", "worker 1 begins, with empty registers", "empty", "taken back: size c; worker", "blocks free=6 queued=0 held=2 total=8"]
+    check(said[-10:-5] == wanted and said[-1] == "yes", f"the session {said}")
+    near, far = os.openpty()
+    subprocess.run([sys.executable, os.path.join(TOP, "tools", "strm-list"), path], stdout=subprocess.PIPE, stderr=far, check=True)
+    noted = os.read(near, 1000)
+    check(noted == f"strm-list: the proved library {strm.version()} replies, in this process\r\n".encode(), f"the note {noted}")
+    with open(path, encoding="utf-8") as file:
+        text = file.read()
+    right, why = Library.answer, "libstrm says 'no', and the plain model 'yes': one has a fault; please report it"
+    Library.answer = lambda self, word, *rest: "no" if word == "bcanput" else right(self, word, *rest)
+    try:
+        listed(text)
+    except script.Wrong as fault:
+        check(str(fault) == why, f"the fault {fault}")
+    else:
+        check(False, "a fault of a library that is wrong")
+    check(Session(changes_of(text), strm).play.differs == why, "a fault in a session")
+    Library.answer = right
+    check(Session(changes_of(text), strm).play.differs == "", "no fault in a session")
+
+
 # ---- drawn lines beside the model
 
 
@@ -288,12 +213,13 @@ def properties():
     @given(st.lists(line, max_size=40))
     def same(lines):
         of = model.Pool(6, [(4, 4), (8, 2)], [(6, 3, "s", 1), (8, 2, "s", "-")], 2, 1)
-        plain, player = model.Model(of), Player(of)
+        plain, player = model.Model(of), Library(strm, of)
         plain.begin()
+        player.begin()
         for word, values in lines:
             items = model.WORDS[word].items
-            assert player.reply(word, items, values) == plain.answer(word, items, values), (word, values)
-        assert [*player.report()] == plain.report()
+            assert player.answer(word, items, values) == plain.answer(word, items, values), (word, values)
+        assert player.report() == plain.report()
 
     try:
         same()
@@ -309,7 +235,7 @@ if len(sys.argv) == 3:
             texts.append(file.read())
     play(*texts)
 else:
-    for test in (messages, bytes_in_place, series, pools, properties):
+    for test in (messages, bytes_in_place, series, pools, tools, properties):
         test()
 print(f"{passed} passed, {failed} failed")
 sys.exit(1 if failed else 0)

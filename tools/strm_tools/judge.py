@@ -7,6 +7,7 @@ import itertools
 import re
 from typing import Callable, Sequence
 
+from strm_tools.library import difference, opened
 from strm_tools.model import Model, Pool
 from strm_tools.rules import EFFECTS, explains, why
 from strm_tools.script import Commands, Wrong, script_of
@@ -23,6 +24,13 @@ def wrong_line(number: int, wanted: str, line: str | None = None, more: str = ""
     if line is not None and line.endswith("\r"):
         more = f"; {CARRIAGE_RETURN}"
     return Wrong(f"line {number}: expected {wanted}, here {'the text ends' if line is None else repr(line)}{more}", "text")
+
+
+def require_same(proved: list[str], plain: list[str]) -> None:
+    """Raises `Wrong` if the library has another line than the plain model."""
+    differs = difference(proved, plain)
+    if differs:
+        raise Wrong(differs)
 
 
 class Replay:
@@ -107,12 +115,20 @@ class Replay:
         return f"no reply to {', '.join(counts)}; the first is line {number} of the script"
 
     def play(self, text: str | None = None) -> None:
-        """Executes all lines in the order of a text, or worker 0's, then worker 1's, and so on."""
+        """Executes all lines in the order of a text, or worker 0's, then worker 1's, and so on: then the library too, if there is one."""
         if text is not None:
             self.finish(text)
-        for worker in range(len(self.sections)) if text is None else ():
+            return
+        library = opened(self.model.pool, len(self.sections))
+        for worker in range(len(self.sections)):
             while self.waits(worker):
-                self.serve(worker)
+                reply = self.serve(worker).partition(" ")[2]
+                if library:
+                    _, word, items, values = self.sections[worker][self.served[worker] - 1]
+                    library.turn_to(worker)
+                    require_same([library.answer(word, items, values)], [reply])
+        if library:
+            require_same(library.report(), self.model.report())
 
     def ahead(self) -> list[str]:
         """What may come next: the line of any worker that has one left, or else the report."""

@@ -217,9 +217,11 @@ _NO_MSG = _Msg()
 
 
 def _loaded() -> ctypes.PyDLL:
-    """The library: that of the variable STRM_LIBRARY, or the one beside this file, or the one that the loader finds."""
-    beside = os.path.join(os.path.dirname(os.path.abspath(__file__)), "libstrm.so.0")
-    return ctypes.PyDLL(os.environ.get("STRM_LIBRARY") or (beside if os.path.exists(beside) else "libstrm.so.0"))
+    """The library: that of the variable STRM_LIBRARY, or the one beside this file, as in a wheel, or the one of the repository or of the prefix that
+    this file is in, or the one that the loader finds."""
+    here = os.path.dirname(os.path.abspath(__file__))
+    near = [os.path.join(here, folder, "libstrm.so") for folder in ("", "../../../build", "../../../lib")]
+    return ctypes.PyDLL(os.environ.get("STRM_LIBRARY") or next(filter(os.path.exists, near), "libstrm.so.0"))
 
 
 _LIBRARY = _loaded()

@@ -5,6 +5,7 @@ import argparse
 import sys
 
 from strm_tools.ends import end, end_for, end_wrong, name_of
+from strm_tools.library import binding
 from strm_tools.play import proved
 from strm_tools.play.face import Face, Unreadable
 from strm_tools.play.own import HeaderFault
@@ -14,7 +15,10 @@ from strm_tools.script import Wrong
 
 
 def program_of(named: str | None, session: Session, face: Face) -> str | None:
-    """The program that answers a session: the named one, which has to work, or one that is found, or None."""
+    """The program that answers a session: the named one, which has to work, or one that is found, or None, also if the library replies."""
+    if session.strm:
+        face.say(f"The proved library {session.strm.version()} replies, in this process.")
+        return None
     program = named or proved.find()
     if program is None:
         face.say("There is no built strm, so the plain model replies: strm's rules, written again in Python.")
@@ -32,7 +36,8 @@ def program_of(named: str | None, session: Session, face: Face) -> str | None:
 def begin(words: argparse.Namespace, face: Face) -> Session:
     """The session that a script, or without one a small pool, begins."""
     try:
-        return Session(changes_of(DEFAULT) if words.script is None else changes_of(face.read(words.script), words.script))
+        changes = changes_of(DEFAULT) if words.script is None else changes_of(face.read(words.script), words.script)
+        return Session(changes, None if words.strm else binding())
     except Unreadable as why:
         end(2, f"{name_of(words.script)}: {why}")
     except Wrong as why:

@@ -11,6 +11,7 @@ from typing import Any, Callable, Iterable, Iterator, NamedTuple, Sequence
 
 from strm_tools.faults import require_right
 from strm_tools.labels import labels_of
+from strm_tools.library import Library, difference
 from strm_tools.model import WORDS, Data, Model, Values
 from strm_tools.play.letters import Letters
 from strm_tools.play.state import Rows, rows_of
@@ -60,8 +61,10 @@ class Play:
     """A pool since it was opened. The methods from `add` to `rewind` are changes: a session takes one back by playing those before
     it again."""
 
-    def __init__(self, header: list[str]) -> None:
+    def __init__(self, header: list[str], strm: Any = None) -> None:
         self.header = header
+        # The package whose library replies, or None.
+        self.strm = strm
         self.pool = script_of(text_of(header))[0]
         self.sections = [Section()]
         # The worker whose lines are entered, and whether they wait.
@@ -74,8 +77,11 @@ class Play:
     def clear(self) -> None:
         """Nothing is executed yet."""
         self.model = Model(self.pool)
+        self.library = Library(self.strm, self.pool) if self.strm else None
+        # Where the library and the plain model differ, or nothing.
+        self.differs = ""
         for _ in self.sections:
-            self.model.begin()
+            self.begin_registers()
         self.letters = Letters()
         self.executed: list[Executed] = []
         # The number of each data block in use, and how many were taken so far.
@@ -108,8 +114,13 @@ class Play:
     def begin(self) -> None:
         """Another section begins."""
         self.sections.append(Section())
-        self.model.begin()
+        self.begin_registers()
         self.turn = len(self.sections) - 1
+
+    def begin_registers(self) -> None:
+        self.model.begin()
+        if self.library:
+            self.library.begin()
 
     def turn_to(self, worker: int) -> None:
         """The lines that are entered are those of this worker."""
@@ -148,6 +159,11 @@ class Play:
         self.model.turn_to(worker)
         in_one_section = self.letters.renamed(self.model, worker, text)
         reply = self.model.answer(word, items, values)
+        if self.library:
+            self.library.turn_to(worker)
+            proved = self.library.answer(word, items, values)
+            self.differs = self.differs or difference([proved], [reply])
+            reply = proved
         for item, value in zip(items, values):
             for block in self.model.held.get(value, []) if item in ("from", "to") else []:
                 if block.data not in self.numbers:
@@ -196,7 +212,11 @@ class Play:
 
     def text(self) -> str:
         """What strm prints for the script if it executes the lines in this order."""
-        return text_of([*(f"{at} {reply}" for at, _, reply in self.rows()), *self.model.report()])
+        return text_of([*(f"{at} {reply}" for at, _, reply in self.rows()), *self.report()])
+
+    def report(self) -> list[str]:
+        """The report of the library, or without it of the plain model."""
+        return (self.library or self.model).report()
 
     def place(self) -> str:
         """The number in the script of the line that is entered next, with its worker."""
@@ -265,7 +285,8 @@ def changes_of(script: str, path: str = "-") -> Iterator[Change]:
 class Session:
     """The changes so far, of which the first opens a pool, and those that were taken back."""
 
-    def __init__(self, changes: Iterable[Change]) -> None:
+    def __init__(self, changes: Iterable[Change], strm: Any = None) -> None:
+        self.strm = strm
         self.changes = list(changes)
         self.undone: list[Change] = []
         self.play_again()
@@ -273,7 +294,8 @@ class Session:
     def play_again(self) -> None:
         """Plays all changes since the pool was opened."""
         begin = max(at for at, change in enumerate(self.changes) if change.method == "open")
-        self.play = Play(*self.changes[begin].given)
+        (header,) = self.changes[begin].given
+        self.play = Play(header, self.strm)
         self.before: Rows = rows_of(self.play)
         for at, change in enumerate(self.changes[begin + 1 :], begin + 2):
             self.make(change, at == len(self.changes))

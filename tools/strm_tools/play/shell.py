@@ -7,6 +7,7 @@ from collections import Counter
 from typing import Callable, Sequence, Tuple
 
 from strm_tools.faults import fault_in, first_fault
+from strm_tools.library import difference
 from strm_tools.listing import listing
 from strm_tools.play import proved
 from strm_tools.play.completion import completed
@@ -179,8 +180,12 @@ class Shell(Turns):
     # ---- The program -------------------------------------------------------------------------------------------------
 
     def answers(self) -> tuple[list[str], list[str]]:
-        """The replies to all executed lines, and the report: those of strm, or without it those of the plain model."""
-        replies, report = [line.reply for line in self.play.executed], self.play.model.report()
+        """The replies to all executed lines, and the report: those of the library or of strm, or without them those of the plain model."""
+        replies, report = [line.reply for line in self.play.executed], self.play.report()
+        if self.play.library:
+            differs = self.play.differs or difference(report, self.play.model.report())
+            if differs:
+                self.say(differs)
         if self.program is None:
             return replies, report
         served = self.play.one_section()
