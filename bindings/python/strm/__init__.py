@@ -221,7 +221,7 @@ def _loaded() -> ctypes.PyDLL:
     this file is in, or the one that the loader finds."""
     here = os.path.dirname(os.path.abspath(__file__))
     near = [os.path.join(here, folder, "libstrm.so") for folder in ("", "../../../build", "../../../lib")]
-    return ctypes.PyDLL(os.environ.get("STRM_LIBRARY") or next(filter(os.path.exists, near), "libstrm.so.0"))
+    return ctypes.PyDLL(os.environ.get("STRM_LIBRARY") or next((path for path in near if os.path.exists(path)), "libstrm.so.0"))
 
 
 _LIBRARY = _loaded()
