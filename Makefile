@@ -55,7 +55,7 @@ RT := $(shell command -v rt 2>/dev/null)
 # Stops make with one line if there is no `rt`.
 NEEDS_RT = $(if $(RT),,$(error no rt on PATH, so nothing is proved or built; release/ has strm and libstrm.a, proved and built, which make try and make check run (README.md, "Without rt")))
 
-.PHONY: run help try test test-arm check gate-times cases edits lint soak field view-test pages pictures bench bench-lines bench-library bench-batches bench-census bench-header bench-lock bench-c bench-peers strm install install-pages install-tools install-docs uninstall lib install-lib dist release vendor
+.PHONY: run help try test test-arm check gate-times cases edits lint soak field view-test pages pictures bench bench-lines bench-library bench-batches bench-census bench-header bench-lock bench-c bench-bindings bench-peers strm install install-pages install-tools install-docs uninstall lib install-lib dist release vendor
 
 # Runs examples/first_run.strm on the proved program (default). `make` alone does this and does not list rules, so that people who type `make`
 # and then `sudo make install` do not prove the program as root.
@@ -134,8 +134,8 @@ pages:
 pictures:
 	@for picture in docs/pictures/*.svg; do tools/strm-view $$(sed -n 's:^<desc>\(.*\)</desc>$$:\1:p' $$picture) --output $$picture || exit 1; done
 
-# Runs bench-lines to bench-c, and with PEERS=1 bench-peers. OPTIONS are those of all, as --write for docs/.
-bench: bench-lines bench-library bench-batches bench-census bench-header bench-lock bench-c
+# Runs bench-lines to bench-bindings, and with PEERS=1 bench-peers. OPTIONS are those of all, as --write for docs/.
+bench: bench-lines bench-library bench-batches bench-census bench-header bench-lock bench-c bench-bindings
 
 # Prints what a line and a call of each word cost. OPTIONS are those of bench/run.py, as --instructions, or --write for docs/.
 bench-lines: $(BUILT)
@@ -170,6 +170,10 @@ bench-lock: $(BUILT)
 bench-c: build/libstrm.a $(ROUNDS)
 	@$(BENCH) bench/c.py $(OPTIONS) build/libstrm.a $(ROUNDS)
 	@$(if $(PEERS),$(BENCH) bench/peers.py $(OPTIONS) build/libstrm.a)
+
+# Prints what a packet costs in C++, Rust and Python. Beside it is C. OPTIONS are those of bench/bindings.py, as --write for docs/.
+bench-bindings: build/libstrm.a build/libstrm.so
+	@$(BENCH) bench/bindings.py $(OPTIONS) build/libstrm.a
 
 # Prints what the same work costs over strm.h, DPDK, lwIP and GLib. A pool in C does it too. This names those whose Debian package is not
 # installed. OPTIONS are those of bench/peers.py, as --write for docs/.
@@ -209,13 +213,15 @@ install-pages:
 	install -D -m 644 completions/_strm $(SHARE)/$(ZSH)/_strm
 	for tool in $(TOOLS); do ln -sf strm $(SHARE)/bash-completion/completions/$$tool || exit; done
 
-# Installs the tools, which need Python alone, and their manuals. The tools are in PREFIX/share/strm, with links in PREFIX/bin. There,
+# Installs the tools, which need Python alone, and their manuals, and the package for Python, by which they use the library. All are in
+# PREFIX/share/strm, with links in PREFIX/bin. There,
 # FOLDERS lists the folders that installs made, for tools/uninstall.
 install-tools: WHERE install-pages
 	@$(if $(MISSING),install -d $(SHARE)/strm && printf '%s\n' $(MISSING) >>$(SHARE)/strm/FOLDERS)
 	rm -rf $(SHARE)/strm/strm_tools
 	for file in $(MODULES); do install -D -m 644 tools/$$file $(SHARE)/strm/$$file || exit; done
 	install -m 644 VERSION $(SHARE)/strm/VERSION
+	install -D -m 644 bindings/python/strm/__init__.py $(SHARE)/strm/strm/__init__.py
 	install -d $(DESTDIR)$(PREFIX)/bin
 	for tool in $(TOOLS); do install -m 755 tools/$$tool $(SHARE)/strm && ln -sf ../share/strm/$$tool $(DESTDIR)$(PREFIX)/bin/$$tool || exit; done
 
@@ -274,8 +280,8 @@ FORCE:
 # Where the library is installed.
 LIB := $(DESTDIR)$(PREFIX)/lib
 
-# Installs both libraries for C, their headers and their manuals. With them is what pkg-config and CMake find them by. Then it prints the lines
-# that let pkg-config and the loader find them, unless they are to be moved from DESTDIR.
+# Installs both libraries for C, their headers and their manuals, the crate for Rust and the wheel for Python. With them is what pkg-config and
+# CMake find them by. Then it prints the lines that let pkg-config and the loader find them, unless they are to be moved from DESTDIR.
 install-lib: $(ARCHIVE) $(SHARED)
 	install -D -m 644 $(ARCHIVE) $(LIB)/libstrm.a
 	install -m 644 $(SHARED) $(LIB)/libstrm.so.$(VERSION)
@@ -286,6 +292,9 @@ install-lib: $(ARCHIVE) $(SHARED)
 	$(FORM) c/strm-config-version.cmake.in | install -m 644 /dev/stdin $(LIB)/cmake/strm/strm-config-version.cmake
 	install -D -m 644 c/strm.h $(DESTDIR)$(PREFIX)/include/strm.h
 	install -m 644 bindings/cpp/strm.hpp $(DESTDIR)$(PREFIX)/include/strm.hpp
+	rm -rf $(SHARE)/strm/bindings
+	for file in Cargo.toml build.rs src/lib.rs src/raw.rs; do install -D -m 644 bindings/rust/$$file $(SHARE)/strm/bindings/rust/$$file || exit; done
+	@python3 bindings/python/make_wheel.py $(SHARE)/strm/bindings $(SHARED)
 	tools/man_pages 3 $(SHARE)/man/man3
 	@$(if $(DESTDIR),,echo 'export PKG_CONFIG_PATH=$(PREFIX)/lib/pkgconfig$${PKG_CONFIG_PATH:+:$$PKG_CONFIG_PATH}')
 	@$(if $(DESTDIR),,echo 'export LD_LIBRARY_PATH=$(PREFIX)/lib$${LD_LIBRARY_PATH:+:$$LD_LIBRARY_PATH}')

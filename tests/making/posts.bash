@@ -1,5 +1,6 @@
-# Scripts in bash source this file after counts.bash. It builds the example post in each language over a library that is installed below a prefix, in
-# folders of $room, which it names by $2.
+# Scripts in bash source this file instead of counts.bash. It builds the example post in each language over a library that is installed below a
+# prefix, in folders of $room that are named by $2.
+source tests/making/counts.bash
 
 # Whether a program prints what the example in C of this name prints.
 prints() {
