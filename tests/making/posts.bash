@@ -7,6 +7,16 @@ prints() {
     "${@:2}" >"$room/text" && diff -u "examples/c/$1.text" "$room/text"
 }
 
+# Whether there is a cargo that builds the crate. If not, says that the script leaves out $1.
+has_rust() {
+    local least
+    least=$(sed -n 's/^rust-version = "\(.*\)"$/cargo \1/p' bindings/rust/Cargo.toml)
+    has cargo rustup "$1" || return
+    printf '%s\n' "$least" "$(cargo --version)" | sort --check=quiet --version-sort && return
+    not_run "$1" "there is no $least or later (Debian package rustup)"
+    return 1
+}
+
 # In C++ over what is below the prefix $1.
 posts_in_cpp() {
     g++ -std=c++17 examples/cpp/post.cpp "-I$1/include" "-L$1/lib" "-Wl,-rpath,$1/lib" -lstrm -o "$room/post_$2" && prints post "$room/post_$2"
@@ -29,7 +39,7 @@ posts_in_python() {
 # Counts all three, whose names begin with $3, and says which tool is missing.
 counts_posts() {
     has g++ g++ "$3 in C++" && counts "$3 in C++" posts_in_cpp "$1" "$2"
-    has cargo rustup "$3 in Rust" && counts "$3 in Rust" posts_in_rust "$1" "$2"
+    has_rust "$3 in Rust" && counts "$3 in Rust" posts_in_rust "$1" "$2"
     if python3 -m pip --version >/dev/null 2>&1; then
         counts "$3 in Python" posts_in_python "$1" "$2"
     else
