@@ -9,8 +9,13 @@ from programs import options, show
 
 TOP = peers.TOP
 SOURCES = os.path.join(TOP, "bench", "bindings")
-# The ways that copy the bytes into the pool, and the columns: the program, what the names of its works end in, and how it is shown.
-WAYS = {name: work for name, work in peers.WAYS.items() if name != "no_copy_long"}
+# Ways of packets by their names in peers/peer.h, and the columns: the program, what the names of its works end in, and how it is shown.
+WAYS = {
+    "copies_short": peers.Work("64 bytes, copied"),
+    "in_place_short": peers.Work("64 bytes, read in place"),
+    "copies_long": peers.Work("1,500 bytes, copied"),
+    "in_place_long": peers.Work("1,500 bytes, read in place"),
+}
 COLUMNS = [("cpp", "", "C++"), ("cpp", "_codes", "C++ with error codes"), ("rust", "", "Rust")]
 # How many packets Python takes in a run.
 ROUNDS = 20_000
