@@ -28,6 +28,8 @@ BUILT := crates/strm_driver/out/strm_driver
 STRM := $(BUILT)
 ARCHIVE = $(BUILD)/libstrm.a
 SHARED = $(BUILD)/libstrm.so
+ARCHIVE_MT = $(BUILD)/libstrm_mt.a
+SHARED_MT = $(BUILD)/libstrm_mt.so
 # How benchmarks are started, which read the limits of strm in tools/strm_tools.
 BENCH := PYTHONPATH="$(CURDIR)/tools" python3
 # The program that measures rounds of calls, for bench-library and bench-c.
@@ -44,6 +46,7 @@ BUILD := $(if $(TARGET),build/$(PROCESSOR),build)
 PROVED := $(if $(TARGET),$(BUILD)/libstrm_c.a,crates/strm_c/out/libstrm_c.a)
 # What programs that are linked with the shared library need when they run. The number rises if programs that were linked before would not run.
 SONAME := libstrm.so.0
+SONAME_MT := libstrm_mt.so.0
 # The output of `rt` when it last proved and built the program.
 LOG := build/proving.log
 
@@ -55,7 +58,7 @@ RT := $(shell command -v rt 2>/dev/null)
 # Stops make with one line if there is no `rt`.
 NEEDS_RT = $(if $(RT),,$(error no rt on PATH, so nothing is proved or built; release/ has strm and libstrm.a, proved and built, which make try and make check run (README.md, "Without rt")))
 
-.PHONY: run help try test test-arm check gate-times cases edits lint soak field view-test pages pictures bench bench-lines bench-library bench-batches bench-census bench-header bench-lock bench-c bench-bindings bench-peers strm install install-pages install-tools install-docs uninstall lib install-lib dist release vendor
+.PHONY: run help try test test-arm check gate-times cases edits lint soak soak-mt field view-test pages pictures bench bench-lines bench-library bench-batches bench-census bench-header bench-lock bench-c bench-bindings bench-peers bench-mt strm install install-pages install-tools install-docs uninstall lib install-lib dist release vendor
 
 # Runs examples/first_run.strm on the proved program (default). `make` alone does this and does not list rules, so that people who type `make`
 # and then `sudo make install` do not prove the program as root.
@@ -113,6 +116,10 @@ lint:
 # by default it takes a minute.
 soak: $(BUILT)
 	@tests/soak $(OPTIONS) $(BUILT)
+
+# Has threads wait over strm_mt.h in drawn runs, for SECONDS. By default it takes ten minutes.
+soak-mt: build/libstrm.a
+	@tests/mt/run --soak $(or $(SECONDS),600) build/libstrm.a
 
 # Records calls of ppp and lwIP, and executes them (tests/field). It fetches the sources of both from Debian. OPTIONS are those of
 # tests/field_run, as --scripts N. With KEEP=DIR, that folder gets the recordings and their pages.
@@ -180,6 +187,10 @@ bench-bindings: build/libstrm.a build/libstrm.so
 bench-peers: build/libstrm.a
 	@$(BENCH) bench/peers.py $(OPTIONS) build/libstrm.a
 
+# Prints what hand-overs between threads cost, beside peers. It draws build/waiting.svg. OPTIONS are those of bench/mt.py.
+bench-mt: build/libstrm.a
+	@$(BENCH) bench/mt.py $(OPTIONS) build/libstrm.a
+
 # Puts the proved program at build/strm.
 strm: build/strm
 
@@ -234,9 +245,9 @@ install-docs:
 	install -d $(SHARE)/doc/strm
 	for name in README.md LICENSE docs examples; do rm -rf $(SHARE)/doc/strm/$$name && ln -s ../../strm/$$name $(SHARE)/doc/strm || exit; done
 
-# Builds the library for C, build/libstrm.a and build/libstrm.so. With TARGET=aarch64-unknown-linux-gnu they are for ARM, in build/aarch64, by
-# Debian's gcc-aarch64-linux-gnu. The pkg-config file is build/strm.pc.
-lib: $(ARCHIVE) $(SHARED) build/strm.pc
+# Builds the library for C, build/libstrm.a and build/libstrm.so, and over it build/libstrm_mt.a and .so. With TARGET=aarch64-unknown-linux-gnu
+# they are for ARM, in build/aarch64, by Debian's gcc-aarch64-linux-gnu. The pkg-config file is build/strm.pc.
+lib: $(ARCHIVE) $(SHARED) $(ARCHIVE_MT) $(SHARED_MT) build/strm.pc
 
 ifneq ($(TARGET),)
 CC := $(TOOLS_FOR)gcc
@@ -263,9 +274,21 @@ $(BUILD)/libstrm.so: $(BUILD)/libstrm.a tools/c_symbols
 		-Wl,--whole-archive libstrm.a -Wl,--no-whole-archive -o libstrm.so
 
 # What the Debian package says of it.
-build/libstrm.symbols: c/strm.h tools/c_symbols
+build/libstrm.symbols: c/strm.h c/strm_mt.h tools/c_symbols
 	@mkdir -p build
-	@tools/c_symbols --debian $(SONAME) >build/libstrm.symbols
+	@tools/c_symbols --debian $(SONAME) $(SONAME_MT) >build/libstrm.symbols
+
+# The library for threads that wait, which is tested, not proved. Its functions are those of c/strm_mt.h.
+$(BUILD)/strm_mt.o: c/strm_mt.c c/strm_mt.h c/strm.h
+	@mkdir -p $(BUILD)
+	$(CC) -std=c11 -O2 -fPIC -Wall -Wextra -pedantic -Ic -c c/strm_mt.c -o $@
+
+$(BUILD)/libstrm_mt.a: $(BUILD)/strm_mt.o
+	rm -f $@
+	$(AR) rcD $@ $<
+
+$(BUILD)/libstrm_mt.so: $(BUILD)/strm_mt.o $(SHARED)
+	$(CC) -shared -Wl,-soname,$(SONAME_MT),-z,defs,-z,relro,-z,now $^ -pthread -o $@
 
 # Fills in a form of a file that says where the library is, as strm.pc.
 FORM = sed 's:@PREFIX@:$(PC_PREFIX):; s/@VERSION@/$(VERSION)/'
@@ -280,18 +303,21 @@ FORCE:
 # Where the library is installed.
 LIB := $(DESTDIR)$(PREFIX)/lib
 
-# Installs both libraries for C, their headers and their manuals, the crate for Rust and the wheel for Python. With them is what pkg-config and
+# Installs libstrm and libstrm_mt, their headers and their manuals, the crate for Rust and the wheel for Python. With them is what pkg-config and
 # CMake find them by. Then it prints the lines that let pkg-config and the loader find them, unless they are to be moved from DESTDIR.
-install-lib: $(ARCHIVE) $(SHARED)
+install-lib: $(ARCHIVE) $(SHARED) $(ARCHIVE_MT) $(SHARED_MT)
 	install -D -m 644 $(ARCHIVE) $(LIB)/libstrm.a
 	install -m 644 $(SHARED) $(LIB)/libstrm.so.$(VERSION)
 	ln -sf libstrm.so.$(VERSION) $(LIB)/$(SONAME)
 	ln -sf $(SONAME) $(LIB)/libstrm.so
+	install -m 644 $(ARCHIVE_MT) $(LIB)/libstrm_mt.a
+	install -m 644 $(SHARED_MT) $(LIB)/libstrm_mt.so.$(VERSION)
+	ln -sf libstrm_mt.so.$(VERSION) $(LIB)/$(SONAME_MT)
+	ln -sf $(SONAME_MT) $(LIB)/libstrm_mt.so
 	$(FORM) c/strm.pc.in | install -D -m 644 /dev/stdin $(LIB)/pkgconfig/strm.pc
 	install -D -m 644 c/strm-config.cmake $(LIB)/cmake/strm/strm-config.cmake
 	$(FORM) c/strm-config-version.cmake.in | install -m 644 /dev/stdin $(LIB)/cmake/strm/strm-config-version.cmake
-	install -D -m 644 c/strm.h $(DESTDIR)$(PREFIX)/include/strm.h
-	install -m 644 bindings/cpp/strm.hpp $(DESTDIR)$(PREFIX)/include/strm.hpp
+	install -D -m 644 -t $(DESTDIR)$(PREFIX)/include c/strm.h c/strm_mt.h bindings/cpp/strm.hpp
 	rm -rf $(SHARE)/strm/bindings
 	for file in Cargo.toml build.rs src/lib.rs src/raw.rs; do install -D -m 644 bindings/rust/$$file $(SHARE)/strm/bindings/rust/$$file || exit; done
 	@python3 bindings/python/make_wheel.py $(SHARE)/strm/bindings $(SHARED)

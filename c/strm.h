@@ -889,12 +889,11 @@ int strm_getq_n(struct strm_pool *pool, uint32_t queue, struct strm_msg *msgs, s
  * own queue would decide for itself. A source without a queue, such as an interrupt, asks about the
  * queue on which it puts. If *yes is 0, it asks again later, or drops the message: nothing wakes
  * it. If it must be woken, give it a queue that stays empty and has a service procedure, and whose
- * next queue is the one on which it puts (SENDER in examples/c/locked.c). The water marks of such a
- * queue do not matter: for instance 1 and 0. Only one queue may have a given queue as its next, so
- * several senders share one empty queue. Its service procedure calls strm_qenable on the queue of
- * each sender that waits, or wakes it. The bytes of high priority messages count with band 0,
- * which they can make full. The call may mark a band, so it is no look, and ends pointers of
- * strm_bytes.
+ * next queue is the one on which it puts. The water marks of such a queue do not matter: for
+ * instance 1 and 0. Only one queue may have a given queue as its next, so several senders share one
+ * empty queue. Its service procedure calls strm_qenable on the queue of each sender that waits, or
+ * wakes it. Threads wait by strm_mt.h. The bytes of high priority messages count with band 0, which
+ * they can make full. The call may mark a band, so it is no look, and ends pointers of strm_bytes.
  * As in STREAMS; canput asks for band 0.
  */
 int strm_bcanput(struct strm_pool *pool, uint32_t queue, uint32_t band, uint32_t *yes);

@@ -17,9 +17,9 @@ FORMS = {
 }
 
 
-def declared():
-    """The functions that strm.h declares."""
-    words = [os.path.join(TOP, "tests", "c", "declared"), os.path.join(TOP, "c", "strm.h")]
+def declared(header="strm.h"):
+    """The functions that a header declares."""
+    words = [os.path.join(TOP, "tests", "c", "declared"), os.path.join(TOP, "c", header)]
     return subprocess.run(words, capture_output=True, text=True, check=True).stdout.split()
 
 

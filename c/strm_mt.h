@@ -1,0 +1,176 @@
+/*
+ * strm_mt.h: threads that wait for the messages, the room and the blocks of a pool of strm.h, for
+ * programs in C and C++. This library is tested, not proved; the pool below it is that of strm.h.
+ *
+ *     strm_mt_alloc(mt, 4, &msg, NULL);
+ *     strm_write(strm_mt_lock(mt), msg, 0, "lion", 4);
+ *     strm_mt_unlock(mt);
+ *     strm_mt_send(mt, 0, msg, NULL);
+ *
+ *
+ * Results
+ *
+ * Calls return codes as those of strm.h do, in its order, and store results only with STRM_OK. The
+ * codes below are added; strm_mt_error has the text of all.
+ *
+ *
+ * Waiting
+ *
+ * A `deadline` is a time of CLOCK_MONOTONIC. With null a call waits for ever; with a time that has
+ * passed, such as zeros, it never waits. If a call would have to wait longer, it returns
+ * STRM_MT_TIMED_OUT.
+ *
+ * Each unlock serves the calls that wait: it puts, takes or allocates for each that can go on, and
+ * then wakes its thread. So at no time while the lock is free does a call wait that could go on.
+ * Calls are served in these orders:
+ *
+ *   - At a queue, those that send in one band, and those that receive, in the order in which they
+ *     came. No later call overtakes them.
+ *   - Of those that send in several bands, greater bands first. Greater bands are received first
+ *     too, so they can keep messages of smaller ones waiting for ever.
+ *   - Of those that allocate, in the order in which they came, each that finds its blocks.
+ *
+ * A full band has room once it is below its high water mark; the low one plays no part. Each unlock
+ * costs a call of strm.h for each queue and band at which a call waits, for each size that one
+ * waits for, and for each descriptor of strm_mt_fd. Without these it costs nothing, and a call that
+ * need not wait makes no system call.
+ *
+ *
+ * What the caller promises
+ *
+ * The rules of strm.h hold, and these:
+ *
+ *   - A thread that holds the lock makes no call of this header but those that unlock.
+ *   - Threads are cancelled only where that is deferred. Only a call that waits is a cancellation
+ *     point. If its thread is cancelled, it holds no lock, no place and no message that it got. A
+ *     message that it has not sent stays held: strm_has says so.
+ *   - A signal handler may interrupt a call that waits, which then waits on.
+ */
+#ifndef STRM_MT_H
+#define STRM_MT_H
+
+#include "strm.h"
+
+#ifdef __cplusplus
+extern "C" {
+#endif
+
+enum {
+	STRM_MT_TIMED_OUT = -31,	/* the deadline has passed */
+	STRM_MT_CLOSED = -32,		/* the queue is shut */
+	STRM_MT_NO_FD = -33		/* the system gives no file descriptor; errno says why */
+};
+
+/* What a descriptor of strm_mt_fd waits for. */
+enum {
+	STRM_MT_READABLE,		/* a message to receive */
+	STRM_MT_WRITABLE		/* room to send in a band */
+};
+
+/* A pool with its lock, and the calls that wait there. */
+struct strm_mt;
+struct timespec;
+
+/* ---- a pool with its lock: strm_mt_open(3) */
+
+/*
+ * Opens a pool as strm_open does. This call and strm_mt_fd are the only ones that allocate.
+ * Refused as by strm_open.
+ */
+int strm_mt_open(struct strm_mt **mt, const struct strm_config *config);
+
+/*
+ * Closes a pool as strm_close does, and the descriptors of strm_mt_fd. No thread may be in a call
+ * with this pool: shut it first, and join the threads.
+ */
+int strm_mt_close(struct strm_mt *mt);
+
+/*
+ * Locks the pool, for any call of strm.h but strm_open and strm_close. Null has no pool: the call
+ * returns null.
+ */
+struct strm_pool *strm_mt_lock(struct strm_mt *mt);
+
+/* Serves the calls that wait, unlocks the pool, and wakes the threads of those that went on. */
+void strm_mt_unlock(struct strm_mt *mt);
+
+/*
+ * Locks the pool for looks. Several threads may hold it so at the same time; one that waits for
+ * strm_mt_lock goes before those that come later.
+ */
+const struct strm_pool *strm_mt_rdlock(struct strm_mt *mt);
+
+/* Unlocks what strm_mt_rdlock locked. */
+void strm_mt_rdunlock(struct strm_mt *mt);
+
+/* ---- send and receive: strm_mt_send(3) */
+
+/*
+ * Puts a message on a queue as strm_putq does, once strm_bcanput allows it for the message's band.
+ * High priority never waits. `msg` is then no longer valid; after any other code it is still yours.
+ * Refused as STRM_MT_CLOSED, STRM_MT_TIMED_OUT.
+ */
+int strm_mt_send(struct strm_mt *mt, uint32_t queue, struct strm_msg msg, const struct timespec *deadline);
+
+/*
+ * Takes the first message off a queue as strm_getq does, once there is one.
+ * Refused as STRM_MT_CLOSED if the queue is shut and empty, STRM_MT_TIMED_OUT.
+ */
+int strm_mt_receive(struct strm_mt *mt, uint32_t queue, struct strm_msg *msg, const struct timespec *deadline);
+
+/*
+ * Sends messages as strm_mt_send does, with one deadline for all: those named in the array `msgs`
+ * of `length` names, in this order. The result is as of strm_putq_n. The thread sleeps until all
+ * are sent, and those of other senders in the same band do not come between.
+ */
+int strm_mt_send_n(struct strm_mt *mt, uint32_t queue, const struct strm_msg *msgs, size_t length,
+	const struct timespec *deadline, size_t *count);
+
+/*
+ * Receives messages as strm_mt_receive does: as many as there are, at most `length`. It waits only
+ * while there is none. The result is as of strm_getq_n.
+ */
+int strm_mt_receive_n(struct strm_mt *mt, uint32_t queue, struct strm_msg *msgs, size_t length,
+	const struct timespec *deadline, size_t *count);
+
+/*
+ * Allocates a message as strm_allocb does, once blocks for it are free. Its wish is not one of
+ * strm_bufcall: it uses up no id, and `bufcalls` of the configuration does not limit it.
+ * Refused as STRM_TOO_LARGE, STRM_MT_CLOSED if all is shut and it would wait, STRM_MT_TIMED_OUT.
+ */
+int strm_mt_alloc(struct strm_mt *mt, uint32_t size, struct strm_msg *msg, const struct timespec *deadline);
+
+/*
+ * Shuts a queue for ever: sending there, and receiving once it is empty, returns STRM_MT_CLOSED.
+ * All calls that wait there return so at once. STRM_NO_QUEUE shuts all queues, and waiting for
+ * blocks.
+ */
+int strm_mt_shut(struct strm_mt *mt, uint32_t queue);
+
+/*
+ * Counts the calls that wait at a queue, or with STRM_NO_QUEUE those that wait for blocks.
+ */
+int strm_mt_waiting(struct strm_mt *mt, uint32_t queue, uint32_t *calls);
+
+/* ---- event loops: strm_mt_fd(3) */
+
+/*
+ * Sets *fd to a descriptor (an eventfd) for poll, epoll or io_uring. It is readable exactly while
+ * the lock is free and a receive (`what` is STRM_MT_READABLE), or a send in `band`
+ * (STRM_MT_WRITABLE), would not wait. So it is level-triggered. Another thread may come first:
+ * receive and send with a deadline of zeros, and take STRM_MT_TIMED_OUT as spurious. The band of
+ * STRM_MT_READABLE is ignored. Equal arguments give the same descriptor, which stays until
+ * strm_mt_close; do not read, write or close it. Each change of readiness costs a system call.
+ * Refused as STRM_BAD_ARGUMENT for another `what` or band, STRM_NO_SUCH_QUEUE, STRM_NO_MEMORY,
+ * STRM_MT_NO_FD.
+ */
+int strm_mt_fd(struct strm_mt *mt, uint32_t queue, uint32_t what, uint32_t band, int *fd);
+
+/* Returns the text of a code as strm_error does, also of those of this header. */
+const char *strm_mt_error(int code);
+
+#ifdef __cplusplus
+}
+#endif
+
+#endif
