@@ -4,7 +4,7 @@ from __future__ import annotations
 import io
 import itertools
 import re
-from typing import Callable, Iterator, NamedTuple
+from typing import Callable, Counter, Iterator, NamedTuple
 
 from strm_tools.faults import FITS, FORMS, HEADER, MOST, STAGE, ConfigFault, LineFault, Reading, config_faults, line_kind, misfit
 from strm_tools.hints import config_hints, hints
@@ -187,8 +187,22 @@ class Checked:
         if self.is_right or self.every:
             yield from of_labels(self.script, self.reading.queues())
         if self.is_right:
-            for number, why in refusals(lines_of(self.script), self.reading.header):
-                yield Finding(number, "note", f"strm refuses this line in any case: {why}")
+            yield from self.notes_on_commands()
+
+    def notes_on_commands(self) -> Iterator[Finding]:
+        """Notes on commands that always fail: all, or the first that fails for a reason, with how many more do."""
+        first: dict[str, Finding] = {}
+        counts: Counter[str] = Counter()
+        for number, kind, why in refusals(lines_of(self.script), self.reading.header):
+            finding = Finding(number, "note", f"this line always fails: {why}")
+            if self.every:
+                yield finding
+            else:
+                first.setdefault(kind, finding)
+                counts[kind] += 1
+        for kind, finding in first.items():
+            more = f"; --all notes {counted(counts[kind] - 1, 'more such line')}" if counts[kind] > 1 else ""
+            yield finding._replace(words=finding.words + more)
 
 
 def findings(script: bytes, every: bool) -> Iterator[Finding]:

@@ -6,10 +6,8 @@ import io
 import re
 from typing import Any, Callable, Iterable, Iterator, List, Mapping, Match, NamedTuple, Optional, Tuple, Union
 
-from strm_tools.beside import as_word, beside
 from strm_tools.limits import CLASSES, COMMAND_LINES, DATA_BLOCK_BYTES, DATA_BLOCKS, MESSAGE_BLOCKS, QUEUES, WISHES, WORKERS
 from strm_tools.model import HIGH_PRIORITY, ORDINARY, WORDS
-from strm_tools.script import Wrong
 
 # What says whether a word, or a line, has a form.
 Fits = Callable[[str], Optional[Match[str]]]
@@ -136,10 +134,6 @@ class LineFault(NamedTuple):
         """The fault as strm reports it, which names its line."""
         return self.reported()
 
-    def explained(self, path: str) -> str:
-        """The fault as strm reports it, and which tool says of the script's file what was expected."""
-        return f"{self.reported()}; {beside('strm-check')} {as_word(path)} says more"
-
 
 class Reading:
     """A script as far as it was read. Reading goes on after a fault:
@@ -210,10 +204,6 @@ class ConfigFault(NamedTuple):
     def told(self) -> str:
         """The fault as strm reports it, with its line and what is wrong."""
         return f"line {self.number}: {self.reported()}: {self.why}"
-
-    def explained(self, path: str) -> str:
-        """The fault with what is wrong, and which tool lists all others of the script's file."""
-        return f"{self.told()}; {beside('strm-check')} --all {as_word(path)} lists all faults"
 
 
 Fault = Union[LineFault, ConfigFault]
@@ -336,10 +326,3 @@ def fault_of(script: str) -> str | None:
     """Why strm does not run a script, as strm reports it, or None."""
     fault = first_fault(script)
     return fault.reported() if fault else None
-
-
-def require_right(script: str, path: str = "-") -> None:
-    """Raises `Wrong` with the first fault of a script and its line, if strm refuses the script, which is in the file of this path."""
-    fault = first_fault(script)
-    if fault:
-        raise Wrong(fault.explained(path), "script")

@@ -6,8 +6,7 @@ import os
 from functools import partial
 
 from strm_tools.ends import read, read_bytes
-from strm_tools.faults import fault_of, require_right
-from strm_tools.judge import REPLY
+from strm_tools.hints import require_right
 from strm_tools.limits import SCRIPT_BYTES
 from strm_tools.script import TOO_LONG, Wrong
 
@@ -46,10 +45,5 @@ def read_files(words: argparse.Namespace) -> tuple[str, str | None]:
     octets = read_bytes(words.script, SCRIPT_BYTES + 1)
     text = None if words.text is None else read(words.text)
     script = script_of_bytes(octets, "replace")
-    try:
-        require_right(script, words.script)
-    except Wrong:
-        if text is not None and REPLY.match(script):
-            raise Wrong(f"{fault_of(script)}; it begins as a text of strm does: are SCRIPT and TEXT swapped?", "script")
-        raise
+    require_right(octets.decode("utf-8", "surrogateescape"), words.script)
     return script, text

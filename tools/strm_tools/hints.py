@@ -7,9 +7,10 @@ import re
 import unicodedata
 from typing import Callable, Iterator, NamedTuple
 
-from strm_tools.beside import beside
-from strm_tools.faults import AFTER, BYTE_ORDER_MARK, FITS, FORMS, MOST, STAGE, ConfigFault, LineFault, bare_of, has_form, line_kind, misfit
+from strm_tools.beside import as_word, beside
+from strm_tools.faults import AFTER, BYTE_ORDER_MARK, FITS, FORMS, MOST, STAGE, ConfigFault, LineFault, bare_of, first_fault, has_form, line_kind, misfit
 from strm_tools.model import HIGH_PRIORITY, ORDINARY
+from strm_tools.script import Wrong
 from strm_tools.shown import CARRIAGE_RETURN, octets, shown
 from strm_tools.streams import ADVICE_ON_TYPES, FLUSHES, NO_TYPE, hint_for
 
@@ -18,6 +19,11 @@ UTF_16 = ("\xff\xfe", "\xfe\xff")
 TYPES = (*ORDINARY, *HIGH_PRIORITY)
 # Words for high priority, where a type is expected.
 FOR_HIGH_PRIORITY = re.compile("(?:STRM_|M_|RS_)*(?:(?:HIGH|HI|HP|H)?_?(?:PRI|PRIO|PRIORITY)|HIGH|HI|URGENT|EXPEDITED|QPCTL)", re.IGNORECASE)
+# How the files begin that people take for a script.
+OTHER_FILES = {
+    "h pool ": "a trace begins so; strm-record makes a script of it",
+    r"(0|[1-9][0-9]?):[1-9][0-9]* ": "a text that strm printed begins so; it comes after its script",
+}
 # Longer words are none that somebody mistyped.
 LONGEST_WORD = 16
 
@@ -43,8 +49,8 @@ class Faulty(NamedTuple):
         return FORMS[self.words[0]][self.place - 1]
 
     def text(self) -> str:
-        """Where the cause of the fault is: the wrong word, or the whole line if the number of words is wrong."""
-        return self.line if self.kind == "shape" else self.word()
+        """Where the cause of the fault is: the wrong word, or the whole line if the number of words or its end is wrong."""
+        return self.line if self.kind in ("shape", "cut") else self.word()
 
     def has_empty(self) -> bool:
         """Whether an empty word may be the cause."""
@@ -191,7 +197,10 @@ def first_word(faulty: Faulty) -> Iterator[str]:
     """What a first word may mean that is none."""
     word = bare_of(faulty.word())
     known = hint_for(word, FORMS)
-    if word.lower() in FORMS:
+    other = next((hint for begin, hint in OTHER_FILES.items() if faulty.before == "nothing" and re.match(begin, faulty.line)), None)
+    if other:
+        yield other
+    elif word.lower() in FORMS:
         if word not in FORMS:
             yield f"words are in small letters: write {word.lower()}"
     elif known:
@@ -352,3 +361,19 @@ def config_hints(fault: ConfigFault) -> Iterator[str]:
     """The hints for a fault of the pool that a header describes."""
     if fault.which == "Marks" and fault.why.endswith("the high one, 0"):
         yield "no low water mark is below 0; with the marks 1 and 0 a band is full from its first byte on"
+
+
+def first_hint(fault: LineFault, script: str) -> str:
+    """The first hint for a fault of a line, after a semicolon, or nothing."""
+    line, octets = (text.encode("utf-8", "surrogateescape") for text in (fault.line, script))
+    return "".join(f"; {hint}" for hint in hints(fault._replace(line=line.decode("latin-1")), octets)[:1])
+
+
+def require_right(script: str, path: str = "-") -> None:
+    """Raises `Wrong` with the first fault of a script and what may have caused it, if strm refuses the script, which is in the file of this
+    path."""
+    fault = first_fault(script)
+    if isinstance(fault, LineFault):
+        raise Wrong(f"{fault.reported()}{first_hint(fault, script)}; {beside('strm-check')} {as_word(path)} says more", "script")
+    if fault:
+        raise Wrong(f"{fault.told()}; {beside('strm-check')} --all {as_word(path)} lists all faults", "script")

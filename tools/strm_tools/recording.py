@@ -7,7 +7,7 @@ from __future__ import annotations
 from collections import Counter
 from typing import Callable, Counter as Counts
 
-from strm_tools.faults import AFTER, MOST, HeaderLine, config_faults
+from strm_tools.faults import AFTER, FORMS, MOST, HeaderLine, config_faults
 from strm_tools.held import Held
 from strm_tools.labels import WRITTEN, form_of, queues_of
 from strm_tools.made_script import Script
@@ -69,7 +69,8 @@ class Recording:
             return
         mark, _, rest = ("#", "", line) if line.startswith("#") else line.partition(" ")
         if mark not in LINES:
-            raise Bad(f"a line begins with one of {' '.join(LINES)}, here {quoted(line)}")
+            is_script = mark in FORMS and not self.is_open
+            raise Bad(f"a line begins with one of {' '.join(LINES)}, here {quoted(line)}{'; this is a script already' * is_script}")
         if mark not in "h#" and not self.is_open:
             raise Bad(f"expected {self.next_of_header()} first, here {quoted(line)}")
         if self.made.report and mark != "r":

@@ -5,7 +5,7 @@ import difflib
 from collections import Counter
 
 from strm_tools.faults import FITS, FORMS, MOST, LineFault, fault_in, line_kind
-from strm_tools.hints import FOR_HIGH_PRIORITY, TYPES, hints
+from strm_tools.hints import FOR_HIGH_PRIORITY, TYPES, first_hint
 from strm_tools.play.session import is_command
 from strm_tools.script import Wrong
 from strm_tools.streams import hint_for
@@ -50,9 +50,8 @@ def number_of(word: str, least: int = 0) -> int:
 
 def hint_of(fault: str, first: str, rest: list[str]) -> str:
     """The first note of strm-check on a fault of a line, after a semicolon, or nothing."""
-    octets = " ".join([first, *rest]).encode("utf-8", "surrogateescape")
-    noted = hints(LineFault(1, fault, octets.decode("latin-1"), "command", 0), octets + b"\n")
-    return f"; {noted[0]}" if noted else ""
+    line = " ".join([first, *rest])
+    return first_hint(LineFault(1, fault, line, "command", 0), f"{line}\n")
 
 
 def explained(fault: str, first: str, rest: list[str]) -> str:

@@ -9,7 +9,7 @@ import weakref
 from itertools import takewhile
 from typing import Any, Callable, Iterable, Iterator, NamedTuple, Sequence
 
-from strm_tools.faults import require_right
+from strm_tools.hints import require_right
 from strm_tools.labels import labels_of
 from strm_tools.library import Library, difference
 from strm_tools.model import WORDS, Data, Model, Values

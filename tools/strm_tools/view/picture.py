@@ -6,8 +6,7 @@ import os
 import re
 import tempfile
 
-from strm_tools.browser import Browser, chromium
-from strm_tools.script import Wrong
+from strm_tools.browser import Browser, Failed, chromium
 from strm_tools.view.page import source, write_page
 
 # The width of a picture, which makes three columns; its margin at each side; the height of the line above.
@@ -60,7 +59,7 @@ def drawn(title: str, script: str, text: str | None, frame: int) -> tuple[str, s
             film = write_page(file, title, script, text)
             file.write(DRAWN.replace("WIDTH", str(WIDTH - 2 * SIDE)).replace("FRAME", str(frame)))
         if frame not in range(film.frame + 1):
-            raise Wrong(f"there is no frame {frame}, and the last one is {film.frame}", "script")
+            raise Failed(f"there is no frame {frame}, and the last one is {film.frame}")
         dom = Browser(chromium(), room).dom(path)
     height, inner = re.findall(r'\A<svg [^>]*height="([\d.]+)"[^>]*>(.*)</svg>\Z', found(r'<pre id="drawn">(.*?)</pre>', dom), re.DOTALL)[0]
     command, reply = (found(rf'<code id="{name}">([^<]*)</code>', dom) for name in ("command", "reply"))
