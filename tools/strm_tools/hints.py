@@ -302,9 +302,9 @@ def octets_apart(faulty: Faulty) -> Iterator[str]:
 
 
 def quoted_text(text: str) -> Iterator[str]:
-    """Text in quotes, where bytes are expected."""
-    found = re.fullmatch(r"([\"'])([\x20-\x7e]{1,64})\1", text)
-    if found:
+    """Text in quotes, or letters without them, where bytes are expected."""
+    found = re.fullmatch(r"([\"']?)([\x20-\x7e]{1,64})\1", text)
+    if found and (found[1] or re.search("[g-z]", text) and not re.search("[0-9]", text)):
         yield f"in hexadecimal: {found[2].encode().hex()}"
 
 

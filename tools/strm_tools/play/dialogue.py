@@ -53,6 +53,8 @@ def go_on(shell: Shell, face: Face) -> None:
             sys.stdout.flush()
             line = face.line(shell.prompt())
             if line is None:
+                if shell.goes_on():
+                    continue
                 shell.take_end()
                 return
             shell.take(line)

@@ -4,7 +4,7 @@ from __future__ import annotations
 import difflib
 from collections import Counter
 
-from strm_tools.faults import FITS, FORMS, MOST, LineFault, fault_in, line_kind
+from strm_tools.faults import FITS, FORMS, MOST, HeaderLine, LineFault, config_faults, fault_in, line_kind
 from strm_tools.hints import FOR_HIGH_PRIORITY, TYPES, first_hint
 from strm_tools.play.session import is_command
 from strm_tools.script import Wrong
@@ -16,6 +16,7 @@ OWN = {
     "help": ("[WORD]", "Lists all commands, or says what one does.", "word"),
     "header": ("", "Shows the lines that describe the pool.", ""),
     "new": ("[FILE]", "Opens the pool of a script, or one that you type.", "file"),
+    "load": ("FILE", "Opens a script, whose lines wait for next, until or run.", "file"),
     "state": ("[on|off]", "Shows the state; on: after every line, off: on request.", "switch"),
     "report": ("", "Prints the report of the pool, as strm does.", ""),
     "list": ("[N]", "Lists the executed lines, or the last N, with replies.", ""),
@@ -33,7 +34,27 @@ OWN = {
     "quit": ("", "Ends the session, as Ctrl-D does.", ""),
 }
 # What people type for commands of the session.
-MEANT = {"exit": "quit", "q": "quit", "?": "help", "show": "state", "open": "new", "load": "new", "step": "next", "goto": "until", "break": "until", "continue": "run"}
+MEANT = {"exit": "quit", "q": "quit", "?": "help", "show": "state", "open": "load", "step": "next", "goto": "until", "break": "until", "continue": "run"}
+# What refuses each command with such an item, before its own refusals.
+REPLIES_OF_ITEMS = {"queue": "NoSuchQueue", "from": "empty", "to": "taken"}
+# What the words of the state mean that are no commands, and those that are.
+TERMS = {
+    "band": "Messages have a band, 0 to 255: those of a greater band go first. Each band of a queue has its own bytes and water marks.",
+    "rank": "What orders a queue: high priority first, and then bands from 255 down to 0.",
+    "full": "full=1: the bytes of the band have reached its high water mark, so bcanput replies no.",
+    "wanted": "wanted=1: bcanput found the band full, so a sender waits. Once the bytes are down to the low water mark, the nearest queue before it with a service procedure is enabled.",
+    "enabled": "enabled=1: the queue is on the run list, from which service takes it.",
+    "room": "room: the bytes that a block can still take, after its write place.",
+    "register": "A letter, a to z, for a message that a worker holds.",
+    "read": "In the state, read=1: the last getq found nothing, so the next message enables the queue.",
+    "noenable": "In the state, noenable=1: messages do not enable the queue, except those of high priority.",
+}
+
+
+def other_replies(word: str) -> list[str]:
+    """What a command may reply beside what the sentence on it names."""
+    of_items = [reply for item, reply in REPLIES_OF_ITEMS.items() if item in FORMS[word]]
+    return of_items + (["ok"] if "Reply:" not in WORDS[word].does else [])
 
 
 def is_on_types(word: str) -> bool:
@@ -95,6 +116,12 @@ class TypedHeader:
     def __init__(self) -> None:
         self.lines: list[str] = []
 
+    def header_with(self, text: str) -> list[HeaderLine]:
+        """The lines of the header with another one. As long as this is not the last, queues may follow to which others lead already."""
+        lines = [(number, line.split(" ")) for number, line in enumerate([*self.lines, text], 1) if is_command(line)]
+        header: list[HeaderLine] = [(number, words[0], words[1:]) for number, words in lines]
+        return header if text.startswith(("bufcalls", "worker")) else header + [(0, "queue", None)] * MOST["queue"]
+
     def take(self, text: str) -> list[str] | None:
         """Takes a line. Returns the header if it is whole, and otherwise nothing. Raises `HeaderFault` for a fault."""
         kinds = [line_kind(line.split(" ")[0]) for line in filter(is_command, self.lines)]
@@ -102,9 +129,12 @@ class TypedHeader:
         word, *rest = text.split(" ")
         fault = is_command(text) and fault_in(word, rest, before, Counter(kinds))
         if fault == "order":
-            raise HeaderFault(f"order: {misplaced(word, before)}", "; undo keeps the pool that there was")
+            raise HeaderFault(f"order: {misplaced(word, before)}", "; undo takes back the line before")
         if fault:
             raise HeaderFault(explained(fault, word, rest))
+        for of_pool in config_faults(self.header_with(text)):
+            is_above = of_pool.number <= len(self.lines)
+            raise HeaderFault(of_pool.told() if is_above else f"{of_pool.reported()}: {of_pool.why}", "; undo takes back the line before")
         if word == "worker":
             return self.lines
         self.lines += [text] if text else []

@@ -41,8 +41,8 @@ class Executed(NamedTuple):
 class Section:
     """The lines of a worker, of which the first were executed."""
 
-    def __init__(self) -> None:
-        self.lines: list[str] = []
+    def __init__(self, lines: Iterable[str] = ()) -> None:
+        self.lines = list(lines)
         self.done = 0
 
     def waiting(self) -> int:
@@ -58,20 +58,20 @@ class Section:
 
 
 class Play:
-    """A pool since it was opened. The methods from `add` to `rewind` are changes: a session takes one back by playing those before
-    it again."""
+    """A pool since it was opened, perhaps with lines that wait. The methods from `add` to `rewind` are changes: a session takes one back by
+    playing those before it again."""
 
-    def __init__(self, header: list[str], strm: Any = None) -> None:
+    def __init__(self, header: list[str], sections: Sequence[list[str]] = ([],), strm: Any = None) -> None:
         self.header = header
         # The package whose library replies, or None.
         self.strm = strm
         self.pool = script_of(text_of(header))[0]
-        self.sections = [Section()]
+        self.sections = list(map(Section, sections))
         # The worker whose lines are entered, and whether they wait.
         self.turn = 0
         self.holds = False
         # The comments that may be labels.
-        self.comments = [line for line in header if line.startswith("#:")]
+        self.comments = [line for lines in (header, *sections) for line in lines if line.startswith("#:")]
         self.clear()
 
     def clear(self) -> None:
@@ -262,23 +262,31 @@ class Change(NamedTuple):
     named: str
 
 
-def opening(header: list[str]) -> Change:
-    """The change that opens a pool."""
-    return Change("open", (header,), "another pool")
+def opening(header: list[str], *sections: list[str]) -> Change:
+    """The change that opens a pool, perhaps with sections whose lines wait."""
+    return Change("open", (header, sections or ([],)), "another pool")
+
+
+def parts_of(script: str, path: str = "-") -> list[list[str]]:
+    """The lines of the header of a script, which is in the file of this path, and of each of its sections. Raises `Wrong` for a fault."""
+    require_right(script, path)
+    parts: list[list[str]] = [[]]
+    for line in script[:-1].split("\n"):
+        if line == "worker":
+            parts.append([])
+        else:
+            parts[-1].append(line)
+    return parts
 
 
 def changes_of(script: str, path: str = "-") -> Iterator[Change]:
-    """The changes that open the pool of a script, which is in the file of this path, and execute its lines, section by section. Raises `Wrong` for a fault."""
-    require_right(script, path)
-    lines = script[:-1].split("\n")
-    begin = lines.index("worker")
-    worker = 0
-    yield opening(lines[:begin])
-    for line in lines[begin + 1 :]:
-        if line == "worker":
-            worker += 1
+    """The changes that open the pool of a script, as `parts_of` reads it, and execute its lines, section by section."""
+    header, *sections = parts_of(script, path)
+    yield opening(header)
+    for worker, lines in enumerate(sections):
+        if worker > 0:
             yield Change("begin", (), "worker")
-        else:
+        for line in lines:
             yield Change("add", (worker, line), line)
 
 
@@ -294,8 +302,7 @@ class Session:
     def play_again(self) -> None:
         """Plays all changes since the pool was opened."""
         begin = max(at for at, change in enumerate(self.changes) if change.method == "open")
-        (header,) = self.changes[begin].given
-        self.play = Play(header, self.strm)
+        self.play = Play(*self.changes[begin].given, strm=self.strm)
         self.before: Rows = rows_of(self.play)
         for at, change in enumerate(self.changes[begin + 1 :], begin + 2):
             self.make(change, at == len(self.changes))

@@ -4,18 +4,19 @@ from __future__ import annotations
 import os
 import shlex
 from collections import Counter
-from typing import Callable, Sequence, Tuple
+from itertools import chain
+from typing import Callable, Container, Sequence, Tuple
 
-from strm_tools.faults import fault_in, first_fault
+from strm_tools.faults import fault_in
 from strm_tools.library import difference
 from strm_tools.listing import listing
 from strm_tools.play import proved
 from strm_tools.play.completion import completed
 from strm_tools.model import Model
 from strm_tools.play.face import Face, Piece, named
-from strm_tools.play.own import OWN, HeaderFault, TypedHeader, explained, is_on_types, number_of, wrong_form
-from strm_tools.play.session import Change, Session, changes_of, is_command, opening, parted, text_of
-from strm_tools.play.state import drawn, is_changed
+from strm_tools.play.own import OWN, TERMS, HeaderFault, TypedHeader, explained, is_on_types, number_of, other_replies, wrong_form
+from strm_tools.play.session import Change, Session, is_command, opening, parted, parts_of
+from strm_tools.play.state import Key, changed, drawn
 from strm_tools.play.turns import Turns
 from strm_tools.rules import EFFECTS, FLOW, Found, explains, labelled, why
 from strm_tools.script import Wrong
@@ -68,6 +69,8 @@ class Shell(Turns):
         # The header that is typed, or None.
         self.typed: TypedHeader | None = None
         self.is_drawn: bool | None = None
+        # The script as it was begun or saved.
+        self.kept = session.play.script()
         self.said: set[str] = set()
 
     def say_once(self, text: str) -> None:
@@ -84,7 +87,7 @@ class Shell(Turns):
         self.on_header()
         if path is not None:
             replies, _ = self.answers()
-            self.say(f"{path}: {counted(len(replies), 'command')} executed; list shows them")
+            self.say(f"{path}: {counted(len(replies), 'command')} executed; list shows them, and after rewind next goes through them")
         self.draw()
 
     def interrupted(self) -> None:
@@ -134,6 +137,15 @@ class Shell(Turns):
         if self.typed is not None and not self.face.reads_terminal:
             raise HeaderFault("the input ends in a header, whose end is a line `worker`")
 
+    def goes_on(self) -> bool:
+        """Whether a session at a terminal goes on after Ctrl-D: once, if lines are not saved."""
+        script = self.play.script()
+        if not self.face.is_terminal or script == self.kept:
+            return False
+        self.kept = script
+        self.say("lines are not saved: save FILE keeps them, quit or another Ctrl-D does not")
+        return True
+
     def take_own(self, word: str, rest: list[str]) -> None:
         """Does a command of the session."""
         try:
@@ -146,7 +158,7 @@ class Shell(Turns):
         if not least <= len(words) <= most:
             raise wrong_form(word)
         if self.typed is not None and word not in ("help", "quit", "undo"):
-            raise Wrong("the header is not at its end yet, which is a line `worker`; undo keeps the pool that there was")
+            raise Wrong("the header is not at its end yet, which is a line `worker`; undo takes its lines back")
         getattr(self, f"on_{word}")(*words)
 
     def take_command(self, text: str, word: str, rest: list[str]) -> None:
@@ -206,22 +218,25 @@ class Shell(Turns):
         by_itself = self.is_drawn is None
         if self.is_drawn is False or by_itself and not self.face.is_terminal:
             return
-        if by_itself and not anew and not is_changed(self.play, self.session.before):
+        keys = changed(self.play, self.session.before) if by_itself else set()
+        if by_itself and not anew and not keys:
             return
         lines = self.lines_of_state()
-        if not by_itself or len(lines) <= self.face.height() - 3:
-            self.face.show(lines)
-        else:
-            self.say_once("the state does not fit this window; state shows it")
+        if by_itself and len(lines) > (most := self.face.height() - 3):
+            self.say_once("the state does not fit this window, so only what changes is drawn; state shows all")
+            lines = self.lines_of_state(keys)
+            if len(lines) > most:
+                lines[most - 1 :] = [[(f" .. {counted(len(lines) - most + 1, 'more line')}", "")]]
+        self.face.show(lines)
 
-    def lines_of_state(self) -> list[list[Piece]]:
-        return list(drawn(self.play, self.session.before, self.face.width()))
+    def lines_of_state(self, keys: Container[Key] | None = None) -> list[list[Piece]]:
+        return list(drawn(self.play, self.session.before, self.face.width(), keys))
 
     # ---- Another pool ------------------------------------------------------------------------------------------------
 
-    def open(self, changes: list[Change], of: str) -> None:
+    def open(self, change: Change, of: str) -> None:
         """Opens a pool, and shows its header."""
-        self.session.open(changes)
+        self.session.open([change])
         self.say(f"the pool of {of}:")
         self.on_header()
         self.draw()
@@ -237,10 +252,7 @@ class Shell(Turns):
         header = typed.take(text)
         if header is not None:
             self.typed = None
-            fault = first_fault(text_of([*header, "worker"]))
-            if fault:
-                raise HeaderFault(f"the header has a fault: {fault.told()}", "; it is dropped, and the pool is as before")
-            self.open([opening(header)], "these lines")
+            self.open(opening(header), "these lines")
 
     # ---- Commands of the session -------------------------------------------------------------------------------------
 
@@ -259,8 +271,15 @@ class Shell(Turns):
         elif word in WORDS:
             self.say(whole_form(word) + (" (in the header)" if word in HEADER and word != "worker" else ""))
             self.face.paragraph("  ", WORDS[word].does)
+            others = other_replies(word) if word not in HEADER else []
+            if others:
+                self.face.paragraph("  ", f"Replies also: {', '.join(others)}.")
+            if word in TERMS:
+                self.face.paragraph("  ", TERMS[word])
             if "TYPE" in WORDS[word].form.split():
                 self.say_types()
+        elif word in TERMS:
+            self.face.paragraph("", TERMS[word])
         elif is_on_types(word):
             self.say_types()
         else:
@@ -278,15 +297,27 @@ class Shell(Turns):
     def on_new(self, path: str | None = None) -> None:
         if path is None:
             self.typed = TypedHeader()
-            self.say("Type the header, each line in its form, and `worker` at its end; undo keeps the pool that there is:")
+            self.say("Type the header, each line in its form, and `worker` at its end; undo takes a line back:")
             for word in HEADER:
                 self.say(f"  {whole_form(word)}")
             return
+        header, *sections = self.parts_of_file(path)
+        self.open(opening(header), path)
+        count = sum(map(is_command, chain(*sections)))
+        if count:
+            self.say(f"{counted(count, 'command')} left out; load {named(path)} has them wait for next")
+
+    def on_load(self, path: str) -> None:
+        self.open(opening(*self.parts_of_file(path)), path)
+        self.kept = self.play.script()
+        self.say_waiting()
+
+    def parts_of_file(self, path: str) -> list[list[str]]:
+        """The lines of the header and of the sections of a script. Raises `Wrong` with the name of its file."""
         try:
-            changes = list(changes_of(self.face.read(path), path))
+            return parts_of(self.face.read(path), path)
         except Wrong as reason:
             raise Wrong(f"{named(path)}: {reason}")
-        self.open(changes[:1], path)
 
     def on_state(self, switch: str | None = None) -> None:
         if switch not in (None, "on", "off"):
@@ -360,8 +391,11 @@ class Shell(Turns):
 
     def on_undo(self, count: str = "1") -> None:
         if self.typed is not None:
-            self.typed = None
-            self.say("the header is given up, and the pool is as before")
+            if self.typed.lines:
+                self.say(f"taken back: {self.typed.lines.pop()}")
+            else:
+                self.typed = None
+                self.say("no header is typed any more, and the pool is as before")
             return
         self.say_changes("taken back", self.session.undo(number_of(count, 1)), "there is nothing to take back")
 
@@ -389,6 +423,7 @@ class Shell(Turns):
         if len(set(paths)) < len(paths):
             raise Wrong("script and text need two files")
         self.face.save(dict(zip(paths, (self.play.script(), self.play.text()))), overwrites)
+        self.kept = self.play.script()
         commands = len(self.play.executed) + waiting
         self.say(f"wrote {paths[0]}: {counted(len(self.play.sections), 'section')}, {counted(commands, 'command')}")
         for path in paths[1:]:

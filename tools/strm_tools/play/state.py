@@ -4,7 +4,7 @@ A row has a key. Its words are compared one by one with those that had the same 
 from __future__ import annotations
 
 from itertools import zip_longest
-from typing import TYPE_CHECKING, Any, Collection, Dict, Iterable, Iterator, NamedTuple, Tuple
+from typing import TYPE_CHECKING, Any, Collection, Container, Dict, Iterable, Iterator, NamedTuple, Tuple
 
 from strm_tools.model import Message, Next, Pool, rank
 
@@ -17,6 +17,8 @@ BAR = 12
 BYTES = 8
 # The most messages that are drawn at the front of a queue, and those at its back if there are more.
 FRONT, BACK = 12, 3
+# What a row of each kind is of.
+OF = {"band": "queue", "message": "queue", "register": "worker"}
 
 
 class Row(NamedTuple):
@@ -151,15 +153,18 @@ def pieces_of(row: Row, old: Row | None) -> Iterator[Piece]:
         yield row.tail, ""
 
 
-def is_changed(play: Play, before: Rows) -> bool:
-    """Whether a state differs from the one before."""
-    now = rows_of(play)
-    return now.keys() != before.keys() or any(row.words != before[key].words for key, row in now.items())
+def changed(play: Play, before: Rows) -> set[Key]:
+    """The keys of the rows that differ from the state before, and of the queue or worker that each is of."""
+    now = rows_of(play, before)
+    keys = {key for key, row in now.items() if key not in before or row.words != before[key].words}
+    return keys | {(OF[key[0]], key[1]) for key in keys if key[0] in OF}
 
 
-def drawn(play: Play, before: Rows, width: int) -> Iterator[list[Piece]]:
-    """The lines of the state for a window of this width, each as texts with their colour."""
+def drawn(play: Play, before: Rows, width: int, keys: Container[Key] | None = None) -> Iterator[list[Piece]]:
+    """The lines of the state for a window of this width, or only of the rows with these keys, each as texts with their colour."""
     rows = rows_of(play, before)
+    if keys is not None:
+        rows = {key: row for key, row in rows.items() if key in keys}
     hidden = messages_left_out(rows)
     first = {keys[0]: len(keys) for keys in hidden}
     skipped = {key for keys in hidden for key in keys}

@@ -47,9 +47,12 @@ class Turns:
 
     def on_rewind(self) -> None:
         self.session.do("rewind", named="rewind")
+        self.say_waiting()
+        self.draw()
+
+    def say_waiting(self) -> None:
         waiting = sum(section.waiting() for section in self.play.sections)
         self.say(f"{counted(waiting, 'line')} waiting: next executes one, until those up to a line, run all")
-        self.draw()
 
     def seeded(self, seed: int) -> int:
         """The seed, which is said if there is more than one worker to draw."""
