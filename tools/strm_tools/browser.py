@@ -10,7 +10,7 @@ from strm_tools.ends import end
 
 NAMES = ("chromium", "chromium-browser", "google-chrome")
 SECONDS = 400
-WITHOUT = ["--headless", "--no-sandbox", "--disable-gpu", "--disable-dev-shm-usage", "--hide-scrollbars"]
+WITHOUT = ["--headless", "--no-sandbox", "--disable-gpu", "--disable-dev-shm-usage"]
 
 
 class Failed(Exception):

@@ -63,9 +63,10 @@ function redraw() {
     show(current);
 }
 
-// The frame that an address in the page names, itself or by a line, or the first.
+// The frame that an address in the page names, itself or by a line; without an address the first of the kind that is looked for.
 function frameIn(hash) {
     const [, what, value] = /^#(frame|line)=([\d:]+)$/.exec(hash) ?? [];
+    if (hash.length < 2) return matches(lookedFor())[0] ?? 0;
     return (what === "line" ? frameOfPlace(value) : Number(value)) || 0;
 }
 
@@ -192,6 +193,7 @@ for (const name of ["slider", "frame"]) byId(name).max = LAST;
 byId("last").textContent = LAST;
 window.onhashchange = () => show(frameIn(location.hash));
 window.onresize = redraw;
-current = frameIn(location.hash);
+for (const scrolls of [byId("pool"), window]) scrolls.addEventListener("scroll", showBeyond, {passive: true});
 chooseKind();
+current = frameIn(location.hash);
 redraw();

@@ -1,4 +1,5 @@
-// The panels of the picture: what they show, and how much room they keep, so that they stay where they are from frame to frame.
+// The panels of the picture: what they show, and how much room they keep, so that they stay where they are from frame to frame. A panel is
+// as high as what it shows, in a dotted frame of its room.
 
 // If a run has many blocks in use, all its frames draw them narrow.
 const SMALL = run.most.inUse > 40;
@@ -107,11 +108,12 @@ function runPiece({cells, isFirst}, drawing) {
 const columnsIn = (width) => Math.max(1, Math.floor((width + BETWEEN) / (CELL.width + BETWEEN)));
 const heightOfRows = (rows) => (rows > 0 ? rows * (CELL.height + LABEL + 10) - 4 : 0);
 
-// The cells of a panel in a grid. It is as high as the run ever needs it, up to a few rows.
+// The cells of a panel in a grid. It keeps as much room as the run ever needs for it, up to a few rows.
 function gridOf({messages}, most, {showsAll}, width) {
     const columns = columnsIn(width);
-    const rows = showsAll ? Math.ceil(sum(messages.map(({blocks}) => blocks.length)) / columns) : Math.min(ROWS_OF_BLOCKS, Math.ceil(most / columns));
-    return {width, columns, rows, cells: cellsOf(messages, rows * columns)};
+    const used = Math.ceil(sum(messages.map(({blocks}) => blocks.length)) / columns);
+    const rows = showsAll ? used : Math.min(ROWS_OF_BLOCKS, Math.ceil(most / columns));
+    return {width, columns, rows, spare: heightOfRows(rows) - heightOfRows(Math.min(rows, used)), cells: cellsOf(messages, rows * columns)};
 }
 
 function gridPiece({width, columns, rows, cells}, drawing) {
@@ -140,13 +142,13 @@ function bandPiece({label, fields, bar: shares}, {marks}, width) {
     return stack([flow([words(label), bytes, ...flags], width, 4), {width, height: ROW, drawn: below}], 2);
 }
 
-function panelPiece(panel, pieces, drawing, width) {
+function panelPiece(panel, pieces, drawing, width, spare = 0) {
     const kinds = ["panel", drawing.marks.has(panel.key) && "changed", panel.key === `queue ${drawing.asked?.queue}` && "found"];
     const note = panel.title === panel.key ? [] : [words(panel.key, "faint")];
     const inner = stack([flow([words(panel.title, "title"), ...note], width - 2 * PAD), ...pieces], 5);
     const size = {width, height: inner.height + 2 * PAD};
     const drawn = element("g", {class: kinds.filter(Boolean).join(" "), "data-panel": panel.key, role: "group", "aria-label": panel.note ?? panel.title});
-    drawn.append(element("rect", {...size, rx: 4}), moved(inner, PAD, PAD));
+    drawn.append(element("rect", {class: "room", ...size, rx: 4}), element("rect", {width, height: size.height - spare, rx: 4}), moved(inner, PAD, PAD));
     return {...size, drawn};
 }
 
@@ -190,13 +192,13 @@ function queuePanel(panel, number, grid, drawing, width) {
         words(`high ${high}  low ${low}  ${service === "s" ? "service" : "no service"}`, "faint"),
         atLeast(bands, run.most.bands[number] * (BAND_HEIGHT + 5) - 5),
         gridPiece(grid, drawing),
-    ], drawing, width);
+    ], drawing, width, grid.spare);
 }
 
 function workerPanel(panel, worker, grid, drawing, width) {
     const rows = panel.rows.map((row) => rowPiece(row, drawing, width - 2 * PAD));
     const nothing = run.registers[worker] === "" ? [words("never holds a message", "faint")] : [];
-    return panelPiece(panel, [...rows, ...nothing, gridPiece(grid, drawing)], drawing, width);
+    return panelPiece(panel, [...rows, ...nothing, gridPiece(grid, drawing)], drawing, width, grid.spare);
 }
 
 // The piece of any panel, by its key.

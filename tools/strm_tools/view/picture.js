@@ -196,9 +196,9 @@ function draw(line, pool, panels, marks, chosen) {
     byId("picture").setAttribute("aria-label", `The pool at frame ${current}`);
 }
 
-// From above the first to below the last of some nodes in the panel of a queue.
-function spanOf(queue, selector) {
-    const boxes = Array.from(drawnPicture.nodes.get(`queue ${queue}`).querySelectorAll(selector), (node) => node.getBoundingClientRect());
+// From above the first to below the last of some nodes in a panel.
+function spanOf(panel, selector) {
+    const boxes = Array.from(drawnPicture.nodes.get(panel).querySelectorAll(selector), (node) => node.getBoundingClientRect());
     return {top: Math.min(...boxes.map(({top}) => top)) - GAP, bottom: Math.max(...boxes.map(({bottom}) => bottom)) + GAP};
 }
 
@@ -213,21 +213,44 @@ function offsetTo(spans, {top, bottom}) {
 // What of queues a line with a rule on a band is to show: the band, the head of its queue, and the head of each queue that it enables.
 function spansOfRule({queue, band}, events) {
     const ofBand = `[data-key^="queue ${queue} band ${band} "]`;
-    const enabled = events.filter((event) => event.startsWith("B")).map((event) => spanOf(event.slice(1), ".title, .flag"));
-    return [spanOf(queue, ofBand), spanOf(queue, `.title, ${ofBand}`), ...enabled].filter(({top}) => top < Infinity);
+    const enabled = events.filter((event) => event.startsWith("B")).map((event) => spanOf(`queue ${event.slice(1)}`, ".title, .flag"));
+    const own = `queue ${queue}`;
+    return [spanOf(own, ofBand), ...enabled, spanOf(own, `.title, ${ofBand}`)].filter(({top}) => top < Infinity);
 }
 
-// Brings into view what the line did to queues, as far as it is not. Of several changed queues one is enough.
+// What scrolls the picture, and the part of the window in which it is seen: the page below its head, or a part beside the list. The facts of a
+// chosen block cover its end.
+function seenPart() {
+    const isPart = getComputedStyle(byId("pool")).overflowY === "auto";
+    const {top, bottom} = isPart ? byId("pool").getBoundingClientRect() : {top: document.querySelector("header").offsetHeight, bottom: innerHeight};
+    return {scrolls: isPart ? byId("pool") : document.scrollingElement, top, bottom: bottom - byId("block").offsetHeight};
+}
+
+// Brings into view what the line changed in queues, or else in registers, as far as it is not. Of several changed panels one is enough.
 function showChanged(line, marks) {
     const about = bandIn(line);
-    const changed = about ? [] : run.queues.map((_, queue) => queue).filter((queue) => marks.has(`queue ${queue}`));
-    const spans = about ? spansOfRule(about, line.events) : changed.map((queue) => spanOf(queue, ".title, .marked"));
-    if (spans.length === 0) return;
-    // The facts of a chosen block cover the end of the part that has the picture.
-    const {top} = byId("pool").getBoundingClientRect();
-    const seen = {top, bottom: top + byId("pool").clientHeight - byId("block").offsetHeight};
+    changedPanels = Array.from(drawnPicture.nodes.keys()).filter((panel) => panel !== "pool" && marks.has(panel));
+    const spans = about ? spansOfRule(about, line.events) : changedPanels.map((panel) => spanOf(panel, ".title, .marked"));
+    const {scrolls, ...seen} = seenPart();
     const isOneSeen = spans.some((span) => offsetTo([span], seen) === 0);
-    if (about || !isOneSeen) byId("pool").scrollTop += offsetTo(about ? spans : spans.slice(0, 1), seen);
+    if (spans.length > 0 && (about || !isOneSeen)) scrolls.scrollTop += offsetTo(about ? spans : spans.slice(0, 1), seen);
+    showBeyond();
+}
+
+// The panels, but the pool's, that the frame's line changed.
+let changedPanels = [];
+
+// Names the changed panels whose heads are out of view, with an arrow to them, at the beginning of what is in view.
+function showBeyond() {
+    const {top, bottom} = seenPart();
+    const buttons = changedPanels.slice(0, MOST_ITEMS).flatMap((panel) => {
+        const head = drawnPicture.nodes.get(panel).querySelector(".title");
+        const {top: above, bottom: below} = head.getBoundingClientRect();
+        if (above >= top && below <= bottom) return [];
+        return [made("button", `${above < top ? "↑" : "↓"} ${head.textContent}`, {type: "button", onclick: () => head.scrollIntoView({block: "center"})})];
+    });
+    byId("beyond").style.top = byId("pool") === seenPart().scrolls ? "0" : `${top}px`;
+    byId("beyond").replaceChildren(...buttons);
 }
 
 // Changes the nodes of panels that show something else. They stay where they are.
