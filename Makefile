@@ -213,7 +213,7 @@ uninstall:
 # The folders that a path is in. The folders of PREFIX that other programs install into too. Those of them, and that they are in, which are not
 # there yet; none with DESTDIR, where packages are put together.
 above = $(if $(filter-out /,$(dir $(1))),$(call above,$(patsubst %/,%,$(dir $(1)))) $(patsubst %/,%,$(dir $(1))))
-INTO := bin include lib/cmake lib/pkgconfig share/bash-completion/completions share/doc share/man/man1 share/man/man3 share/$(ZSH)
+INTO := bin include lib/cmake lib/pkgconfig share/bash-completion/completions share/doc share/man/man1 share/man/man3 share/vim/vimfiles/ftdetect share/vim/vimfiles/syntax share/$(ZSH)
 MISSING := $(if $(DESTDIR),,$(foreach it,$(sort $(foreach folder,$(INTO),$(call above,$(abspath $(PREFIX))/$(folder)/strm))),$(if $(wildcard $(it)),,$(it))))
 
 # Installs the manuals of section 1 and the completions of shells. These are bash and zsh, and nothing is built. The completions of strm are
@@ -224,6 +224,9 @@ install-pages:
 	install -D -m 644 completions/_strm $(SHARE)/$(ZSH)/_strm
 	for tool in $(TOOLS); do ln -sf strm $(SHARE)/bash-completion/completions/$$tool || exit; done
 
+# What makes an extension for VS Code of the grammar beside it, once share/strm/vscode is linked into ~/.vscode/extensions.
+VSCODE := {"name": "strm", "version": "$(VERSION)", "engines": {"vscode": "*"}, "contributes": {"languages": [{"id": "strm", "extensions": [".strm"]}], "grammars": [{"language": "strm", "scopeName": "source.strm", "path": "./strm.tmLanguage.json"}]}}
+
 # Installs the tools, which need Python alone, and their manuals, and the package for Python, by which they use the library. All are in
 # PREFIX/share/strm, with links in PREFIX/bin. There,
 # FOLDERS lists the folders that installs made, for tools/uninstall.
@@ -233,6 +236,10 @@ install-tools: WHERE install-pages
 	for file in $(MODULES); do install -D -m 644 tools/$$file $(SHARE)/strm/$$file || exit; done
 	install -m 644 VERSION $(SHARE)/strm/VERSION
 	install -D -m 644 bindings/python/strm/__init__.py $(SHARE)/strm/strm/__init__.py
+	install -D -m 644 completions/strm.vim $(SHARE)/vim/vimfiles/syntax/strm.vim
+	echo 'autocmd BufRead,BufNewFile *.strm setfiletype strm' | install -D -m 644 /dev/stdin $(SHARE)/vim/vimfiles/ftdetect/strm.vim
+	install -D -m 644 completions/strm.tmLanguage.json $(SHARE)/strm/vscode/strm.tmLanguage.json
+	echo '$(VSCODE)' | install -m 644 /dev/stdin $(SHARE)/strm/vscode/package.json
 	install -d $(DESTDIR)$(PREFIX)/bin
 	for tool in $(TOOLS); do install -m 755 tools/$$tool $(SHARE)/strm && ln -sf ../share/strm/$$tool $(DESTDIR)$(PREFIX)/bin/$$tool || exit; done
 

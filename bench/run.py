@@ -245,7 +245,8 @@ def plot(meter, by_line, by_call):
     costs, peaks = zip(*by_line.values())
     growing = [(", ".join(words) if grows(costs) else "", costs) for words, _, costs in by_call]
     yield '<svg xmlns="http://www.w3.org/2000/svg" width="900" height="520" font-family="sans-serif" font-size="11">'
-    yield '<rect width="900" height="520" fill="white"/>'
+    yield "<style>rect { fill: #ffffff } text { fill: #1b1d21 } @media (prefers-color-scheme: dark) { rect { fill: #14161a } text { fill: #e7e9ed } }</style>"
+    yield '<rect width="900" height="520"/>'
     yield from panel(70, 40, 240, 180, f"{unit} a line, by lines", SIZES, [(f"{costs[-1]:,.0f}", costs)])
     yield from panel(70, 290, 240, 180, "Peak memory in MiB, by lines", SIZES, [(f"{peaks[-1]:,.0f}", peaks)])
     yield from panel(430, 40, 310, 430, f"{unit} a round, by message blocks", POOLS, growing)
