@@ -30,6 +30,7 @@ ARCHIVE = $(BUILD)/libstrm.a
 SHARED = $(BUILD)/libstrm.so
 ARCHIVE_MT = $(BUILD)/libstrm_mt.a
 SHARED_MT = $(BUILD)/libstrm_mt.so
+TRACE = $(BUILD)/libstrm_trace.so
 # How benchmarks are started, which read the limits of strm in tools/strm_tools.
 BENCH := PYTHONPATH="$(CURDIR)/tools" python3
 # The program that measures rounds of calls, for bench-library and bench-c.
@@ -252,9 +253,9 @@ install-docs:
 	install -d $(SHARE)/doc/strm
 	for name in README.md LICENSE docs examples; do rm -rf $(SHARE)/doc/strm/$$name && ln -s ../../strm/$$name $(SHARE)/doc/strm || exit; done
 
-# Builds the library for C, build/libstrm.a and build/libstrm.so, and over it build/libstrm_mt.a and .so. With TARGET=aarch64-unknown-linux-gnu
-# they are for ARM, in build/aarch64, by Debian's gcc-aarch64-linux-gnu. The pkg-config file is build/strm.pc.
-lib: $(ARCHIVE) $(SHARED) $(ARCHIVE_MT) $(SHARED_MT) build/strm.pc
+# Builds the library for C, build/libstrm.a and build/libstrm.so, over it build/libstrm_mt.a and .so, and what strm-trace takes. With
+# TARGET=aarch64-unknown-linux-gnu they are for ARM, in build/aarch64, by Debian's gcc-aarch64-linux-gnu. The pkg-config file is build/strm.pc.
+lib: $(ARCHIVE) $(SHARED) $(ARCHIVE_MT) $(SHARED_MT) $(TRACE) build/strm.pc
 
 ifneq ($(TARGET),)
 CC := $(TOOLS_FOR)gcc
@@ -279,6 +280,17 @@ $(BUILD)/libstrm.so: $(BUILD)/libstrm.a tools/c_symbols
 	tools/c_symbols >$(BUILD)/libstrm.map
 	cd $(BUILD) && $(CC) -shared -Wl,-soname,$(SONAME),--version-script,libstrm.map,-z,defs,-z,relro,-z,now \
 		-Wl,--whole-archive libstrm.a -Wl,--no-whole-archive -o libstrm.so
+
+# The library that writes traces has all of the archive inside. There, the calls that it wraps get the names that its own objects call.
+TRACE_PARTS := trace trace_script
+$(BUILD)/libstrm_trace.so: $(ARCHIVE) $(TRACE_PARTS:%=c/%.c) c/trace.h c/strm_trace.h c/strm_c.h c/strm.h tools/c_symbols
+	@mkdir -p $(BUILD)/trace
+	for part in $(TRACE_PARTS); do $(CC) -std=gnu11 -O2 -fPIC -Wall -Wextra -Ic -c c/$$part.c -o $(BUILD)/trace/$$part.o || exit; done
+	$(TOOLS_FOR)nm -u $(TRACE_PARTS:%=$(BUILD)/trace/%.o) | sed -n 's/.* [Uw] strm_untraced_\(.*\)/strm_\1 strm_untraced_\1/p' | sort -u >$(BUILD)/trace/names
+	$(OBJCOPY) --redefine-syms=$(BUILD)/trace/names $(ARCHIVE) $(BUILD)/trace/untraced.a
+	tools/c_symbols | sed 's/^local:/\tstrm_trace_label;\n&/' >$(BUILD)/trace/map
+	$(CC) -shared -Wl,-soname,libstrm_trace.so,--version-script,$(BUILD)/trace/map,-z,defs,-z,relro,-z,now \
+		$(TRACE_PARTS:%=$(BUILD)/trace/%.o) -Wl,--whole-archive $(BUILD)/trace/untraced.a -Wl,--no-whole-archive -o $@
 
 # What the Debian package says of it.
 build/libstrm.symbols: c/strm.h c/strm_mt.h tools/c_symbols
@@ -310,9 +322,9 @@ FORCE:
 # Where the library is installed.
 LIB := $(DESTDIR)$(PREFIX)/lib
 
-# Installs libstrm and libstrm_mt, their headers and their manuals, the crate for Rust and the wheel for Python. With them is what pkg-config and
-# CMake find them by. Then it prints the lines that let pkg-config and the loader find them, unless they are to be moved from DESTDIR.
-install-lib: $(ARCHIVE) $(SHARED) $(ARCHIVE_MT) $(SHARED_MT)
+# Installs the libraries for C, their headers and manuals, the crate for Rust and the wheel for Python. With them is what pkg-config and CMake
+# find them by. Then it prints the lines that let pkg-config and the loader find them, unless they are to be moved from DESTDIR.
+install-lib: $(ARCHIVE) $(SHARED) $(ARCHIVE_MT) $(SHARED_MT) $(TRACE)
 	install -D -m 644 $(ARCHIVE) $(LIB)/libstrm.a
 	install -m 644 $(SHARED) $(LIB)/libstrm.so.$(VERSION)
 	ln -sf libstrm.so.$(VERSION) $(LIB)/$(SONAME)
@@ -324,7 +336,8 @@ install-lib: $(ARCHIVE) $(SHARED) $(ARCHIVE_MT) $(SHARED_MT)
 	$(FORM) c/strm.pc.in | install -D -m 644 /dev/stdin $(LIB)/pkgconfig/strm.pc
 	install -D -m 644 c/strm-config.cmake $(LIB)/cmake/strm/strm-config.cmake
 	$(FORM) c/strm-config-version.cmake.in | install -m 644 /dev/stdin $(LIB)/cmake/strm/strm-config-version.cmake
-	install -D -m 644 -t $(DESTDIR)$(PREFIX)/include c/strm.h c/strm_mt.h bindings/cpp/strm.hpp
+	install -m 644 $(TRACE) $(LIB)/libstrm_trace.so
+	install -D -m 644 -t $(DESTDIR)$(PREFIX)/include c/strm.h c/strm_mt.h c/strm_trace.h bindings/cpp/strm.hpp
 	rm -rf $(SHARE)/strm/bindings
 	for file in Cargo.toml build.rs src/lib.rs src/raw.rs; do install -D -m 644 bindings/rust/$$file $(SHARE)/strm/bindings/rust/$$file || exit; done
 	@python3 bindings/python/make_wheel.py $(SHARE)/strm/bindings $(SHARED)

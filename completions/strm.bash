@@ -28,4 +28,4 @@ _strm_tool() {
 }
 
 complete -o default -F _strm strm
-complete -o default -F _strm_tool strm-check strm-judge strm-list strm-play strm-record strm-view
+complete -o default -F _strm_tool strm-check strm-judge strm-list strm-play strm-record strm-trace strm-view

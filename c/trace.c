@@ -1,0 +1,675 @@
+/*
+ * libstrm_trace.so: the calls of strm.h, each with a line in a trace (strm-trace(1)). Tested, not proved. It has the whole library inside, so it
+ * is preloaded, or linked instead of libstrm. Wrappers come from the tables of calls, and know by its type what an argument is. A lock puts
+ * the lines of threads in the order of their calls on a pool, since these hold the caller's own lock until the call returns.
+ */
+#define _GNU_SOURCE
+#include "trace.h"
+#include "strm_trace.h"
+#undef strm_trace_label
+
+#include <errno.h>
+#include <fcntl.h>
+#include <pthread.h>
+#include <sched.h>
+#include <stdarg.h>
+#include <stdatomic.h>
+#include <stdio.h>
+#include <stdlib.h>
+#include <string.h>
+#include <sys/mman.h>
+#include <sys/single_threaded.h>
+#include <sys/stat.h>
+#include <sys/syscall.h>
+#include <time.h>
+#include <unistd.h>
+
+/* How much of a file is in memory, and how much of an array and of bytes is shown. */
+#define WINDOW ((size_t)1 << 20)
+#define PAGE 4096
+#define MOST_ITEMS 16
+#define MOST_BYTES 32
+
+static enum { UNKNOWN, OFF, TEXT, SCRIPT } mode;
+static struct output text_out;
+/* The open pools, and the one that was called last. */
+static struct traced *pools, *last;
+static unsigned pool_count;
+static struct timespec started;
+static atomic_flag is_taken = ATOMIC_FLAG_INIT;
+static __thread unsigned thread __attribute__((tls_model("initial-exec")));
+
+static void take_lock(void)
+{
+	while (atomic_flag_test_and_set_explicit(&is_taken, memory_order_acquire))
+		sched_yield();
+}
+
+static void leave_lock(void)
+{
+	atomic_flag_clear_explicit(&is_taken, memory_order_release);
+}
+
+/* ---- outputs */
+
+/* No more is traced. */
+static void give_up(const char *why)
+{
+	int kept = errno;
+
+	dprintf(2, "libstrm_trace: %s: %s; no more is traced\n", why, strerror(kept));
+	mode = OFF;
+}
+
+/* Puts the window where the file ends. Returns whether it is there. */
+static int move_window(struct output *out)
+{
+	if (out->window)
+		munmap(out->window, WINDOW);
+	out->from += out->used / PAGE * PAGE;
+	out->used %= PAGE;
+	errno = posix_fallocate(out->fd, (off_t)out->from, WINDOW);
+	out->window = errno ? MAP_FAILED : mmap(NULL, WINDOW, PROT_READ | PROT_WRITE, MAP_SHARED | MAP_POPULATE, out->fd, (off_t)out->from);
+	if (out->window != MAP_FAILED)
+		return 1;
+	out->window = NULL;
+	give_up("the file of the trace");
+	return 0;
+}
+
+/* Opens what STRM_TRACE_TO names, or standard error: a descriptor, or a new file. Files after the first have a number. Returns whether it is open. */
+static int open_output(struct output *out, unsigned number)
+{
+	const char *to = getenv("STRM_TRACE_TO");
+	char path[PAGE];
+	struct stat is;
+
+	if (!to || !*to || to[strspn(to, "0123456789")] == 0) {
+		out->fd = to && *to ? atoi(to) : 2;
+		out->window = malloc(2 * MOST_LINE);
+		return out->window && number == 1;
+	}
+	snprintf(path, sizeof path - 16, number > 1 ? "%s.%u" : "%s", to, number);
+	out->fd = open(path, O_RDWR | O_CREAT | O_EXCL | O_CLOEXEC, 0666);
+	if (out->fd < 0 && errno == EEXIST && number == 1) {
+		/* another process has it, or another run had */
+		sprintf(path + strlen(path), ".%ld", (long)getpid());
+		out->fd = open(path, O_RDWR | O_CREAT | O_EXCL | O_CLOEXEC, 0666);
+	}
+	if (out->fd < 0 || fstat(out->fd, &is) != 0) {
+		give_up(path);
+		return 0;
+	}
+	out->is_file = S_ISREG(is.st_mode);
+	if (out->is_file)
+		return move_window(out);
+	out->window = malloc(2 * MOST_LINE);
+	return out->window != NULL;
+}
+
+static void close_output(struct output *out)
+{
+	if (out->is_file && out->window) {
+		munmap(out->window, WINDOW);
+		if (ftruncate(out->fd, (off_t)(out->from + out->used)) != 0)
+			give_up("the file of the trace");
+		close(out->fd);
+	} else {
+		free(out->window);
+	}
+	out->window = NULL;
+}
+
+/* A line was added. */
+static void end_line(struct output *out)
+{
+	size_t done = 0;
+	ssize_t part;
+
+	if (out->is_file) {
+		if (out->used > WINDOW - 2 * MOST_LINE)
+			move_window(out);
+		return;
+	}
+	while (done < out->used) {
+		part = write(out->fd, out->window + done, out->used - done);
+		if (part < 0 && errno != EINTR) {
+			give_up("the trace");
+			break;
+		}
+		done += part < 0 ? 0 : (size_t)part;
+	}
+	out->used = 0;
+}
+
+void strm_trace_print(struct output *out, const char *format, ...)
+{
+	va_list values;
+
+	if (!out->window)
+		return;
+	va_start(values, format);
+	out->used += (size_t)vsnprintf(out->window + out->used, MOST_LINE, format, values);
+	va_end(values);
+	if (out->window[out->used - 1] == '\n')
+		end_line(out);
+}
+
+void strm_trace_hex(struct output *out, const uint8_t *bytes, size_t length)
+{
+	size_t place;
+
+	for (place = 0; out->window && place < length; place++) {
+		out->window[out->used++] = "0123456789abcdef"[bytes[place] >> 4];
+		out->window[out->used++] = "0123456789abcdef"[bytes[place] & 15];
+	}
+}
+
+/* ---- pools */
+
+unsigned strm_trace_thread(void)
+{
+	if (thread == 0)
+		thread = (unsigned)syscall(SYS_gettid);
+	return thread;
+}
+
+struct traced *strm_traced(const struct strm_pool *pool)
+{
+	struct traced *traced;
+
+	if (pool == NULL || pool->state != STRM_POOL_OPEN)
+		return NULL;
+	if (last == NULL || last->pool.at != pool->at)
+		for (traced = pools; traced != NULL; traced = traced->after)
+			if (traced->pool.at == pool->at)
+				last = traced;
+	return last != NULL && last->pool.at == pool->at ? last : NULL;
+}
+
+static void begin_trace(void)
+{
+	const char *wanted = getenv("STRM_TRACE");
+
+	mode = wanted && strcmp(wanted, "script") == 0 ? SCRIPT : TEXT;
+	clock_gettime(CLOCK_MONOTONIC_COARSE, &started);
+	if (mode == TEXT && !open_output(&text_out, 1))
+		mode = OFF;
+}
+
+/* A pool was opened. */
+static void add_pool(const struct strm_pool *pool, const struct strm_config *config)
+{
+	struct traced *traced = calloc(1, sizeof *traced);
+
+	if (traced == NULL) {
+		give_up("a pool");
+		return;
+	}
+	traced->pool = *pool;
+	traced->number = ++pool_count;
+	traced->mblks = config->mblks;
+	traced->classes = (uint32_t)config->class_count;
+	traced->queues = (uint32_t)config->queue_count;
+	traced->after = pools;
+	pools = traced;
+	if (mode == SCRIPT && open_output(&traced->out, traced->number))
+		strm_script_begin(traced, config);
+}
+
+static void end_script(struct traced *traced)
+{
+	if (traced->is_recorded)
+		strm_script_end(traced, NULL);
+	close_output(&traced->out);
+}
+
+static void remove_pool(struct traced *traced)
+{
+	struct traced **at = &pools;
+
+	while (*at != traced)
+		at = &(*at)->after;
+	*at = traced->after;
+	last = NULL;
+	free(traced->labels);
+	free(traced->first);
+	free(traced->next);
+	free(traced->unused);
+	free(traced);
+}
+
+/* Of two processes after a fork, only the older one has a trace. */
+static void is_child(void)
+{
+	mode = OFF;
+	atomic_flag_clear(&is_taken);
+}
+
+__attribute__((constructor)) static void begin(void)
+{
+	pthread_atfork(NULL, NULL, is_child);
+}
+
+__attribute__((destructor)) static void end(void)
+{
+	struct traced *traced;
+
+	take_lock();
+	if (mode == TEXT)
+		close_output(&text_out);
+	for (traced = pools; mode == SCRIPT && traced != NULL; traced = traced->after)
+		end_script(traced);
+	mode = OFF;
+	leave_lock();
+}
+
+/* ---- lines of text */
+
+static char *add_number(char *at, uint64_t number)
+{
+	char digits[20];
+	int count = 0;
+
+	do
+		digits[count++] = (char)('0' + number % 10);
+	while ((number /= 10) != 0);
+	while (count > 0)
+		*at++ = digits[--count];
+	return at;
+}
+
+static char *add_text(char *at, const char *text)
+{
+	while (*text)
+		*at++ = *text++;
+	return at;
+}
+
+/* A name: the number of the first block, how many names with it there were, and the label. */
+static char *add_msg(char *at, const struct traced *traced, struct strm_msg msg)
+{
+	if (strm_is_no_msg(msg))
+		return add_text(at, "none");
+	at = add_number(at, msg.head);
+	*at++ = '.';
+	at = add_number(at, msg.stamp);
+	if (traced && traced->labels && msg.head < traced->mblks && traced->labels[msg.head][0]) {
+		*at++ = '\'';
+		at = add_text(at, traced->labels[msg.head]);
+		*at++ = '\'';
+	}
+	return at;
+}
+
+static char *add_bytes(char *at, const uint8_t *bytes, size_t length)
+{
+	size_t place;
+
+	*at++ = '"';
+	for (place = 0; place < length && place < MOST_BYTES; place++)
+		if (bytes[place] >= ' ' && bytes[place] < 127 && bytes[place] != '"' && bytes[place] != '\\')
+			*at++ = (char)bytes[place];
+		else
+			at += sprintf(at, "\\x%02x", bytes[place]);
+	*at++ = '"';
+	return place < length ? add_text(at, "..") : at;
+}
+
+/* Fields of 32 bits, each after its name if it has one. One field without a name stands alone. */
+static char *add_fields(char *at, const struct form *form, const uint32_t *fields)
+{
+	const char *name = form->names;
+	uint32_t place;
+
+	if (form->fields == 1)
+		return add_number(at, fields[0]);
+	*at++ = '{';
+	for (place = 0; place < form->fields; place++) {
+		if (place > 0)
+			*at++ = ' ';
+		if (*name) {
+			while (*name && *name != ' ')
+				*at++ = *name++;
+			name += *name == ' ';
+			*at++ = '=';
+		}
+		at = add_number(at, fields[place]);
+	}
+	*at++ = '}';
+	return at;
+}
+
+/* An item of those at an address. */
+static char *add_item(char *at, const struct traced *traced, const struct form *form, const void *items, size_t item)
+{
+	if (form->kind == OUT_IOV)
+		return add_number(at, ((const struct strm_iov *)items)[item].length);
+	if (form->kind == OUT_FIELDS)
+		return add_fields(at, form, (const uint32_t *)items + item * form->fields);
+	return add_msg(at, traced, ((const struct strm_msg *)items)[item]);
+}
+
+static char *add_items(char *at, const struct traced *traced, const struct form *form, const void *items, size_t count)
+{
+	size_t item;
+
+	*at++ = '[';
+	for (item = 0; item < count && item < MOST_ITEMS; item++) {
+		if (item > 0)
+			*at++ = ' ';
+		at = add_item(at, traced, form, items, item);
+	}
+	if (item < count)
+		at = add_text(at, " ..");
+	*at++ = ']';
+	return at;
+}
+
+static char *add_argument(char *at, const struct traced *traced, const struct form *form, const union value *value)
+{
+	const struct traced *called;
+
+	switch (form->kind) {
+	case CALLED:
+	case SEEN:
+		called = strm_traced(value->at);
+		memcpy(at, "pool ", 5);
+		at += 5;
+		return called ? add_number(at, called->number) : add_text(at, "-");
+	case MSG:
+		return add_msg(at, traced, value->msg);
+	case SIGNED:
+		if ((int64_t)value->number < 0)
+			*at++ = '-';
+		return add_number(at, (int64_t)value->number < 0 ? -value->number : value->number);
+	case IN_BYTES:
+		return value->at ? add_bytes(at, value->at, value[1].number) : add_text(at, "null");
+	case IN_MSGS:
+		return value->at ? add_items(at, traced, form, value->at, value[1].number) : add_text(at, "null");
+	default:
+		return add_number(at, value->number);
+	}
+}
+
+/* A result. Where a call counts, `count` is how many items, or bytes, it stored. */
+static char *add_result(char *at, const struct traced *traced, const struct form *form, const void *result, const size_t *count)
+{
+	switch (form->kind) {
+	case OUT_BYTES:
+		return add_bytes(at, result, *count);
+	case OUT_LENGTH:
+		return add_number(at, *(const size_t *)result);
+	case OUT_ADDRESS:
+		return at + sprintf(at, "%p", *(void *const *)result);
+	default:
+		return count ? add_items(at, traced, form, result, *count) : add_item(at, traced, form, result, 0);
+	}
+}
+
+static char *add_code(char *at, int code)
+{
+	if (code == STRM_OK)
+		return memcpy(at, "STRM_OK", 7) + 7;
+	return at + strm_name(code, at, 64);
+}
+
+/* The time since the first pool was opened, in ticks of the kernel, and the thread. */
+static char *add_prefix(char *at)
+{
+	static char prefix[48];
+	static int length;
+	static unsigned prefixed;
+	static struct timespec then;
+	struct timespec now;
+	unsigned own = strm_trace_thread();
+	int64_t milliseconds;
+
+	clock_gettime(CLOCK_MONOTONIC_COARSE, &now);
+	if (now.tv_nsec != then.tv_nsec || now.tv_sec != then.tv_sec || own != prefixed || length == 0) {
+		then = now;
+		prefixed = own;
+		milliseconds = (now.tv_sec - started.tv_sec) * 1000 + (now.tv_nsec - started.tv_nsec) / 1000000;
+		length = snprintf(prefix, sizeof prefix, "%lld.%03lld %u ", (long long)milliseconds / 1000, (long long)milliseconds % 1000, own);
+	}
+	memcpy(at, prefix, sizeof prefix);
+	return at + length;
+}
+
+/* Where a call counts what it stores in an array, if it does. */
+static const size_t *count_of(const struct traced_call *call, const union value *values)
+{
+	uint32_t last = call->count - 1;
+
+	return last > 1 && call->forms[last].kind == OUT_LENGTH && call->forms[last - 1].kind == LENGTH ? values[last].at : NULL;
+}
+
+/* The pool of a call's results: that of strm_transfer is its second. */
+static struct traced *pool_of_results(const struct traced_call *call, const union value *values)
+{
+	return strm_traced(values[call->count > 1 && call->forms[1].kind == CALLED].at);
+}
+
+static void tell(const struct traced_call *call, const union value *values, int code)
+{
+	const struct traced *traced = strm_traced(values[0].at);
+	const size_t *stored = count_of(call, values);
+	char *at = add_prefix(text_out.window + text_out.used);
+	const struct form *form;
+	uint32_t place;
+
+	memcpy(at, call->name, sizeof call->name);
+	at += call->length;
+	for (place = 0, form = call->forms; place < call->count; place++, form++)
+		if (form->kind < OUT_BYTES) {
+			if (place > 0)
+				*at++ = ',', *at++ = ' ';
+			at = add_argument(at, traced, form, &values[place]);
+		}
+	memcpy(at, ") = ", 4);
+	at = add_code(at + 4, code);
+	traced = pool_of_results(call, values);
+	for (place = 0, form = call->forms; code == STRM_OK && place < call->count; place++, form++)
+		if (form->kind >= OUT_BYTES) {
+			*at++ = ' ';
+			at = add_result(at, traced, form, values[place].at, stored);
+		}
+	*at++ = '\n';
+	text_out.used = (size_t)(at - text_out.window);
+	end_line(&text_out);
+}
+
+/* ---- calls */
+
+/* A label ends where another message gets its block. */
+static void unlabel(const struct traced_call *call, const union value *values)
+{
+	struct traced *traced = pool_of_results(call, values);
+	const size_t *stored = count_of(call, values);
+	const struct strm_msg *msgs;
+	size_t item;
+	uint32_t place;
+
+	for (place = 0; traced && traced->labels && place < call->count; place++)
+		for (item = 0, msgs = values[place].at; call->forms[place].kind == OUT_MSG && item < (stored ? *stored : 1); item++)
+			if (!strm_is_no_msg(msgs[item]) && !(call->forms[1].kind == MSG && values[1].msg.head == msgs[item].head))
+				traced->labels[msgs[item].head][0] = 0;
+}
+
+static void told(const struct traced_call *call, const union value *values, int code)
+{
+	int has_lock = !__libc_single_threaded;
+	struct traced *traced;
+
+	if (has_lock)
+		take_lock();
+	if (call->is_new && code == STRM_OK)
+		unlabel(call, values);
+	if (mode == TEXT)
+		tell(call, values, code);
+	else if (mode == SCRIPT && (traced = strm_traced(values[0].at)) != NULL)
+		strm_script_call(traced, call, values, code);
+	if (has_lock)
+		leave_lock();
+}
+
+/* What each argument is, by its type. */
+static inline union value of_msg(struct strm_msg msg)
+{
+	return (union value){ .msg = msg };
+}
+
+static inline union value of_number(int64_t number)
+{
+	return (union value){ .number = (uint64_t)number };
+}
+
+static inline union value of_pointer(const void *at)
+{
+	return (union value){ .at = at };
+}
+
+#define KIND(x) _Generic((x), struct strm_pool *: CALLED, const struct strm_pool *: SEEN, struct strm_msg: MSG, uint32_t: NUMBER, \
+	int32_t: SIGNED, size_t: LENGTH, const void *: IN_BYTES, const struct strm_msg *: IN_MSGS, void *: OUT_BYTES, \
+	struct strm_msg *: OUT_MSG, size_t *: OUT_LENGTH, const uint8_t **: OUT_ADDRESS, \
+	struct strm_iov *: OUT_IOV, default: OUT_FIELDS)
+#define NAMES(x) _Generic((x), struct strm_block_info *: "type length band room names", \
+	struct strm_block_place *: "data at length capacity", struct strm_queued *: "head type band bytes blocks", \
+	struct strm_marks *: "hiwat lowat", struct strm_wish *: "id size", struct strm_queue_spec *: "hiwat lowat service next", \
+	struct strm_census *: "free queued held", struct strm_class_info *: "size free total", \
+	struct strm_queue_info *: "msgs bytes read noenable enabled", struct strm_band_info *: "bytes full wanted", default: "")
+#define FIELDS(x) (sizeof *_Generic((x), struct strm_msg: "", uint32_t: "", int32_t: "", size_t: "", void *: "", const void *: "", default: (x)) / 4)
+#define FORM(x) { KIND(x), FIELDS(x), NAMES(x) }
+#define VALUE(x) _Generic((x), struct strm_msg: of_msg, uint32_t: of_number, int32_t: of_number, size_t: of_number, default: of_pointer)(x)
+
+/* What TO makes of each argument. */
+#define EACH_1(TO, a) TO(a)
+#define EACH_2(TO, a, ...) TO(a), EACH_1(TO, __VA_ARGS__)
+#define EACH_3(TO, a, ...) TO(a), EACH_2(TO, __VA_ARGS__)
+#define EACH_4(TO, a, ...) TO(a), EACH_3(TO, __VA_ARGS__)
+#define EACH_5(TO, a, ...) TO(a), EACH_4(TO, __VA_ARGS__)
+#define EACH_6(TO, a, ...) TO(a), EACH_5(TO, __VA_ARGS__)
+#define EACH_7(TO, a, ...) TO(a), EACH_6(TO, __VA_ARGS__)
+#define EIGHTH(a, b, c, d, e, f, g, name, ...) name
+#define EACH(TO, ...) EIGHTH(__VA_ARGS__, EACH_7, EACH_6, EACH_5, EACH_4, EACH_3, EACH_2, EACH_1, 0)(TO, __VA_ARGS__)
+#define FORMS(...) EACH(FORM, __VA_ARGS__)
+#define VALUES(...) EACH(VALUE, __VA_ARGS__)
+
+/* Whether a message that a call returns is new, or one of its parts, and no message of a queue or a name that was there. */
+#define IS_NEW(call) (strncmp(#call, "getq", 4) != 0 && strcmp(#call, "rmvq") != 0 && strcmp(#call, "name_at") != 0)
+
+/* Defines the call of a row. */
+#define DEFINE(call, parameters, arguments, fits) \
+	int strm_##call parameters \
+	{ \
+		int code = strm_untraced_##call arguments; \
+\
+		if (mode > OFF) { \
+			const union value values[] = { VALUES arguments }; \
+			static const struct traced_call own = { "strm_" #call "(", sizeof "strm_" #call, IS_NEW(call), \
+				sizeof values / sizeof values[0], { FORMS arguments } }; \
+			told(&own, values, code); \
+		} \
+		return code; \
+	}
+#define reader (*pool)
+STRM_CALLS(DEFINE)
+STRM_LOOKS(DEFINE)
+#undef reader
+STRM_MORE_CALLS(DEFINE)
+
+/* What a configuration has, as in a script's header. */
+static void tell_config(const struct strm_config *config)
+{
+	size_t place;
+
+	if (config == NULL)
+		return;
+	strm_trace_print(&text_out, ", {id=%u mblks=%u", (unsigned)config->id, (unsigned)config->mblks);
+	for (place = 0; config->classes && place < config->class_count && place < STRM_MOST_CLASSES; place++)
+		strm_trace_print(&text_out, ", class %u %u", (unsigned)config->classes[place].size, (unsigned)config->classes[place].count);
+	for (place = 0; config->queues && place < config->queue_count && place < STRM_MOST_QUEUES; place++)
+		strm_trace_print(&text_out, ", queue %u %u %c %d", (unsigned)config->queues[place].hiwat, (unsigned)config->queues[place].lowat,
+			config->queues[place].service ? 's' : 'n', (int)config->queues[place].next);
+	strm_trace_print(&text_out, ", bufcalls %u %u}", (unsigned)config->bufcalls, (unsigned)config->first_id);
+}
+
+/* A line of a call that opens or closes a pool. */
+static void tell_pool(const char *call, const struct traced *traced, const struct strm_config *config, int code)
+{
+	char name[64];
+
+	if (mode != TEXT)
+		return;
+	text_out.used = (size_t)(add_prefix(text_out.window + text_out.used) - text_out.window);
+	strm_trace_print(&text_out, "%s(pool %.*u", call, traced != NULL, traced ? traced->number : 0);
+	tell_config(config);
+	strm_name(code, name, sizeof name);
+	strm_trace_print(&text_out, ") = %s\n", name);
+}
+
+static int opened(const char *call, const struct strm_pool *pool, const struct strm_config *config, int code)
+{
+	take_lock();
+	if (mode == UNKNOWN)
+		begin_trace();
+	if (mode != OFF && code == STRM_OK)
+		add_pool(pool, config);
+	tell_pool(call, code == STRM_OK ? strm_traced(pool) : NULL, config, code);
+	leave_lock();
+	return code;
+}
+
+int strm_open(struct strm_pool *pool, const struct strm_config *config)
+{
+	return opened("strm_open", pool, config, strm_untraced_open(pool, config));
+}
+
+int strm_open_with(struct strm_pool *pool, const struct strm_config *config, const struct strm_allocator *allocator)
+{
+	return opened("strm_open_with", pool, config, strm_untraced_open_with(pool, config, allocator));
+}
+
+int strm_close(struct strm_pool *pool)
+{
+	struct traced *traced;
+	int code;
+
+	take_lock();
+	traced = strm_traced(pool);
+	if (traced != NULL && mode == SCRIPT)
+		end_script(traced);
+	code = strm_untraced_close(pool);
+	tell_pool("strm_close", traced, NULL, code);
+	if (traced != NULL)
+		remove_pool(traced);
+	leave_lock();
+	return code;
+}
+
+/* A label as it is shown. */
+static void copy_label(char *to, const char *label)
+{
+	unsigned place;
+
+	for (place = 0; place < MOST_LABEL && label[place]; place++)
+		to[place] = label[place] >= ' ' && label[place] < 127 ? label[place] : '?';
+	to[place] = 0;
+}
+
+void strm_trace_label(const struct strm_pool *pool, uint32_t queue, struct strm_msg msg, const char *label)
+{
+	struct traced *traced;
+
+	take_lock();
+	traced = strm_traced(pool);
+	if (traced != NULL && queue < traced->queues)
+		copy_label(traced->queue_labels[queue], label);
+	else if (traced != NULL && msg.head < traced->mblks && (traced->labels || (traced->labels = calloc(traced->mblks, sizeof *traced->labels))))
+		copy_label(traced->labels[msg.head], label);
+	else
+		traced = NULL;
+	if (traced != NULL && traced->is_recorded)
+		strm_script_label(traced, queue, msg);
+	leave_lock();
+}
