@@ -322,7 +322,7 @@ FORCE:
 # Where the library is installed.
 LIB := $(DESTDIR)$(PREFIX)/lib
 
-# Installs the libraries for C, their headers and manuals, the crate for Rust and the wheel for Python. With them is what pkg-config and CMake
+# Installs the libraries for C, their headers and manuals, gdb's commands, the crate for Rust and the wheel for Python. With them is what pkg-config and CMake
 # find them by. Then it prints the lines that let pkg-config and the loader find them, unless they are to be moved from DESTDIR.
 install-lib: $(ARCHIVE) $(SHARED) $(ARCHIVE_MT) $(SHARED_MT) $(TRACE)
 	install -D -m 644 $(ARCHIVE) $(LIB)/libstrm.a
@@ -337,6 +337,7 @@ install-lib: $(ARCHIVE) $(SHARED) $(ARCHIVE_MT) $(SHARED_MT) $(TRACE)
 	install -D -m 644 c/strm-config.cmake $(LIB)/cmake/strm/strm-config.cmake
 	$(FORM) c/strm-config-version.cmake.in | install -m 644 /dev/stdin $(LIB)/cmake/strm/strm-config-version.cmake
 	install -m 644 $(TRACE) $(LIB)/libstrm_trace.so
+	install -m 644 c/strm_gdb.py $(LIB)/libstrm.so.$(VERSION)-gdb.py
 	install -D -m 644 -t $(DESTDIR)$(PREFIX)/include c/strm.h c/strm_mt.h c/strm_trace.h bindings/cpp/strm.hpp
 	rm -rf $(SHARE)/strm/bindings
 	for file in Cargo.toml build.rs src/lib.rs src/raw.rs; do install -D -m 644 bindings/rust/$$file $(SHARE)/strm/bindings/rust/$$file || exit; done
