@@ -302,7 +302,8 @@ class Session:
     def play_again(self) -> None:
         """Plays all changes since the pool was opened."""
         begin = max(at for at, change in enumerate(self.changes) if change.method == "open")
-        self.play = Play(*self.changes[begin].given, strm=self.strm)
+        header, sections = self.changes[begin].given
+        self.play = Play(header, sections, self.strm)
         self.before: Rows = rows_of(self.play)
         for at, change in enumerate(self.changes[begin + 1 :], begin + 2):
             self.make(change, at == len(self.changes))
