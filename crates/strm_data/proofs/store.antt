@@ -3,3 +3,4 @@ pub mod Lawful
 pub mod Fitting
 pub mod Kept
 pub mod Opening
+pub mod Least

@@ -1,5 +1,5 @@
 -- Data blocks by number, which of them are free, and which one `take` takes for a size.
-use Rattle.std.specs.Prelude.{◌≡◌, ℕ, ◌+◌, ◌<◌, ◌≤◌, Bool, ◌==◌, nat_le, List, [], ◌∷◌, ◌++◌, length, take, drop, replicate, count_by, map, Result, Ok, Err, ok_or, slice_get, slice_index_or, slice_set, if◌then◌else◌}
+use Rattle.std.specs.Prelude.{◌≡◌, ℕ, ◌+◌, ◌<◌, ◌≤◌, min, Bool, ◌==◌, nat_le, nat_lt, List, [], ◌∷◌, ◌++◌, length, take, drop, replicate, count_by, map, Option, Some, None, Result, Ok, Err, ok_or, slice_get, slice_index_or, slice_set, if◌then◌else◌}
 use Rattle.std.specs.List.{flat_map, zip, enumerate_from, range_with_len}
 use Rattle.std.specs.Result.{is_ok}
 use Rattle.strm_data.specs.Classes.{fits_a_class}
@@ -17,11 +17,13 @@ pub record DataBlock : Type 0 where
   pub kind : MsgType
   pub bytes : List ℕ
 
--- the size classes, the data blocks by number, and for each class its free data blocks, the next to be taken first
+-- the size classes, the data blocks by number, and for each class its free data blocks, the next to be taken first, and the
+-- fewest that were free since the classes were made or `least` was reset
 pub record DataStore : Type 0 where
   pub classes : List ClassSpec
   pub blocks : List DataBlock
   pub free : List (List ℕ)
+  pub least : List ℕ
 
 -- the result of a read past the data blocks
 abbrev pub no_data_block : DataBlock
@@ -59,6 +61,23 @@ bytes_at d at n s = take n (drop at (data_block_at s d).bytes)
 abbrev pub free_of : DataStore → ℕ → List ℕ
 free_of s c = slice_index_or s.free c []
 
+-- the fewest data blocks of class c that were free
+abbrev pub least_of : DataStore → ℕ → ℕ
+least_of s c = slice_index_or s.least c 0
+
+-- for each class the fewest that were free, and no more than are free now
+pub record IsLeast (s : DataStore) : Type 0 where
+  pub each : length s.least ≡ length s.classes
+  pub fewest : (c : ℕ) → least_of s c ≤ length (free_of s c)
+
+-- the bytes of all data blocks of class c, one block after the other
+abbrev pub class_bytes : ℕ → DataStore → List ℕ
+class_bytes c s = flat_map (λ b. if b.class == c then b.bytes else []) s.blocks
+
+-- the same, if there is such a class
+abbrev pub class_region : ℕ → DataStore → Option (List ℕ)
+class_region c s = if nat_lt c (length s.classes) then Some (class_bytes c s) else None
+
 -- the free data blocks of the classes that fit the size, in order of class
 abbrev pub fitting_blocks : ℕ → DataStore → List ℕ
 fitting_blocks size s = flat_map (λ p. if nat_le size p.0.size then p.1 else []) (zip s.classes s.free)
@@ -79,10 +98,17 @@ pub record IsTakenFrom (size : ℕ) (s : DataStore) (c : ℕ) : Type 0 where
 
 -- the store after d, the first free one of its class, was taken: it has type M_DATA, and keeps its bytes
 abbrev pub with_data_taken : ℕ → DataStore → DataStore
-with_data_taken d s = record s {
-  blocks = slice_set s.blocks d (record (data_block_at s d) { kind = MData });
-  free = slice_set s.free (class_of s d) (drop 1 (free_of s (class_of s d)));
-}
+with_data_taken d s =
+    let rest = drop 1 (free_of s (class_of s d)) in
+    record s {
+      blocks = slice_set s.blocks d (record (data_block_at s d) { kind = MData });
+      free = slice_set s.free (class_of s d) rest;
+      least = slice_set s.least (class_of s d) (min (least_of s (class_of s d)) (length rest));
+    }
+
+-- the store once the fewest that were free are those that are free now
+abbrev pub with_data_reset : DataStore → DataStore
+with_data_reset s = record s { least = map length s.free }
 
 -- the store after d became free, at the front of its class's list
 abbrev pub with_data_freed : ℕ → DataStore → DataStore
@@ -125,4 +151,5 @@ opening_store cs = record {
   classes = cs;
   blocks = flat_map (λ p. replicate p.1.count (fresh_data_block p.0 p.1)) (enumerate_from 0 cs);
   free = numbers_from 0 cs;
+  least = map (λ c. c.count) cs;
 }

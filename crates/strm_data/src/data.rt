@@ -1,5 +1,5 @@
 //! Data blocks by number, and the free data blocks of each size class.
-ghost use Rattle.std.specs.Prelude.{◌≡◌, ℕ, ◌+◌, ◌-◌, ◌^◌, ◌<◌, ◌≤◌, ◌++◌, IfOk, IfErr, IfSome, IsTrue, OnOk, Err, None, [], length, nat_le, take, drop, replicate, slice_get, slice_set};
+ghost use Rattle.std.specs.Prelude.{◌≡◌, ℕ, ◌+◌, ◌-◌, ◌^◌, ◌<◌, ◌≤◌, ◌++◌, IfOk, IfErr, IfSome, IsTrue, OnOk, Err, None, [], length, map, min, nat_le, take, drop, replicate, slice_get, slice_set};
 ghost use Rattle.std.specs.List.{list_any, range_with_len};
 ghost use Rattle.strm_links.specs.Rows.{holder, list_at};
 ghost use Rattle.strm_data.specs.Limits.{most_classes, most_data_block_bytes, most_data_blocks, most_references};
@@ -7,7 +7,7 @@ ghost use Rattle.strm_data.specs.declared.msg_type.MsgType.TheVariants.{MData};
 ghost use Rattle.strm_data.specs.Classes.{are_lawful, fits_a_class, total_of};
 ghost use Rattle.strm_data.specs.CountedStore.{count_of, IsInUse, IsKept, IsUnused, opening_counted, after_take, with_reference, without_reference};
 ghost use Rattle.strm_data.specs.DataLayout.{block_at, bytes_of, class_at, region_at, start_in};
-ghost use Rattle.strm_data.specs.DataStore.{capacity_of, data_block_at, class_infos, fits, take_data, with_kind, with_bytes_copied, with_bytes_written, free_of, numbers_from, bytes_overwritten, IsTakenFrom};
+ghost use Rattle.strm_data.specs.DataStore.{capacity_of, data_block_at, class_infos, fits, take_data, with_data_reset, with_kind, with_bytes_copied, with_bytes_written, free_of, numbers_from, bytes_overwritten, IsLeast, IsTakenFrom};
 
 mod lending;
 
@@ -47,6 +47,8 @@ pub struct Data {
 struct Class {
     spec: ClassSpec,
     first: u32,
+    // The fewest that were free.
+    least: u32,
 }
 
 #[derive(Clone, Copy, Debug)]
@@ -57,7 +59,7 @@ struct DataBlock {
     references: u8,
 }
 
-const _: () = prove!(size_of::<Class>() == 12 && size_of::<DataBlock>() == 3);
+const _: () = prove!(size_of::<Class>() == 16 && size_of::<DataBlock>() == 3);
 
 const _: () = prove!(size_of::<Data>() == 120 && size_of::<Vec<u8>>() == 24);
 
@@ -76,6 +78,13 @@ impl Class {
         ensures low { result + 2 ^ 32 ≤ 2 ^ 64 }
     {
         (number - self.first) as usize * self.spec.size as usize
+    }
+
+    // Notes that this many of its data blocks are free.
+    fn note(&mut self, free: u32)
+        ensures { self.new ≡ record self.old { least = min self.old.least free } }
+    {
+        self.least = self.least.min(free);
     }
 }
 
@@ -206,6 +215,19 @@ fn free_lists(alloc: Global, specs: &[ClassSpec]) -> Result<Stacks, AllocError>
     Ok(free)
 }
 
+// Makes for each class the fewest that were free those that are free now.
+fn reset(classes: &mut [Class], free: &Stacks)
+    requires few { length classes.old ≤ most_classes }
+    requires lists { length free.now.lists ≡ length classes.old }
+    ensures specs { map (λ k. k.spec) classes.new ≡ map (λ k. k.spec) classes.old }
+    ensures firsts { map (λ k. k.first) classes.new ≡ map (λ k. k.first) classes.old }
+    ensures least { map (λ k. k.least) classes.new ≡ map length free.now.lists }
+{
+    for number in 0..classes.len() {
+        classes[number].least = free.len(number as u32);
+    }
+}
+
 // Adds `count` data blocks of a class, without references.
 fn add_blocks(blocks: &mut Vec<DataBlock>, class: u8, count: u32) -> Result<(), AllocError>
     ensures { OnOk result (blocks.new.items ≡ blocks.old.items ++ replicate count
@@ -240,7 +262,12 @@ impl Data {
             let first = blocks.len() as u32;
             add_blocks(&mut blocks, classes.len() as u8, spec.count)?;
             regions.push(vec![in alloc; 0; spec.size as usize * spec.count as usize]?)?;
-            classes.push(Class { spec: *spec, first })?;
+            let least = spec.count;
+            classes.push(Class {
+                spec: *spec,
+                first,
+                least,
+            })?;
         }
         Ok(Data {
             classes,
@@ -282,6 +309,7 @@ impl Data {
     {
         let class = self.class_for(size)?;
         let number = self.free.pop_front(class).unwrap();
+        self.classes[class as usize].note(self.free.len(class));
         let block = &mut self.blocks[number as usize];
         block.kind = MsgType::MData;
         block.references = 1;
@@ -403,6 +431,23 @@ impl Data {
         })
     }
 
+    /// Returns the fewest data blocks of a class that were free at a time since `new`, or since the last `reset_least`, or
+    /// none if there is no such class. Only `take` lowers this number. Changes nothing.
+    pub fn least_free(&self, class: u8) -> Option<u32>
+        ensures { result ≡ slice_get self.now.store.least class }
+    {
+        Some(self.classes.get(usize::from(class))?.least)
+    }
+
+    /// Makes the data blocks that are free now the fewest that were free, for each class. All else stays unchanged. Takes a
+    /// step for each class.
+    pub fn reset_least(&mut self)
+        ensures after { self.new ≡ record self.old { store = with_data_reset self.old.store } }
+        ensures kept { IsKept self.new }
+    {
+        reset(&mut self.classes, &self.free);
+    }
+
     /// Returns the number of free data blocks of the largest class. This many can be taken in turn, whatever their sizes,
     /// if no size is too large. Changes nothing.
     pub fn free_in_largest(&self) -> u32
@@ -416,6 +461,13 @@ impl Data {
     /// class's free list, once, if it has none, and otherwise in no free list. Does nothing.
     pub fn accounts_for_blocks(&self)
         ensures kept { IsKept self.now }
+    {
+        let _ = &self.blocks;
+    }
+
+    /// Law: each class has a number that `least_free` returns, and no fewer of its data blocks are free. Does nothing.
+    pub fn least_is_least(&self)
+        ensures { IsLeast self.now.store }
     {
         let _ = &self.blocks;
     }

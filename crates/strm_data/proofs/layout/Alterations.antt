@@ -1,16 +1,18 @@
 -- A data block that is altered in memory: what a contract sees then, and that all is laid out as before.
-use Rattle.std.proofs.Common.{◌≡◌, ◌≢◌, ℕ, ◌+◌, ◌-◌, ◌<◌, ◌≤◌, List, [], ◌∷◌, length, get_or, set, map, Ok, Some, drop, refl, sym, ap, ◌∙◌, subst, arith, length-set}
+use Rattle.std.proofs.Common.{◌≡◌, ◌≢◌, ℕ, ◌+◌, ◌-◌, ◌<◌, ◌≤◌, min, List, [], ◌∷◌, length, get_or, set, map, Ok, Some, drop, refl, sym, ap, ◌∙◌, subst, arith, length-set, get_or-set_same}
 use Rattle.std.specs.Vec.{with_item}
 use Rattle.std.proofs.lemmas.Bool.{cond-true, cond-false, eq-eqb, ne_eqb}
-use Rattle.std.proofs.lemmas.List.{set-get_or}
+use Rattle.std.proofs.lemmas.List.{get_or_default, length-map, set-get_or}
 use Rattle.strm_links.specs.Rows.{Rows, first, list_at}
+use Rattle.strm_data.specs.declared.data.Class.{Class}
 use Rattle.strm_data.specs.declared.data.Data.TheInside.{Inside}
 use Rattle.strm_data.specs.declared.data.DataBlock.{DataBlock}
 use Rattle.strm_data.specs.declared.msg_type.MsgType.TheVariants.{MData}
 use Rattle.strm_data.specs.CountedStore.{CountedStore, IsKept, IsUnused, count_of, after_take, with_reference, without_reference}
-use Rattle.strm_data.specs.DataLayout.{block_at, store_of_parts, store_of, IsSound}
-use Rattle.strm_data.specs.DataStore.{IsTakenFrom, take_data, data_block_at, capacity_of, class_of, free_of, with_kind, with_data_freed, class_spec_at}
+use Rattle.strm_data.specs.DataLayout.{no_class, block_at, class_at, store_of_parts, store_of, IsPlaced, IsSound}
+use Rattle.strm_data.specs.DataStore.{IsLeast, IsTakenFrom, least_of, take_data, data_block_at, capacity_of, class_of, free_of, with_kind, with_data_freed, class_spec_at}
 use Rattle.strm_data.proofs.store.Kept.{first_unused}
+use Rattle.strm_data.proofs.layout.Least.{AreAlike, AreAlike-noted, IsPlaced-alike, least_is, least_noted, seen_alike}
 use Rattle.strm_data.proofs.layout.Members.{get_or_first}
 use Rattle.strm_data.proofs.layout.Laid.{block_within, block_is, class_of_is, count_is, seen_altered, seen_recounted, IsPlaced-altered}
 
@@ -25,7 +27,7 @@ module _ (a : Inside) (v : CountedStore) (view : store_of a ≡ v) (laid : IsSou
     of_class = class ∙ ap (λ (x : DataBlock). x.class) (block_is a v view d there b read)
 
     pub altered : (lists : List (List ℕ)) → store_of_parts a.classes.items regions (set a.blocks.items d new) lists
-        ≡ record { store = record { classes = v.store.classes; blocks = set v.store.blocks d (record (data_block_at v.store d) { kind = new.kind }); free = lists }; counts = set v.counts d new.references }
+        ≡ record { store = record v.store { blocks = set v.store.blocks d (record (data_block_at v.store d) { kind = new.kind }); free = lists }; counts = set v.counts d new.references }
     altered lists = cc (seen_altered a.classes.items regions a.blocks.items a.free.lists d (block_within a v view d there) new of_class lists, view)
 
     -- one of the same type
@@ -34,11 +36,15 @@ module _ (a : Inside) (v : CountedStore) (view : store_of a ≡ v) (laid : IsSou
     recounted lists kind =
         cc (seen_recounted a.classes.items regions a.blocks.items a.free.lists d (block_within a v view d there) new of_class lists (kind ∙ ap (λ (x : DataBlock). x.kind) (block_is a v view d there b read)), view)
 
+    pub placed_still : IsPlaced a.classes.items regions (set a.blocks.items d new)
+    placed_still = IsPlaced-altered a.classes.items regions a.blocks.items a.free.lists d (block_within a v view d there) new of_class laid.placed
+
     pub IsSound-altered : (free : Rows) → free.nodes ≡ a.free.nodes → IsKept (store_of_parts a.classes.items regions (set a.blocks.items d new) free.lists)
-        → IsSound (record a { blocks = with_item a.blocks d new; free = free })
-    IsSound-altered free nodes listed = record {
+        → IsLeast (store_of_parts a.classes.items regions (set a.blocks.items d new) free.lists).store → IsSound (record a { blocks = with_item a.blocks d new; free = free })
+    IsSound-altered free nodes listed least = record {
       kept = listed;
-      placed = IsPlaced-altered a.classes.items regions a.blocks.items a.free.lists d (block_within a v view d there) new of_class laid.placed;
+      placed = placed_still;
+      least = least;
       nodes = omega (arith, nodes, laid.nodes, length-set a.blocks.items d new);
     }
 
@@ -85,8 +91,54 @@ module _ (a : Inside) (v : CountedStore) (view : store_of a ≡ v) (laid : IsSou
   pub after_is : after_take v (take_data size v.store) ≡ after_take v (Ok n)
   after_is = ap (after_take v) (found.front ∙ ap Ok front_is)
 
-  -- it has left its list, is of type M_DATA, and has one name
-  pub taken : (b : DataBlock) (read : b ≡ get_or a.blocks.items n b) (lists : List (List ℕ)) → lists ≡ set a.free.lists c (drop 1 (get_or a.free.lists c []))
-      → store_of_parts a.classes.items (map (λ r. r.items) a.regions.items) (set a.blocks.items n (record { class = b.class; kind = MData; references = 1 })) lists ≡ after_take v (take_data size v.store)
-  taken b read lists popped =
-      cc (altered a v view laid n unused.there b read (record { class = b.class; kind = MData; references = 1 }) refl lists, popped, view, here.0, after_is)
+  pub found_within : c < length a.classes.items
+  found_within =
+      omega (
+        arith,
+        here.0,
+        (subst IsKept view laid.kept).classed n unused.there,
+        ap (λ (s : CountedStore). length s.store.classes) view,
+        length-map a.classes.items (λ (k : Class). k.spec),
+      )
+
+  -- it has left its list, of which m are left, is of type M_DATA, and has one name
+  module _ (b : DataBlock) (read : b ≡ get_or a.blocks.items n b) (lists : List (List ℕ)) (popped : lists ≡ set a.free.lists c (drop 1 (get_or a.free.lists c [])))
+      (k : Class) (read_class : k ≡ get_or a.classes.items c k) (m : ℕ) (left : m ≡ length (get_or lists c [])) (noted : Class) (noted_is : noted ≡ record k { least = min k.least m }) where
+    abbrev regions_now : List (List ℕ)
+    regions_now = map (λ r. r.items) a.regions.items
+
+    abbrev block : DataBlock
+    block = record { class = b.class; kind = MData; references = 1 }
+
+    abbrev classes_now : List Class
+    classes_now = set a.classes.items c noted
+
+    class_is : k ≡ class_at a.classes.items c
+    class_is = read_class ∙ get_or_default a.classes.items c k no_class found_within
+
+    listed : c < length a.free.lists
+    listed = omega (arith, found_within, laid.kept.lists, length-map a.classes.items (λ (x : Class). x.spec))
+
+    left_is : m ≡ length (drop 1 (free_of v.store c))
+    left_is =
+        left ∙ ap (λ ls. length (get_or ls c [])) popped ∙ ap length (get_or-set_same a.free.lists c (drop 1 (get_or a.free.lists c [])) [] listed)
+        ∙ ap (λ (s : CountedStore). length (drop 1 (free_of s.store c))) view
+
+    least_now : map (λ x. x.least) classes_now ≡ set v.store.least c (min (least_of v.store c) (length (drop 1 (free_of v.store c))))
+    least_now =
+        ap (λ x. map (λ (x : Class). x.least) (set a.classes.items c x)) noted_is ∙ least_noted a.classes.items c k class_is (min k.least m)
+        ∙ ap (λ x. set (map (λ (x : Class). x.least) a.classes.items) c (min x m)) (least_is a.classes.items c k class_is)
+        ∙ ap (λ (s : CountedStore). set s.store.least c (min (least_of s.store c) m)) view
+        ∙ ap (λ x. set v.store.least c (min (least_of v.store c) x)) left_is
+
+    alike : AreAlike classes_now a.classes.items
+    alike = subst (λ x. AreAlike (set a.classes.items c x) a.classes.items) (sym noted_is) (AreAlike-noted a.classes.items c k class_is (min k.least m))
+
+    pub taken : store_of_parts classes_now regions_now (set a.blocks.items n block) lists ≡ after_take v (take_data size v.store)
+    taken =
+        seen_alike classes_now a.classes.items alike regions_now (set a.blocks.items n block) lists
+        ∙ ap (λ (s : CountedStore). record s { store = record s.store { least = map (λ x. x.least) classes_now } }) (altered a v view laid n unused.there b read block refl lists)
+        ∙ cc (popped, view, here.0, after_is, least_now)
+
+    pub placed_taken : IsPlaced classes_now regions_now (set a.blocks.items n block)
+    placed_taken = IsPlaced-alike classes_now a.classes.items alike regions_now (set a.blocks.items n block) (placed_still a v view laid n unused.there b read block refl)

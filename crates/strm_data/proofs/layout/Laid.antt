@@ -79,8 +79,8 @@ module _ (classes : List Class) (regions : List (List ℕ)) (blocks : List DataB
       altered_counts = map-set (λ (x : DataBlock). x.references) blocks d b
 
       pub seen_altered : (lists : List (List ℕ)) → store_of_parts classes regions new lists
-          ≡ record { store = record { classes = s.store.classes; blocks = set s.store.blocks d (record (data_block_at s.store d) { kind = b.kind }); free = lists }; counts = set s.counts d b.references }
-      seen_altered lists = λ i. record { store = record { classes = s.store.classes; blocks = altered_blocks i; free = lists }; counts = altered_counts i }
+          ≡ record { store = record s.store { blocks = set s.store.blocks d (record (data_block_at s.store d) { kind = b.kind }); free = lists }; counts = set s.counts d b.references }
+      seen_altered lists = λ i. record { store = record s.store { blocks = altered_blocks i; free = lists }; counts = altered_counts i }
 
       pub IsPlaced-altered : IsPlaced classes regions blocks → IsPlaced classes regions new
       IsPlaced-altered placed = record {
@@ -88,6 +88,8 @@ module _ (classes : List Class) (regions : List (List ℕ)) (blocks : List DataB
         filled = placed.filled;
         from = λ e there. rw (class_stays e) (placed.from e (omega (arith, length-set blocks d b)));
         below = λ e there. rw (class_stays e) (placed.below e (omega (arith, length-set blocks d b)));
+        there = λ j. omega (arith, placed.there j, length-set blocks d b);
+        own = λ j e from below. class_stays e ∙ placed.own j e from below;
       }
 
       -- of the same type too
@@ -97,7 +99,7 @@ module _ (classes : List Class) (regions : List (List ℕ)) (blocks : List DataB
       -- and of as many references
       pub seen_recounted : (lists : List (List ℕ)) → b.kind ≡ (block_at blocks d).kind → store_of_parts classes regions new lists
           ≡ record { store = record s.store { free = lists }; counts = set s.counts d b.references }
-      seen_recounted lists kind = λ i. record { store = record { classes = s.store.classes; blocks = renamed_blocks kind i; free = lists }; counts = altered_counts i }
+      seen_recounted lists kind = λ i. record { store = record s.store { blocks = renamed_blocks kind i; free = lists }; counts = altered_counts i }
 
     -- ---- bytes
 
@@ -178,6 +180,8 @@ module _ (classes : List Class) (regions : List (List ℕ)) (blocks : List DataB
           ];
           from = placed.from;
           below = placed.below;
+          there = placed.there;
+          own = placed.own;
         }
 
 -- ---- from what a contract sees

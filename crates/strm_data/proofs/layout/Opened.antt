@@ -1,5 +1,5 @@
 -- Data blocks that are laid out class by class.
-use Rattle.std.proofs.Common.{◌≡◌, ℕ, ◌+◌, ◌-◌, ◌*◌, ◌<◌, ◌≤◌, List, [], ◌∷◌, ◌++◌, length, get_or, map, take, replicate, refl, sym, ap, ◌∙◌, inl, inr, arith, length-append}
+use Rattle.std.proofs.Common.{◌≡◌, ◌≢◌, ℕ, ◌+◌, ◌-◌, ◌*◌, ◌<◌, ◌≤◌, List, [], ◌∷◌, ◌++◌, length, get_or, map, take, replicate, refl, sym, ap, ◌∙◌, inl, inr, arith, length-append}
 use Rattle.std.proofs.lemmas.Bool.{cases_eq, cases_lt}
 use Rattle.std.proofs.lemmas.List.{get_or_append_left, get_or-append_right, get_or-replicate, get_or_past, length-replicate, length-map, map_push, map-append, replicate-append-replicate, drop-replicate, take-replicate}
 use Rattle.std.proofs.Math.Nat.{mul-le-mul_right}
@@ -18,6 +18,7 @@ use Rattle.strm_data.proofs.lists.Repeated.{map-replicate}
 -- the data blocks of these classes are laid out, as new ones
 pub record AreOpened (specs : List ClassSpec) (classes : List Class) (regions : List (List ℕ)) (blocks : List DataBlock) : Type 0 where
   pub specs_are : map (λ k. k.spec) classes ≡ specs
+  pub least_are : map (λ k. k.least) classes ≡ map (λ c. c.count) specs
   pub placed : IsPlaced classes regions blocks
   pub classed : (d : ℕ) → d < length blocks → (block_at blocks d).class < length classes
   pub fresh : values_below (data_block_of classes regions blocks) (length blocks) ≡ blocks_from 0 specs
@@ -26,7 +27,15 @@ pub record AreOpened (specs : List ClassSpec) (classes : List Class) (regions : 
 pub AreOpened-nil : AreOpened [] [] [] []
 AreOpened-nil = record {
   specs_are = refl;
-  placed = record { regioned = refl; filled = λ c. refl; from = λ d there. absurd (omega arith); below = λ d there. absurd (omega arith) };
+  least_are = refl;
+  placed = record {
+    regioned = refl;
+    filled = λ c. refl;
+    from = λ d there. absurd (omega arith);
+    below = λ d there. absurd (omega arith);
+    there = λ c. omega arith;
+    own = λ c d from below. absurd (omega arith);
+  };
   classed = λ d there. absurd (omega arith);
   fresh = refl;
   unnamed = refl;
@@ -49,7 +58,7 @@ module _ (specs : List ClassSpec) (classes : List Class) (regions : List (List �
   c = length classes
 
   abbrev class : Class
-  class = record { spec = spec; first = n }
+  class = record { spec = spec; first = n; least = spec.count }
 
   abbrev block : DataBlock
   block = record { class = c; kind = MData; references = 0 }
@@ -82,6 +91,9 @@ module _ (specs : List ClassSpec) (classes : List Class) (regions : List (List �
   new_region =
       cc (get_or-append_right regions (replicate (spec.size * spec.count) 0 ∷ []) c c [] opened.placed.regioned (omega arith), (let e : c - c ≡ 0 = omega arith in e))
 
+  none_past : (e : ℕ) → c ≤ e → e ≢ c → class_at classes' e ≡ no_class
+  none_past e past other = get_or_past classes' e no_class (omega (arith, length-append classes (class ∷ []), other))
+
   new_block : (d : ℕ) → n ≤ d → d < n + spec.count → block_at blocks' d ≡ block
   new_block d past within = get_or-append_right blocks (replicate spec.count block) n d no_block refl past ∙ get_or-replicate spec.count (d - n) block no_block (omega arith)
 
@@ -103,6 +115,9 @@ module _ (specs : List ClassSpec) (classes : List Class) (regions : List (List �
   pub AreOpened-push : AreOpened (specs ++ spec ∷ []) classes' regions' blocks'
   AreOpened-push = record {
     specs_are = map_push (λ (k : Class). k.spec) classes class ∙ ap (λ xs. xs ++ spec ∷ []) opened.specs_are;
+    least_are =
+        map_push (λ (k : Class). k.least) classes class ∙ ap (λ xs. xs ++ spec.count ∷ []) opened.least_are
+        ∙ sym (map_push (λ (x : ClassSpec). x.count) specs spec);
     placed = record {
       regioned = omega (arith, length-append regions (replicate (spec.size * spec.count) 0 ∷ []), length-append classes (class ∷ []), opened.placed.regioned);
       filled = λ e. elim (cases_lt e c) [
@@ -114,7 +129,7 @@ module _ (specs : List ClassSpec) (classes : List Class) (regions : List (List �
                   ∙ ap (λ (k : Class). k.spec.size * k.spec.count) (sym new_class) ∙ ap (λ j. (class_at classes' j).spec.size * (class_at classes' j).spec.count) (sym same)
               | inr other ↦
                   ap length (get_or_past regions' e [] (omega (arith, length-append regions (replicate (spec.size * spec.count) 0 ∷ []), opened.placed.regioned, other)))
-                  ∙ ap (λ (k : Class). k.spec.size * k.spec.count) (sym (get_or_past classes' e no_class (omega (arith, length-append classes (class ∷ []), other))))
+                  ∙ ap (λ (k : Class). k.spec.size * k.spec.count) (sym (none_past e past other))
             ]
       ];
       from = λ d there. elim (cases_lt d n) [
@@ -124,6 +139,26 @@ module _ (specs : List ClassSpec) (classes : List Class) (regions : List (List �
       below = λ d there. elim (cases_lt d n) [
         | inl before ↦ omega (arith, ap (λ (k : Class). k.first + k.spec.count) (class_of_old d before), opened.placed.below d before)
         | inr past ↦ omega (arith, ap (λ (k : Class). k.first + k.spec.count) (class_of_new d past (omega (arith, length_blocks))), length_blocks)
+      ];
+      there = λ e. elim (cases_lt e c) [
+        | inl before ↦ omega (arith, ap (λ (k : Class). k.first + k.spec.count) (old_class e before), opened.placed.there e, length_blocks)
+        | inr past ↦ elim (cases_eq e c) [
+          | inl same ↦ omega (arith, ap (λ j. (class_at classes' j).first + (class_at classes' j).spec.count) same, ap (λ (k : Class). k.first + k.spec.count) new_class, length_blocks)
+          | inr other ↦ omega (arith, ap (λ (k : Class). k.first + k.spec.count) (none_past e past other))
+        ]
+      ];
+      own = λ e d from below. elim (cases_lt e c) [
+        | inl before ↦
+            let is = old_class e before in
+            let low : (class_at classes e).first ≤ d = omega (arith, ap (λ (k : Class). k.first) is) in
+            let high : d < (class_at classes e).first + (class_at classes e).spec.count = omega (arith, ap (λ (k : Class). k.first + k.spec.count) is) in
+            ap (λ (x : DataBlock). x.class) (old_block d (omega (arith, opened.placed.there e, high))) ∙ opened.placed.own e d low high
+        | inr past ↦ elim (cases_eq e c) [
+          | inl same ↦
+              let is : class_at classes' e ≡ class = ap (class_at classes') same ∙ new_class in
+              ap (λ (x : DataBlock). x.class) (new_block d (omega (arith, ap (λ (k : Class). k.first) is)) (omega (arith, ap (λ (k : Class). k.first + k.spec.count) is))) ∙ sym same
+          | inr other ↦ absurd (omega (arith, ap (λ (k : Class). k.first + k.spec.count) (none_past e past other)))
+        ]
       ];
     };
     classed = λ d there. elim (cases_lt d n) [
@@ -151,4 +186,4 @@ module _ (specs : List ClassSpec) (classes : List Class) (regions : List (List �
   classes_opened = omega (arith, ap length opened.specs_are, length-map classes (λ (k : Class). k.spec))
 
   pub opened_is : store_of_parts classes regions blocks (numbers_from 0 specs) ≡ opening_counted specs
-  opened_is = cc (opened.unnamed, opened.specs_are, opened.fresh, length_opened, length-blocks_from 0 specs)
+  opened_is = cc (opened.unnamed, opened.specs_are, opened.least_are, opened.fresh, length_opened, length-blocks_from 0 specs)

@@ -144,9 +144,9 @@ unused_by_count s c d there class = rw (lt-ltb d _ there, eq-eqb _ c class) refl
 replaced : (s : CountedStore) (d c v : ℕ) (bs : List DataBlock) (ys : List ℕ) → IsKept s → d < length s.store.blocks → class_of s.store d ≡ c → length bs ≡ length s.store.blocks
     → ((k : ℕ) → (get_or bs k no_data_block).class ≡ class_of s.store k) → ((k : ℕ) → length (get_or bs k no_data_block).bytes ≡ capacity_of s.store k)
     → ((k : ℕ) → k ≢ d → times k ys ≡ times k (free_of s.store c)) → times d ys ≡ (if v == 0 then 1 else 0) → v ≤ most_references
-    → IsKept (record { store = record { classes = s.store.classes; blocks = bs; free = set s.store.free c ys }; counts = set s.counts d v })
+    → IsKept (record { store = record s.store { blocks = bs; free = set s.store.free c ys }; counts = set s.counts d v })
 replaced s d c v bs ys kept there class long classes capacities others here most =
-    let new : CountedStore = record { store = record { classes = s.store.classes; blocks = bs; free = set s.store.free c ys }; counts = set s.counts d v } in
+    let new : CountedStore = record { store = record s.store { blocks = bs; free = set s.store.free c ys }; counts = set s.counts d v } in
     let inside : c < length s.store.free = omega (arith, class, kept.lists, kept.classed d there) in
     let counted : d < length s.counts = omega (arith, kept.counted) in
     let list : (e : ℕ) → e ≡ c → free_of new.store e ≡ ys =
@@ -168,6 +168,19 @@ replaced s d c v bs ys kept there class long classes capacities others here most
           ∙ sym (cond-false _ 1 0 (elsewhere_is new e d (λ is. differs (sym is ∙ classes d ∙ class))))
     ])
 
+-- whatever the fewest free ones are
+pub IsKept-least : (s : CountedStore) (least : List ℕ) → IsKept s → IsKept (record s { store = record s.store { least = least } })
+IsKept-least s least kept = record {
+  lawful = kept.lawful;
+  complete = kept.complete;
+  lists = kept.lists;
+  counted = kept.counted;
+  classed = kept.classed;
+  sized = kept.sized;
+  few_references = kept.few_references;
+  listed = kept.listed;
+}
+
 IsKept-taken : (s : CountedStore) (c : ℕ) → IsKept s → 0 < length (free_of s.store c) → IsKept (after_take s (Ok (get_or (free_of s.store c) 0 0)))
 IsKept-taken s c kept some =
     let d = get_or (free_of s.store c) 0 0 in
@@ -175,10 +188,11 @@ IsKept-taken s c kept some =
     let list : free_of s.store (class_of s.store d) ≡ free_of s.store c = ap (free_of s.store) first.0 in
     let some' : 0 < length (free_of s.store (class_of s.store d)) = omega (arith, ap length list) in
     let front : get_or (free_of s.store (class_of s.store d)) 0 0 ≡ d = ap (λ xs. get_or xs 0 0) list in
-    replaced s d (class_of s.store d) 1 _ (drop 1 (free_of s.store (class_of s.store d))) kept first.1.there refl (length-set s.store.blocks d _)
+    IsKept-least _ _
+    (replaced s d (class_of s.store d) 1 _ (drop 1 (free_of s.store (class_of s.store d))) kept first.1.there refl (length-set s.store.blocks d _)
     (λ k. class-set s.store.blocks d k _ refl) (λ k. capacity-set s.store.blocks d k _ refl)
     (λ k other. times_rest_other k _ some' (λ is. other (sym is ∙ front)))
-    (omega (arith, times_rest_same d _ some' front, listed_once s kept (class_of s.store d) d)) (omega arith)
+    (omega (arith, times_rest_same d _ some' front, listed_once s kept (class_of s.store d) d)) (omega arith))
 
 pub IsKept-take : (size : ℕ) (s : CountedStore) (c : ℕ) → IsTakenFrom size s.store c → IsKept s → IsKept (after_take s (take_data size s.store))
 IsKept-take size s c from kept = subst (λ r. IsKept (after_take s r)) (sym from.front) (IsKept-taken s c kept from.some)

@@ -1,8 +1,8 @@
 //! Bytes of data blocks in place, to look at or to change, and copied in and out.
-ghost use Rattle.std.specs.Prelude.{◌≡◌, ◌+◌, ◌<◌, ◌≤◌, drop, length, take};
+ghost use Rattle.std.specs.Prelude.{◌≡◌, ◌+◌, ◌<◌, ◌≤◌, drop, length, option_copied, take};
 ghost use Rattle.std.specs.Fn.{FnOnceReturnsAtMut, FnOnceTakesAtMut};
 ghost use Rattle.strm_data.specs.CountedStore.{IsKept};
-ghost use Rattle.strm_data.specs.DataStore.{bytes_at, bytes_overwritten, capacity_of, with_bytes_written};
+ghost use Rattle.strm_data.specs.DataStore.{bytes_at, bytes_overwritten, capacity_of, class_region, with_bytes_written};
 ghost use Rattle.strm_data.specs.Lending.{Edits};
 
 use super::{Data, DataNo, place_of};
@@ -35,6 +35,14 @@ impl Data {
     {
         let place = place_of(&self.classes, &self.blocks, number, at);
         part_of(&self.regions[place.class], place.start, len)
+    }
+
+    /// Lends the bytes of all data blocks of a class, in use or free, one block after the other, or none if there is no such
+    /// class. Each block has as many as the class's size. Changes nothing. Takes constant time.
+    pub fn region(&self, class: u8) -> Option<&[u8]>
+        ensures { option_copied result ≡ class_region class self.now.store }
+    {
+        Some(self.regions.get(usize::from(class))?.as_slice())
     }
 
     /// Lends `len` bytes of a data block, from place `at` on, to `change`, which may change them. They must be within the

@@ -123,4 +123,18 @@ impl Bench {
     pub(super) fn assert_class(&self, rt: &impl Abort, class: u8, info: Option<ClassInfo>) {
         assert!(rt; self.blocks.class_info(class) == info);
     }
+
+    // Asserts the fewest data blocks of a class that were free.
+    pub(super) fn assert_least(&self, rt: &impl Abort, class: u8, least: Option<u32>) {
+        assert!(rt; self.blocks.least_free(class) == least);
+    }
+
+    pub(super) fn reset_least(&mut self) {
+        self.blocks.reset_least();
+    }
+
+    // The bytes of all data blocks of a class.
+    pub(super) fn region(&self, class: u8) -> Option<&[u8]> {
+        self.blocks.region(class)
+    }
 }

@@ -150,3 +150,39 @@ fn copies_to_and_from_the_last_places(rt: HostRuntime) {
     bench.assert_holds(&rt, 0, [1, 2, 3, 4]);
     bench.assert_holds(&rt, 2, [0, 0, 0, 0]);
 }
+
+#[test]
+fn says_the_fewest_that_were_free(rt: HostRuntime) {
+    let mut bench = Bench::opened(&rt, rt.alloc(), &[class(16, 3), class(64, 1)]);
+    for (number, least) in [(0, Some(3)), (1, Some(1)), (2, None), (u8::MAX, None)] {
+        bench.assert_least(&rt, number, least);
+    }
+    bench.take(&rt, 1, Ok(0));
+    bench.take(&rt, 1, Ok(1));
+    bench.drop_name(&rt, 0);
+    bench.drop_name(&rt, 1);
+    bench.take(&rt, 1, Ok(1));
+    bench.assert_least(&rt, 0, Some(1));
+    bench.take(&rt, 65, Err(Refusal::TooLarge));
+    bench.reset_least();
+    bench.assert_least(&rt, 0, Some(2));
+    bench.take(&rt, 17, Ok(3));
+    bench.take(&rt, 17, Err(Refusal::NoData));
+    bench.assert_least(&rt, 0, Some(2));
+    bench.assert_least(&rt, 1, Some(0));
+    bench.drop_name(&rt, 3);
+    bench.assert_least(&rt, 1, Some(0));
+    bench.reset_least();
+    bench.assert_least(&rt, 1, Some(1));
+}
+
+#[test]
+fn lends_the_bytes_of_a_class(rt: HostRuntime) {
+    let mut bench = Bench::opened(&rt, rt.alloc(), &[class(2, 2), class(3, 1)]);
+    bench.write(&rt, 0, 0, &[1, 2]);
+    bench.write(&rt, 1, 1, &[4]);
+    bench.write(&rt, 2, 0, &[5, 6]);
+    assert!(&rt; bench.region(0) == Some(&[1, 2, 0, 4][..]));
+    assert!(&rt; bench.region(1) == Some(&[5, 6, 0][..]));
+    assert!(&rt; bench.region(2).is_none());
+}

@@ -38,6 +38,8 @@ struct Twin {
     blocks: Vec<Plain>,
     // For each class its free data blocks, the next to be taken first.
     free: Vec<Vec<u32>>,
+    // For each class the fewest that were free.
+    least: [u32; 3],
 }
 
 #[derive(Drop)]
@@ -89,6 +91,7 @@ impl Twin {
             data: Bench::opened(rt, alloc, &CLASSES),
             blocks: Vec::new(alloc),
             free: Vec::new(alloc),
+            least: [CLASSES[0].count, CLASSES[1].count, CLASSES[2].count],
         };
         for (class, spec) in CLASSES.iter().enumerate() {
             twin.add_class(rt, alloc, class, *spec);
@@ -121,6 +124,28 @@ impl Twin {
         self.free.get_mut(class).expect(rt, "a class")
     }
 
+    // The number of free data blocks of a class.
+    fn free_len(&self, rt: &impl Abort, class: usize) -> u32 {
+        let list = self.free.get(class).expect(rt, "a class");
+        u32::try_from(list.len()).unwrap_or(u32::MAX)
+    }
+
+    // Notes how many data blocks of a class are free.
+    fn note(&mut self, rt: &impl Abort, class: usize) {
+        let free = self.free_len(rt, class);
+        let least = self.least.get_mut(class).expect(rt, "a class");
+        *least = (*least).min(free);
+    }
+
+    // Makes those that are free now the fewest, in both forms.
+    fn reset_least(&mut self, rt: &impl Abort) {
+        self.data.reset_least();
+        for class in 0..3 {
+            let free = self.free_len(rt, class);
+            *self.least.get_mut(class).expect(rt, "a class") = free;
+        }
+    }
+
     // The data block that the plain vectors take for a size.
     fn plain_take(&mut self, rt: &impl Abort, size: u32) -> Result<u32, Refusal> {
         for (class, spec) in CLASSES.iter().enumerate() {
@@ -146,6 +171,8 @@ impl Twin {
             let plain = self.plain_mut(rt, number);
             plain.kind = MsgType::MData;
             plain.count = 1;
+            let class = plain.class;
+            self.note(rt, class);
         }
     }
 
@@ -208,13 +235,15 @@ impl Twin {
     // Makes the next call of the run, drawn at random.
     fn step(&mut self, rt: &impl Abort, draw: &mut u32) {
         let number = below(draw, BLOCKS);
-        match below(draw, 18) {
+        match below(draw, 20) {
             0..5 => self.take(rt, below(draw, LARGEST + 4)),
             5..7 => self.name(rt, number),
             7..12 => self.drop_name(rt, number),
             12 => self.set_kind(rt, number, KINDS[below(draw, 4) as usize]),
             13 => self.compare_bytes(rt, number, below(draw, 5)),
             14..16 => self.copy(rt, number, draw),
+            18 => self.compare_regions(rt),
+            19 if below(draw, 6) == 0 => self.reset_least(rt),
             _ => self.write(rt, number, draw),
         }
         self.compare_block(rt, number);
@@ -241,10 +270,11 @@ impl Twin {
 
     // Asserts that a class has the number of free data blocks of its plain list.
     fn compare_class(&self, rt: &impl Abort, class: u8, spec: ClassSpec) {
-        let list = self.free.get(usize::from(class)).expect(rt, "a class");
-        let free = u32::try_from(list.len()).unwrap_or(u32::MAX);
+        let free = self.free_len(rt, usize::from(class));
         self.data
             .assert_class(rt, class, info(spec.size, free, spec.count));
+        self.data
+            .assert_least(rt, class, self.least.get(usize::from(class)).copied());
     }
 
     // Does the same for each class, and asserts that there are no others.
@@ -256,12 +286,33 @@ impl Twin {
         self.data.assert_class(rt, u8::MAX, None);
     }
 
+    // Asserts that a class has the bytes of its plain data blocks, one after the other.
+    fn compare_region(&self, rt: &impl Abort, class: usize) {
+        let mut rest = self.data.region(class as u8).expect(rt, "a class");
+        for plain in self.blocks.iter().filter(|plain| plain.class == class) {
+            let (bytes, others) = rest
+                .split_at_checked(plain.bytes.len())
+                .expect(rt, "its bytes");
+            assert!(rt; bytes == plain.bytes.as_slice());
+            rest = others;
+        }
+        assert!(rt; rest.is_empty());
+    }
+
+    // Does the same for each class.
+    fn compare_regions(&self, rt: &impl Abort) {
+        for class in 0..CLASSES.len() {
+            self.compare_region(rt, class);
+        }
+    }
+
     // Asserts that everything is as in the plain vectors.
     fn compare_all(&self, rt: &impl Abort) {
         for number in 0..BLOCKS {
             self.compare_block(rt, number);
         }
         self.compare_classes(rt);
+        self.compare_regions(rt);
     }
 
     // Asserts the number of references that the plain vectors have for a data block.

@@ -91,5 +91,6 @@ pub invariant_of-self : goal.invariant_of-self
 invariant_of-self c = record {
   kept = returns-clause-kept c;
   placed = placed (goal.at.invariant_of-self c).After-deref_mut c.copy_bytes.new.regions c.copy_bytes.auto.regions c.copy_bytes.ensures;
+  least = record { each = c.self.invariant.least.each; fewest = c.self.invariant.least.fewest };
   nodes = c.self.invariant.nodes;
 }

@@ -1,13 +1,20 @@
 use Rattle.std.proofs.Common.{◌≢◌, ◌∷◌, [], get_or, set, refl, sym, ap, ◌∙◌, subst, arith}
 use Rattle.strm_links.specs.Rows.{Rows}
-use Rattle.strm_data.specs.CountedStore.{IsKept, IsInUse, without_reference}
+use Rattle.strm_data.specs.CountedStore.{CountedStore, IsKept, IsInUse, without_reference}
 use Rattle.strm_data.specs.DataLayout.{store_of}
+use Rattle.strm_data.specs.DataStore.{IsLeast}
 use Rattle.strm_data.proofs.layout.Alterations.{lowered, released, IsSound-altered}
 use Rattle.strm_data.proofs.store.Kept.{IsKept-without_name}
+use Rattle.strm_data.proofs.store.Least.{IsLeast-without_name}
 use Rattle.strm_data.proofs.layout.Laid.{count_is, list_within}
 use Rattle.strm_data.proofs.layout.Members.{holder_unlisted}
 use Rattle.strm_data.proofs.data.Data.drop_name.Goals as goal
 use Rattle.strm_data.proofs.data.Data.drop_name.Goals.{After-index_mut-block}
+
+least_after : (c : After-index_mut-block) → IsLeast (without_reference c.args.number c.args.self.now).store
+least_after c =
+    IsLeast-without_name c.args.self.now c.args.number (subst IsKept c.self.view_is c.self.invariant.kept) c.requires.there
+    (subst (λ (s : CountedStore). IsLeast s.store) c.self.view_is c.self.invariant.least)
 
 kept_after : (c : After-index_mut-block) → IsKept (without_reference c.args.number c.args.self.now)
 kept_after c = IsKept-without_name c.args.self.now c.args.number (subst IsKept c.self.view_is c.self.invariant.kept) c.requires.used c.requires.there
@@ -35,6 +42,7 @@ pub invariant_of-self : goal.invariant_of-self
 invariant_of-self c =
     IsSound-altered c.self.inside _ c.self.view_is c.self.invariant c.args.number c.requires.there c.index_mut-block.result.now c.index_mut-block.ensures.value _ refl
     c.push_front.new.self (ap (λ (r : Rows). r.nodes) c.push_front.ensures.lists) (returns-then-block-eq0-clause-kept c)
+    (subst (λ (s : CountedStore). IsLeast s.store) (sym (returns-then-block-eq0-clause-after c)) (least_after (goal.at.invariant_of-self c).After-index_mut-block))
 
 pub returns-else-block-eq0-clause-after : goal.returns-else-block-eq0-clause-after
 returns-else-block-eq0-clause-after c =
@@ -47,3 +55,4 @@ returns-else-block-eq0-clause-kept c = subst IsKept (sym (returns-else-block-eq0
 pub invariant_of-self-else-block-eq0 : goal.invariant_of-self-else-block-eq0
 invariant_of-self-else-block-eq0 c =
     IsSound-altered c.self.inside _ c.self.view_is c.self.invariant c.args.number c.requires.there c.index_mut-block.result.now c.index_mut-block.ensures.value _ refl c.self.inside.free refl (returns-else-block-eq0-clause-kept c)
+    (record { each = c.self.invariant.least.each; fewest = c.self.invariant.least.fewest })

@@ -82,6 +82,7 @@ invariant_of-self g c =
     record {
       kept = subst IsKept (sym (after g at edits.left _ edits.long edits.after)) (kept g at edits.left _ edits.long edits.after);
       placed = placed g at edits.left _ edits.long edits.after;
+      least = record { each = c.self.invariant.least.each; fewest = c.self.invariant.least.fewest };
       nodes = c.self.invariant.nodes;
     }
 

@@ -15,3 +15,4 @@ returns-clause-kept c =
 pub invariant_of-self : goal.invariant_of-self
 invariant_of-self c =
     IsSound-altered c.self.inside _ c.self.view_is c.self.invariant c.args.number c.requires.there c.index_mut.result.now c.index_mut.ensures.value _ refl c.self.inside.free refl (returns-clause-kept c)
+    (record { each = c.self.invariant.least.each; fewest = c.self.invariant.least.fewest })

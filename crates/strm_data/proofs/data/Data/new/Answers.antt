@@ -5,12 +5,13 @@ use Rattle.strm_data.specs.declared.class_spec.ClassSpec.{ClassSpec}
 use Rattle.strm_data.specs.declared.data.Class.{Class}
 use Rattle.strm_data.specs.declared.data.DataBlock.{DataBlock}
 use Rattle.strm_data.specs.declared.msg_type.MsgType.TheVariants.{MData}
-use Rattle.strm_data.specs.CountedStore.{IsKept}
+use Rattle.strm_data.specs.CountedStore.{CountedStore, IsKept}
 use Rattle.strm_data.specs.DataLayout.{store_of_parts}
-use Rattle.strm_data.specs.DataStore.{no_class_spec}
+use Rattle.strm_data.specs.DataStore.{no_class_spec, IsLeast}
 use Rattle.strm_data.proofs.layout.Filling.{total_of_more}
 use Rattle.strm_data.proofs.layout.Opened.{AreOpened, AreOpened-push, length_opened, classes_opened, opened_is}
 use Rattle.strm_data.proofs.store.Lawful.{lawful_few, lawful_total}
+use Rattle.strm_data.proofs.store.Least.{IsLeast-opening}
 use Rattle.strm_data.proofs.store.Opening.{IsKept-opening}
 use Rattle.strm_data.proofs.data.Data.new.Goals as goal
 use Rattle.strm_data.proofs.data.Data.new.Goals.{After-loop-spec}
@@ -41,7 +42,7 @@ loop-spec-preserved c =
     let pushed = AreOpened-push (take i specs) c.loop-spec.classes.items (map bytes_of c.loop-spec.regions.items) c.loop-spec.blocks.items c.loop-spec.invariant spec in
     let first : length c.loop-spec.blocks.items ≡ c.len-first.result = sym c.loop-spec.blocks.ok.0 ∙ sym c.len-first.ensures in
     let number : length c.loop-spec.classes.items ≡ c.len.result = sym c.loop-spec.classes.ok.0 ∙ sym c.len.ensures in
-    let classes_are = c.in_ok-push-2.ensures.items ∙ ap (λ n. c.loop-spec.classes.items ++ record { spec = spec; first = n } ∷ []) (sym first) in
+    let classes_are = c.in_ok-push-2.ensures.items ∙ ap (λ n. c.loop-spec.classes.items ++ record { spec = spec; first = n; least = spec.count } ∷ []) (sym first) in
     let regions_are =
     ap (map bytes_of) c.in_ok-push.ensures.items ∙ map_push bytes_of c.loop-spec.regions.items region
     ∙ ap (λ bs. map bytes_of c.loop-spec.regions.items ++ bs ∷ []) (c.in_ok-vec.ensures.items_if_clones_equal (λ y same. same)) in
@@ -71,5 +72,6 @@ invariant_of-result c =
     record {
       kept = returns-clause-kept c;
       placed = opened.placed;
+      least = subst (λ (s : CountedStore). IsLeast s.store) (sym (returns-clause-opened c)) (IsLeast-opening specs);
       nodes = ap (λ (r : Rows). r.nodes) c.in_ok-free.ensures ∙ sym (length_opened specs c.loop-spec.classes.items regions c.loop-spec.blocks.items opened);
     }

@@ -1,8 +1,11 @@
-use Rattle.std.proofs.Common.{◌≡◌, Some, refl, sym, ap, ◌∙◌, subst}
+use Rattle.std.proofs.Common.{◌≡◌, Some, sym, ap, ◌∙◌, subst, arith, length-set}
 use Rattle.strm_links.specs.Rows.{Rows, first, list_at}
-use Rattle.strm_data.specs.CountedStore.{IsKept}
-use Rattle.strm_data.proofs.layout.Alterations.{unused, room, taken, IsSound-altered}
+use Rattle.strm_data.specs.declared.msg_type.MsgType.TheVariants.{MData}
+use Rattle.strm_data.specs.CountedStore.{CountedStore, IsKept}
+use Rattle.strm_data.specs.DataStore.{IsLeast}
+use Rattle.strm_data.proofs.layout.Alterations.{unused, room, taken, placed_taken}
 use Rattle.strm_data.proofs.store.Kept.{IsKept-take}
+use Rattle.strm_data.proofs.store.Least.{IsLeast-take}
 use Rattle.strm_data.proofs.data.Data.take.Goals as goal
 use Rattle.strm_data.proofs.data.Data.take.Goals.{After-unwrap-number}
 
@@ -24,6 +27,7 @@ pub returns-clause-after : goal.returns-clause-after
 returns-clause-after c =
     taken c.self.inside _ c.self.view_is c.self.invariant c.args.size c.in_ok-class.class c.unwrap-number.result c.in_ok-class.ensures.found
     (is (goal.at.returns-clause-after c).After-unwrap-number) c.index_mut-block.result.now c.index_mut-block.ensures.value c.pop_front.new.self.lists (ap (λ (r : Rows). r.lists) c.pop_front.ensures.lists)
+    c.index_mut.result.now c.index_mut.ensures.value c.len.result c.len.ensures c.note.new.self c.note.ensures
 
 pub returns-clause-kept : goal.returns-clause-kept
 returns-clause-kept c =
@@ -31,5 +35,15 @@ returns-clause-kept c =
 
 pub invariant_of-self : goal.invariant_of-self
 invariant_of-self c =
-    IsSound-altered c.self.inside _ c.self.view_is c.self.invariant c.unwrap-number.result (returns-clause-unused c).there c.index_mut-block.result.now c.index_mut-block.ensures.value _ refl
-    c.pop_front.new.self (ap (λ (r : Rows). r.nodes) c.pop_front.ensures.lists) (returns-clause-kept c)
+    record {
+      kept = returns-clause-kept c;
+      placed =
+          placed_taken c.self.inside _ c.self.view_is c.self.invariant c.args.size c.in_ok-class.class c.unwrap-number.result c.in_ok-class.ensures.found
+          (is (goal.at.invariant_of-self c).After-unwrap-number) c.index_mut-block.result.now c.index_mut-block.ensures.value c.pop_front.new.self.lists (ap (λ (r : Rows). r.lists) c.pop_front.ensures.lists)
+          c.index_mut.result.now c.index_mut.ensures.value c.len.result c.len.ensures c.note.new.self c.note.ensures;
+      least =
+          subst (λ (s : CountedStore). IsLeast s.store) (sym (returns-clause-after c))
+          (IsLeast-take c.args.size c.args.self.now c.in_ok-class.class c.in_ok-class.ensures.found (subst IsKept c.self.view_is c.self.invariant.kept)
+          (subst (λ (s : CountedStore). IsLeast s.store) c.self.view_is c.self.invariant.least));
+      nodes = omega (arith, ap (λ (r : Rows). r.nodes) c.pop_front.ensures.lists, c.self.invariant.nodes, length-set c.self.inside.blocks.items c.unwrap-number.result (record { class = c.index_mut-block.result.now.class; kind = MData; references = 1 }));
+    }
