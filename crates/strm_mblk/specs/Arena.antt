@@ -1,9 +1,9 @@
 -- What a contract sees of message blocks: which are free, and the messages of the others, held or on shelves.
-use Rattle.std.specs.Prelude.{◌≡◌, ℕ, ◌+◌, ◌<◌, ◌≤◌, Bool, false, ◌&&◌, ◌==◌, nat_lt, List, [], ◌++◌, length, map, count_by, replicate, Option, None, Some, IfSome, slice_set, if◌then◌else◌}
+use Rattle.std.specs.Prelude.{◌≡◌, ℕ, ◌+◌, ◌<◌, ◌≤◌, min, Bool, false, ◌&&◌, ◌==◌, nat_lt, List, [], ◌++◌, length, map, count_by, replicate, Option, None, Some, IfSome, slice_set, if◌then◌else◌}
 use Rattle.std.specs.List.{All, range_with_len}
 use Rattle.strm_data.specs.declared.class_spec.ClassSpec.{ClassSpec}
 use Rattle.strm_data.specs.CountedStore.{CountedStore}
-use Rattle.strm_data.specs.DataStore.{DataStore, times, capacity_of, class_of, free_of, opening_store}
+use Rattle.strm_data.specs.DataStore.{DataStore, IsLeast, times, capacity_of, class_of, free_of, opening_store, with_data_reset}
 use Rattle.strm_data.specs.Limits.{most_references}
 use Rattle.strm_mblk.specs.declared.census.Census.{Census}
 use Rattle.strm_mblk.specs.declared.token.TokenValue.{TokenValue}
@@ -11,13 +11,15 @@ use Rattle.strm_mblk.specs.Block.{Block, Message, head_of, uses_data, numbers_of
 use Rattle.strm_mblk.specs.Messages.{blocks_of, held_in, shelf_in, blocks_on, blocks_held}
 
 -- the pool's id and data blocks, and the free message blocks, the next to be taken first. For each block number the held message that
--- begins with it, if any. The messages on each shelf, front to back
+-- begins with it, if any. The messages on each shelf, front to back. The fewest message blocks that were free since the arena was made or
+-- `least` was reset
 pub record Arena : Type 0 where
   pub id : ℕ
   pub store : DataStore
   pub free : List ℕ
   pub held : List (Option Message)
   pub shelves : List (List Message)
+  pub least : ℕ
 
 -- new message blocks: all are free, in rising order, and all shelves are empty
 abbrev pub opening_arena : ℕ → ℕ → List ClassSpec → ℕ → Arena
@@ -27,6 +29,7 @@ opening_arena id mblks classes shelves = record {
   free = range_with_len 0 mblks;
   held = replicate mblks None;
   shelves = replicate shelves [];
+  least = mblks;
 }
 
 -- ---- what is where
@@ -78,6 +81,19 @@ with_held m a = with_message (head_of m) m a
 -- the arena with these messages on shelf s
 abbrev pub with_shelf : ℕ → List Message → Arena → Arena
 with_shelf s ms a = record a { shelves = slice_set a.shelves s ms }
+
+-- the arena with these message blocks left as free, after others were taken
+abbrev pub with_free_left : List ℕ → Arena → Arena
+with_free_left ns a = record a { free = ns; least = min a.least (length ns) }
+
+-- the arena once the fewest that were free, of message blocks and of each class's data blocks, are those that are free now
+abbrev pub with_least_reset : Arena → Arena
+with_least_reset a = record a { store = with_data_reset a.store; least = length a.free }
+
+-- no fewer are free than the fewest that were free
+pub record IsLeastFree (a : Arena) : Type 0 where
+  pub message_blocks : a.least ≤ length a.free
+  pub data_blocks : IsLeast a.store
 
 -- ---- tokens
 

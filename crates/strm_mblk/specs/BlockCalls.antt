@@ -9,7 +9,7 @@ use Rattle.strm_data.specs.Classes.{fits_a_class}
 use Rattle.strm_data.specs.DataStore.{DataStore, capacity_of, take_data, with_data_taken, with_kind, with_bytes_written}
 use Rattle.strm_data.specs.Limits.{most_references}
 use Rattle.strm_mblk.specs.declared.block_info.BlockInfo.{BlockInfo}
-use Rattle.strm_mblk.specs.Arena.{Arena, message_at, references_to, with_held, with_message, without_held}
+use Rattle.strm_mblk.specs.Arena.{Arena, message_at, references_to, with_free_left, with_held, with_message, without_held}
 use Rattle.strm_mblk.specs.Block.{Block, Message, bytes_of_block, head_of, uses_data, kind_of, new_block}
 use Rattle.strm_mblk.specs.Freeing.{with_block_freed}
 use Rattle.strm_mblk.specs.Given.{Given, and_then, answer_map}
@@ -20,7 +20,7 @@ use Rattle.strm_mblk.specs.Messages.{chain_divided, chains_joined, without_place
 -- a held message of one block over the data block just taken, if any; n is the first free number, and ns are the others
 abbrev pub held_new : ℕ → List ℕ → Arena → Result ℕ Refusal → Given Arena ℕ
 held_new n ns a (Err why) = Err why
-held_new n ns a (Ok d) = Ok (n, with_held (new_block n d ∷ []) (record a { free = ns; store = with_data_taken d a.store }))
+held_new n ns a (Ok d) = Ok (n, with_held (new_block n d ∷ []) (record (with_free_left ns a) { store = with_data_taken d a.store }))
 
 abbrev pub allocb_from : List ℕ → ℕ → Arena → Given Arena ℕ
 allocb_from [] size a = Err NoMblk
@@ -46,7 +46,7 @@ exceeds_references bs a = list_any (λ b. nat_lt most_references (references_to 
 abbrev pub held_under : List Block → DataStore → Arena → ℕ × Arena
 held_under bs s a =
     let m = blocks_renumbered (take (length bs) a.free) bs in
-    (head_of m, with_held m (record a { free = drop (length bs) a.free; store = s }))
+    (head_of m, with_held m (record (with_free_left (drop (length bs) a.free) a) { store = s }))
 
 -- makes a message of new blocks, one for each of these, with its data block, places and band
 abbrev pub message_duplicated : List Block → Arena → Given Arena ℕ

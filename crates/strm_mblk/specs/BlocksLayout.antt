@@ -71,6 +71,7 @@ arena_of id store fields lists = record {
   free = lists.free;
   held = map (option_map (message_of fields)) lists.held;
   shelves = map (map (message_of fields)) lists.shelves;
+  least = lists.least;
 }
 
 abbrev pub arena_in : Inside → Arena

@@ -1,16 +1,17 @@
 -- Message blocks as numbers only: the free ones, and the messages of the others. No public clause cites this module.
-use Rattle.std.specs.Prelude.{◌≡◌, ℕ, ◌+◌, ◌<◌, nat_lt, List, [], ◌∷◌, ◌++◌, length, map, replicate, reverse, take, drop, Option, None, Some, IfSome, slice_get, slice_index_or, slice_set, if◌then◌else◌}
+use Rattle.std.specs.Prelude.{◌≡◌, ℕ, ◌+◌, ◌<◌, ◌≤◌, min, nat_lt, List, [], ◌∷◌, ◌++◌, length, map, replicate, reverse, take, drop, Option, None, Some, IfSome, slice_get, slice_index_or, slice_set, if◌then◌else◌}
 use Rattle.std.specs.List.{All, position, range_with_len}
 use Rattle.strm_links.specs.Rows.{first, has}
 use Rattle.strm_data.specs.DataStore.{times}
 use Rattle.strm_mblk.specs.Messages.{blocks_of, held_in, shelf_in, blocks_on, blocks_held}
 
--- the free numbers, the next to be taken first; for each number the held message that begins with it, if any; and the messages on each
--- shelf, front to back
+-- the free numbers, the next to be taken first; for each number the held message that begins with it, if any; the messages on each
+-- shelf, front to back; and the fewest numbers that were free
 pub record NodeLists : Type 0 where
   pub free : List ℕ
   pub held : List (Option (List ℕ))
   pub shelves : List (List (List ℕ))
+  pub least : ℕ
 
 -- the numbers of the message held at h
 abbrev pub nodes_at : NodeLists → ℕ → List ℕ
@@ -41,20 +42,26 @@ shelved_nodes v s k = slice_index_or (shelf_in v.shelves s) k []
 abbrev pub all_nodes : NodeLists → List ℕ
 all_nodes v = v.free ++ (blocks_on v.shelves ++ blocks_held v.held)
 
--- each number is in exactly one place, each held message is at its first number, and no message is empty
+-- each number is in exactly one place, each held message is at its first number, no message is empty, and no fewer are free than
+-- the fewest
 pub record IsNodesParted (v : NodeLists) : Type 0 where
   pub once : (n : ℕ) → times n (all_nodes v) ≡ (if nat_lt n (length v.held) then 1 else 0)
   pub heads : (h : ℕ) → IfSome (held_in v.held h) (λ m. first m ≡ Some h)
   pub shelved : (s : ℕ) → All (λ m. 0 < length m) (shelf_in v.shelves s)
+  pub least : v.least ≤ length v.free
 
 -- new lists: all numbers are free, in rising order, and all shelves are empty
 abbrev pub opening_nodes : ℕ → ℕ → NodeLists
-opening_nodes nodes shelves = record { free = range_with_len 0 nodes; held = replicate nodes None; shelves = replicate shelves [] }
+opening_nodes nodes shelves = record { free = range_with_len 0 nodes; held = replicate nodes None; shelves = replicate shelves []; least = nodes }
+
+-- the lists after others than these were taken from the free numbers
+abbrev pub with_free_left : List ℕ → NodeLists → NodeLists
+with_free_left ns v = record v { free = ns; least = min v.least (length ns) }
 
 -- the first free number, if any, becomes a held message
 abbrev pub after_begin : NodeLists → List ℕ → NodeLists
 after_begin v [] = v
-after_begin v (n ∷ ns) = record v { free = ns; held = slice_set v.held n (Some (n ∷ [])) }
+after_begin v (n ∷ ns) = record (with_free_left ns v) { held = slice_set v.held n (Some (n ∷ [])) }
 
 -- of the message held at h, which has numbers ns, `count` numbers after the first are freed, the last to the front; the others stay
 abbrev pub after_behind_freed : ℕ → ℕ → List ℕ → NodeLists → NodeLists

@@ -1,10 +1,10 @@
 //! Message blocks by number, the messages that they make, and the calls on them.
-ghost use Rattle.std.specs.Prelude.{◌≡◌, ◌+◌, ◌^◌, ◌<◌, ◌≤◌, IfOk, IfSome, IsTrue, Some, None, is_some, length, slice_get};
+ghost use Rattle.std.specs.Prelude.{◌≡◌, ◌+◌, ◌^◌, ◌<◌, ◌≤◌, IfOk, IfSome, IsTrue, Some, None, is_some, length, option_copied, slice_get};
 ghost use Rattle.std.specs.List.{All};
 ghost use Rattle.strm_data.specs.Classes.{are_lawful, fits_a_class};
-ghost use Rattle.strm_data.specs.DataStore.{class_infos};
+ghost use Rattle.strm_data.specs.DataStore.{class_infos, class_region};
 ghost use Rattle.strm_data.specs.CountedStore.{IsKept};
-ghost use Rattle.strm_mblk.specs.Arena.{IsParted, IsWithin, blocks_in, census_of, counted_in, has, held_at, opening_arena, token_of};
+ghost use Rattle.strm_mblk.specs.Arena.{IsLeastFree, IsParted, IsWithin, blocks_in, census_of, counted_in, has, held_at, opening_arena, token_of, with_least_reset};
 ghost use Rattle.strm_mblk.specs.Calls.{Gives, itself};
 ghost use Rattle.strm_mblk.specs.NodeLists.{nodes_at};
 ghost use Rattle.strm_mblk.specs.Given.{answer_of};
@@ -66,7 +66,7 @@ struct Fields {
     band: u8,
 }
 
-const _: () = prove!(size_of::<Fields>() == 16 && size_of::<Blocks>() == 240);
+const _: () = prove!(size_of::<Fields>() == 16 && size_of::<Blocks>() == 248);
 
 impl Fields {
     // A message block over this data block: both places and the band are 0.
@@ -178,6 +178,45 @@ impl Blocks {
         ensures { result ≡ slice_get (class_infos self.now.store) class }
     {
         self.data.class_info(class)
+    }
+
+    /// Returns the fewest data blocks of a class that were free, as [`Data::least_free`] of strm_data. Changes nothing.
+    pub fn least_free(&self, class: u8) -> Option<u32>
+        ensures { result ≡ slice_get self.now.store.least class }
+    {
+        self.data.least_free(class)
+    }
+
+    /// Returns the fewest message blocks that were free at a time since `new`, or since the last `reset_least`. Each call
+    /// that takes message blocks lowers it when it takes them, also if it frees others before it returns. Changes nothing.
+    pub fn least_free_blocks(&self) -> u32
+        ensures { result ≡ self.now.least }
+    {
+        self.chains.least()
+    }
+
+    /// Makes the message blocks, and of each class the data blocks, that are free now the fewest that were free. All else
+    /// stays unchanged. Takes a step for each class.
+    pub fn reset_least(&mut self)
+        ensures { self.new ≡ with_least_reset self.old }
+    {
+        self.data.reset_least();
+        self.chains.reset_least();
+    }
+
+    /// Law: no fewer message blocks are free than `least_free_blocks` returns, and no fewer data blocks of a class than
+    /// `least_free` returns. Does nothing.
+    pub fn least_is_least(&self)
+        ensures { IsLeastFree self.now }
+    {
+        self.data.least_is_least();
+    }
+
+    /// Lends the bytes of all data blocks of a class, as [`Data::region`] of strm_data. Changes nothing.
+    pub fn region(&self, class: u8) -> Option<&[u8]>
+        ensures { option_copied result ≡ class_region class self.now.store }
+    {
+        self.data.region(class)
     }
 
     /// Says whether some class has data blocks of `size` bytes or more, as [`Data::has_class_for`] of strm_data. If none

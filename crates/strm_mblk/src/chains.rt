@@ -1,11 +1,11 @@
 //! Messages, held or on shelves, as chains of block numbers, and the free message blocks. `Blocks` adds its id, the
 //! data blocks and the blocks' fields.
-ghost use Rattle.std.specs.Prelude.{◌≡◌, ◌≢◌, ℕ, ◌+◌, ◌<◌, ◌≤◌, ◌++◌, IfOk, IfSome, IsSome, IsTrue, None, Some, [], ◌∷◌, drop, is_some, length, reverse, slice_get, slice_set, take};
+ghost use Rattle.std.specs.Prelude.{◌≡◌, ◌≢◌, ℕ, ◌+◌, ◌<◌, ◌≤◌, ◌++◌, IfOk, IfSome, IsSome, IsTrue, None, Some, [], ◌∷◌, drop, is_some, length, min, reverse, slice_get, slice_set, take};
 ghost use Rattle.std.specs.Option.{ForSome};
 ghost use Rattle.strm_links.specs.Rows.{IsParting, after, before, first, has, holder, last, list_at, put_in};
 ghost use Rattle.strm_links.specs.StrandLists.{strand_at};
 ghost use Rattle.strm_mblk.specs.Messages.{chain_divided, held_in, chains_joined, put_before_head, shelf_in, with_head, without_head, without_place};
-ghost use Rattle.strm_mblk.specs.NodeLists.{IsNodesParted, IsReached, after_begin, after_behind_freed, head_node, heads_on, nodes_at, opening_nodes, shelf_with, shelved_nodes};
+ghost use Rattle.strm_mblk.specs.NodeLists.{IsNodesParted, IsReached, after_begin, after_behind_freed, head_node, heads_on, nodes_at, opening_nodes, shelf_with, shelved_nodes, with_free_left};
 
 use std::alloc::{AllocError, Global};
 use std::marker::Model;
@@ -19,6 +19,8 @@ pub(crate) struct Chains {
     strands: Strands,
     // List s has the heads of the messages on shelf s. A message whose head is in no list is held.
     heads: Links,
+    // The fewest message blocks that were free.
+    least: u32,
 }
 
 impl Model for Chains {
@@ -28,9 +30,17 @@ impl Model for Chains {
 
     ghost use Rattle.strm_mblk.specs.ChainLayout.{IsSound, nodes_of};
 
-    ghost view = { λ a. nodes_of a.strands a.heads };
+    ghost view = { λ a. nodes_of a.strands a.heads a.least };
 
     ghost invariant = { IsSound };
+}
+
+// The fewest that were free, once `least` was that and these are free.
+#[inline(always)]
+fn fewest(least: u32, strands: &Strands) -> u32
+    ensures { result ≡ min least (length strands.now.free) }
+{
+    least.min(strands.free_len())
 }
 
 impl Chains {
@@ -42,6 +52,7 @@ impl Chains {
         Ok(Chains {
             strands: Strands::new(alloc, nodes)?,
             heads: Links::new(alloc, nodes, shelves)?,
+            least: nodes,
         })
     }
 
@@ -51,6 +62,22 @@ impl Chains {
         ensures { result ≡ length self.now.free }
     {
         self.strands.free_len()
+    }
+
+    // The fewest message blocks that were free since `new` or the last `reset_least`.
+    #[inline(always)]
+    pub(crate) fn least(&self) -> u32
+        ensures { result ≡ self.now.least }
+    {
+        self.least
+    }
+
+    // Makes the message blocks that are free now the fewest that were free.
+    pub(crate) fn reset_least(&mut self)
+        ensures after { self.new ≡ record self.old { least = length self.old.free } }
+        ensures parted { IsNodesParted self.new }
+    {
+        self.least = self.strands.free_len();
     }
 
     // Whether a held message begins with this message block.
@@ -111,7 +138,9 @@ impl Chains {
         ensures in_range { IfSome result (λ node. node < length self.old.held) }
         ensures parted { IsNodesParted self.new }
     {
-        self.strands.begin()
+        let begun = self.strands.begin();
+        self.least = fewest(self.least, &self.strands);
+        begun
     }
 
     // Appends the held message `tail` to another held message.
@@ -131,13 +160,14 @@ impl Chains {
         requires some { 0 < count }
         requires enough { count ≤ length self.old.free }
         ensures answer { first self.old.free ≡ Some result }
-        ensures after { self.new ≡ record self.old {
-          free = drop count self.old.free;
+        ensures after { self.new ≡ record (with_free_left (drop count self.old.free) self.old) {
           held = slice_set self.old.held result (Some (take count self.old.free));
         } }
         ensures parted { IsNodesParted self.new }
     {
-        self.strands.begin_all(count)
+        let begun = self.strands.begin_all(count);
+        self.least = fewest(self.least, &self.strands);
+        begun
     }
 
     // Makes the blocks after the first of a held message, if any, a held message of their own, and returns its head.

@@ -12,6 +12,7 @@ mod forged;
 mod in_place;
 mod in_place_rows;
 mod joining;
+mod least;
 mod names;
 mod pulling;
 mod purse;

@@ -8,7 +8,7 @@ use Rattle.std.proofs.lemmas.Option.{none-some, same_Some}
 use Rattle.strm_data.specs.declared.class_spec.ClassSpec.{ClassSpec}
 use Rattle.strm_data.specs.declared.msg_type.MsgType.{MsgType}
 use Rattle.strm_data.specs.declared.refusal.Refusal.{Refusal}
-use Rattle.strm_data.specs.declared.refusal.Refusal.TheVariants.{NoData, NoMblk, NoSuchBlock, Shared, TooLarge}
+use Rattle.strm_data.specs.declared.refusal.Refusal.TheVariants.{NoData, NoMblk, NoSuchBlock, Shared, Short, TooLarge}
 use Rattle.strm_data.specs.Classes.{fits_a_class}
 use Rattle.strm_data.specs.DataStore.{DataBlock, DataStore, capacity_of, class_of, data_block_at, fitting_blocks, free_of, no_data_block, take_data, times, with_bytes_written, with_data_taken, with_kind}
 use Rattle.strm_data.proofs.store.Fitting.{if_fits}
@@ -16,8 +16,8 @@ use Rattle.strm_links.proofs.lists.Counting.{one_if, times-append, times-cons, t
 use Rattle.strm_links.specs.Rows.{has}
 use Rattle.strm_links.proofs.lists.OneList.{has_head}
 use Rattle.strm_mblk.specs.declared.token.TokenValue.{TokenValue}
-use Rattle.strm_mblk.specs.Arena.{has as has_token, Arena, IsParted, held_at, message_at, references_to, shelved_blocks, token_of, with_held, without_held}
-use Rattle.strm_mblk.specs.Block.{Block, Message, bytes_of, bytes_of_block, uses_data, kind_of, new_block}
+use Rattle.strm_mblk.specs.Arena.{has as has_token, Arena, IsParted, held_at, message_at, references_to, shelved_blocks, token_of, with_held, without_held, with_free_left}
+use Rattle.strm_mblk.specs.Block.{Block, Message, bytes_of, bytes_of_block, uses_data, kind_of, new_block, size_of}
 use Rattle.strm_mblk.specs.BlockCalls.{allocb, allocb_from, with_band, blocks_copied, copied_from, fits_classes, message_copied, store_with_copy, transfer, message_duplicated, freeb, freeb_from, head_in, held_new, held_under, linkb, rmvb, rmvb_of, setband, unlinkb, with_rest, if_unshared, own_block, with_block}
 use Rattle.strm_mblk.specs.Frame.{IsSameData, LeavesOthers, LeavesShelves, head_given, heads_parted}
 use Rattle.strm_mblk.specs.Freeing.{freemsg, with_token_spent, with_block_freed, with_blocks_freed, with_reference_dropped}
@@ -360,7 +360,7 @@ module _ (a : Arena) (parted : IsParted a) where
           elim (take_data size a.store) as (λ r. take_data size a.store ≡ r → Making a (held_new n ns a r)) [
             | Err why ↦ λ is. tt
             | Ok d ↦ λ is.
-                let b = with_held (new_block n d ∷ []) (record a { free = ns; store = with_data_taken d a.store }) in
+                let b = with_held (new_block n d ∷ []) (record (with_free_left ns a) { store = with_data_taken d a.store }) in
                 leaves_named a b (n ∷ []) (others_one a b n _ refl refl) refl (λ e some. get_or-set_other a.store.blocks d e _ no_data_block (take_other size d e a.store (named_taken e some) is))
           ] refl
 
@@ -399,7 +399,11 @@ module _ (a : Arena) (parted : IsParted a) where
 
       pulls : (n : ℕ) (m : Message) → Leaving {X = Unit {0}} (h ∷ []) a (pull h n m a)
       pulls n [] = tt
-      pulls n (b ∷ bs) = grind (arith, common_steps, chosen, leaves_same, answered, taken)
+      pulls n (b ∷ bs) =
+          let pulled : Given Arena (Unit {0}) = answer_map (λ d. (tt, with_front_pulled h n (b ∷ bs) a d)) (take_data n a.store) in
+          chosen (Leaving {X = Unit {0}} (h ∷ []) a) (nat_lt (size_of (run_of a.store (b ∷ bs))) n) (Err Short) (if nat_le n b.len then Ok (tt, a) else pulled) tt (λ enough.
+          chosen (Leaving {X = Unit {0}} (h ∷ []) a) (nat_le n b.len) (Ok (tt, a)) pulled (leaves_same a (h ∷ [])) (λ more.
+          answered (λ (g : Unit {0} × Arena). Leaves (h ∷ []) a g.1) (λ d. (tt, with_front_pulled h n (b ∷ bs) a d)) (take_data n a.store) (taken n b bs)))
 
       asked : (o : Option ℕ) (m : Message) → Leaving {X = Unit {0}} (h ∷ []) a (pull_asked h o m a)
       asked None m = tt

@@ -6,7 +6,7 @@ use Rattle.strm_links.specs.Rows.{IsParting, Rows, has, without, put_before, put
 use Rattle.strm_links.specs.Chains.{chain_in as held_in}
 use Rattle.strm_links.specs.StrandLists.{StrandLists, strand_at}
 use Rattle.strm_links.proofs.lists.OneList.{has_head, has_tail, has_cases}
-use Rattle.strm_mblk.specs.ChainLayout.{nodes_of, IsChained}
+use Rattle.strm_mblk.specs.ChainLayout.{held_of, nodes_of, shelves_of, IsChained}
 use Rattle.strm_mblk.specs.Messages.{put_before_head, with_head, without_head}
 use Rattle.strm_mblk.specs.NodeLists.{NodeLists, head_node}
 use Rattle.strm_mblk.proofs.chaining.Seen.{held_as, held_off, held_on, length-held}
@@ -45,20 +45,20 @@ module _ (v : StrandLists) where
 pub room_of : (held : List (Option (List ℕ))) (h : ℕ) → IsSome (held_in held h) → h < length held
 room_of held h some = elim (cases_lt h (length held)) [ inl within ↦ within | inr past ↦ absurd (false≢true (sym (ap is_some (get_or_past held h None past)) ∙ some)) ]
 
-module _ (v : StrandLists) (heads : Rows) (laid : IsChained v heads) (w : NodeLists) (is : nodes_of v heads ≡ w) (head shelf : ℕ) (ys : List ℕ)
+module _ {least : ℕ} (v : StrandLists) (heads : Rows) (laid : IsChained v heads least) (w : NodeLists) (is : nodes_of v heads least ≡ w) (head shelf : ℕ) (ys : List ℕ)
     (new : Rows) (lists : new ≡ record heads { lists = set heads.lists shelf ys }) (others : (k : ℕ) → k ≢ head → holder k new ≡ holder k heads) (begun : IsSome (held_in v.chains head)) (parting : IsParting new) where
   -- the layout holds
-  pub reheaded_laid : IsChained v new
+  pub reheaded_laid : IsChained v new least
   reheaded_laid = grind (arith, common_steps)
 
   -- what is seen, where the message at the head is held or not, and the shelf has these messages
   pub reheaded_is : (o : Option (List ℕ)) → (holder head new ≡ None → o ≡ held_in v.chains head) → (IsSome (holder head new) → o ≡ None) → (ms : List (List ℕ)) → map (strand_at v) ys ≡ ms
-      → nodes_of v new ≡ record w { held = set w.held head o; shelves = set w.shelves shelf ms }
+      → nodes_of v new least ≡ record w { held = set w.held head o; shelves = set w.shelves shelf ms }
   reheaded_is o off on ms row =
-      let u = nodes_of v heads in
+      let u = nodes_of v heads least in
       let room : head < length u.held = omega (arith, room_of v.chains head begun, length-held v heads) in
       let here : held_in (set u.held head o) head ≡ o = get_or-set_same u.held head o None room in
-      let held : (nodes_of v new).held ≡ set u.held head o =
+      let held : held_of v new ≡ set u.held head o =
       held_as v new (set u.held head o) (length-set u.held head o ∙ length-held v heads)
       (λ h none. elim (cases_eq h head) [
         | inl same ↦ ap (held_in (set u.held head o)) same ∙ here ∙ off (ap (λ k. holder k new) (sym same) ∙ none) ∙ ap (held_in v.chains) (sym same)
@@ -68,6 +68,6 @@ module _ (v : StrandLists) (heads : Rows) (laid : IsChained v heads) (w : NodeLi
         | inl same ↦ ap (held_in (set u.held head o)) same ∙ here ∙ on (subst (λ k. IsSome (holder k new)) same some)
         | inr differs ↦ get_or-set_other u.held head h o None differs ∙ held_on v heads h (subst IsSome (others h differs) some)
       ]) in
-      let shelves : (nodes_of v new).shelves ≡ set u.shelves shelf ms =
+      let shelves : shelves_of v new ≡ set u.shelves shelf ms =
       ap (λ (r : Rows). map (map (strand_at v)) r.lists) lists ∙ map-set (map (strand_at v)) heads.lists shelf ys ∙ ap (set u.shelves shelf) row in
-      (λ i. record { free = v.free; held = held i; shelves = shelves i }) ∙ ap (λ (x : NodeLists). record x { held = set x.held head o; shelves = set x.shelves shelf ms }) is
+      (λ i. record { free = v.free; held = held i; shelves = shelves i; least = least }) ∙ ap (λ (x : NodeLists). record x { held = set x.held head o; shelves = set x.shelves shelf ms }) is

@@ -9,7 +9,7 @@ use Rattle.strm_links.specs.StrandLists.{IsParted, StrandLists, strand_at}
 use Rattle.strm_links.proofs.lists.OneList.{All-has, differ, has_head, has_tail}
 use Rattle.strm_data.specs.DataStore.{times}
 use Rattle.strm_links.proofs.lists.Counting.{times-append}
-use Rattle.strm_mblk.specs.ChainLayout.{nodes_of, strands_but, IsChained}
+use Rattle.strm_mblk.specs.ChainLayout.{held_of, nodes_of, shelves_of, strands_but, IsChained}
 use Rattle.strm_mblk.specs.Messages.{blocks_of, blocks_on, blocks_held, held_in}
 use Rattle.strm_mblk.specs.NodeLists.{IsNodesParted, NodeLists}
 use Rattle.strm_mblk.proofs.lists.Additive.{count_adds, flat_map-set_adds}
@@ -19,10 +19,10 @@ use Rattle.strm_mblk.proofs.chaining.Readings.{begins, on_list}
 
 -- strands alone, with no head on a shelf
 abbrev pub alone : StrandLists → NodeLists
-alone v = record { free = v.free; held = v.chains; shelves = [] }
+alone v = record { free = v.free; held = v.chains; shelves = []; least = 0 }
 
 pub alone_parted : (v : StrandLists) → IsParted v → IsNodesParted (alone v)
-alone_parted v parted = record { once = parted.once; heads = parted.heads; shelved = λ s i d within. absurd (omega arith) }
+alone_parted v parted = record { once = parted.once; heads = parted.heads; shelved = λ s i d within. absurd (omega arith); least = omega arith }
 
 -- a function is asked at the members of a list alone
 flat_members : (f g : ℕ → List ℕ) (xs : List ℕ) → ((h : ℕ) → has h xs ≡ true → f h ≡ g h) → flat_map f xs ≡ flat_map g xs
@@ -52,13 +52,14 @@ parts_sum n (h ∷ hs) held apart within =
       (count_adds (λ (x : ℕ). x == n)).none,
     )
 
-pub IsNodesParted-chained : (v : StrandLists) (heads : Rows) → IsChained v heads → IsNodesParted (nodes_of v heads)
+pub IsNodesParted-chained : {least : ℕ} (v : StrandLists) (heads : Rows) → IsChained v heads least → IsNodesParted (nodes_of v heads least)
 IsNodesParted-chained v heads laid = record {
+  least = laid.fewest;
   once = λ n.
       omega (
         arith,
-        times-append n v.free (blocks_on (nodes_of v heads).shelves ++ blocks_held (nodes_of v heads).held),
-        times-append n (blocks_on (nodes_of v heads).shelves) (blocks_held (nodes_of v heads).held),
+        times-append n v.free (blocks_on (shelves_of v heads) ++ blocks_held (held_of v heads)),
+        times-append n (blocks_on (shelves_of v heads)) (blocks_held (held_of v heads)),
         ap (times n) (shelves_flat (strand_at v) heads.lists),
         parts_sum n (linked_nodes heads) v.chains laid.heads_parting.apart (λ h there. omega (arith, laid.head_nodes, All-has (λ k. k < heads.nodes) (linked_nodes heads) h laid.heads_parting.within there)),
         times-append n v.free (blocks_held v.chains),
@@ -66,7 +67,7 @@ IsNodesParted-chained v heads laid = record {
         ap {B = ℕ} (λ l. if nat_lt n l then 1 else 0) (length-held v heads),
       );
   heads = λ h.
-      elim (holder h heads) as (λ o. holder h heads ≡ o → IfSome (held_in (nodes_of v heads).held h) (λ m. first m ≡ Some h)) [
+      elim (holder h heads) as (λ o. holder h heads ≡ o → IfSome (held_in (held_of v heads) h) (λ m. first m ≡ Some h)) [
         | None ↦ λ none. subst (λ o. IfSome o (λ m. first m ≡ Some h)) (sym (held_off v heads h none)) (laid.strands_parted.heads h)
         | Some k ↦ λ some. subst (λ o. IfSome o (λ m. first m ≡ Some h)) (sym (held_on v heads h (ap is_some some))) tt
       ] refl;

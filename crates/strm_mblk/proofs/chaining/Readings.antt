@@ -43,7 +43,7 @@ module _ {X Y : Type 0} (p : X → Bool) (q : Y → Bool) (f : Y → X) (d : Y) 
       let long = length-map ys f in
       λ j. cond (nat_lt (place j) (long j)) (Some (place j)) None
 
-module _ (v : StrandLists) (heads : Rows) (laid : IsChained v heads) where
+module _ {least : ℕ} (v : StrandLists) (heads : Rows) (laid : IsChained v heads least) where
   -- a strand that is there begins with its number
   pub begins : (h : ℕ) → IsSome (held_in v.chains h) → first (strand_at v h) ≡ Some h
   begins h some = grind (arith, common_steps)
@@ -56,7 +56,7 @@ module _ (v : StrandLists) (heads : Rows) (laid : IsChained v heads) where
   pub head_node-strand : (x k : ℕ) → has x (list_at k heads) ≡ true → head_node (strand_at v x) ≡ x
   head_node-strand x k there = first_node (strand_at v x) x (begins x (laid.begun x (ap is_some (on_list x k there))))
 
-  module _ (w : NodeLists) (is : nodes_of v heads ≡ w) where
+  module _ (w : NodeLists) (is : nodes_of v heads least ≡ w) where
     -- a number that the value has is one of all
     pub within : length w.held ≡ length v.chains
     within = ap (λ (u : NodeLists). length u.held) (sym is) ∙ length-held v heads

@@ -8,7 +8,7 @@ use Rattle.strm_links.specs.Chains.{chain_in as held_in}
 use Rattle.strm_links.specs.StrandLists.{StrandLists, strand_at}
 use Rattle.strm_links.proofs.lists.OneList.{absent_parts, has-append, has_cases, has_head, has_tail, number_of}
 use Rattle.strm_links.proofs.lists.AllLists.{holder_has, holder_none, has_linked}
-use Rattle.strm_mblk.specs.ChainLayout.{nodes_of, strands_but}
+use Rattle.strm_mblk.specs.ChainLayout.{held_of, shelves_of, strands_but}
 use Rattle.strm_mblk.specs.Messages.{shelf_in}
 use Rattle.std.proofs.lemmas.Grind.{common_steps}
 
@@ -66,34 +66,34 @@ map_members f g (x ∷ xs) same = λ i. same x (has_head x x xs refl) i ∷ map_
 
 module _ (v : StrandLists) (heads : Rows) where
   -- a strand whose head is on no shelf is held
-  pub held_off : (h : ℕ) → holder h heads ≡ None → held_in (nodes_of v heads).held h ≡ held_in v.chains h
+  pub held_off : (h : ℕ) → holder h heads ≡ None → held_in (held_of v heads) h ≡ held_in v.chains h
   held_off h off = but_absent h (linked_nodes heads) v.chains (unlinked h heads off)
 
   -- any other number begins no held message
-  pub held_on : (h : ℕ) → IsSome (holder h heads) → held_in (nodes_of v heads).held h ≡ None
+  pub held_on : (h : ℕ) → IsSome (holder h heads) → held_in (held_of v heads) h ≡ None
   held_on h on = but_there h (linked_nodes heads) v.chains (linked h heads on)
 
   -- what is held is on no shelf
-  pub off_shelf : (h : ℕ) → IsSome (held_in (nodes_of v heads).held h) → holder h heads ≡ None
+  pub off_shelf : (h : ℕ) → IsSome (held_in (held_of v heads) h) → holder h heads ≡ None
   off_shelf h some = grind (arith, common_steps, held_on)
 
   -- as many places as numbers, and as many shelves as lists of heads
-  pub length-held : length (nodes_of v heads).held ≡ length v.chains
+  pub length-held : length (held_of v heads) ≡ length v.chains
   length-held = length-but (linked_nodes heads) v.chains
 
-  pub length-shelves : length (nodes_of v heads).shelves ≡ length heads.lists
+  pub length-shelves : length (shelves_of v heads) ≡ length heads.lists
   length-shelves = length-map heads.lists (map (strand_at v))
 
   -- the messages on a shelf
-  pub shelf-get : (s : ℕ) → shelf_in (nodes_of v heads).shelves s ≡ map (strand_at v) (list_at s heads)
+  pub shelf-get : (s : ℕ) → shelf_in (shelves_of v heads) s ≡ map (strand_at v) (list_at s heads)
   shelf-get s = grind (arith, common_steps)
 
   -- what is held is this, where it is so number by number
   pub held_as : (w : List (Option (List ℕ))) → length w ≡ length v.chains → ((h : ℕ) → holder h heads ≡ None → held_in w h ≡ held_in v.chains h) → ((h : ℕ) → IsSome (holder h heads) → held_in w h ≡ None)
-      → (nodes_of v heads).held ≡ w
+      → held_of v heads ≡ w
   held_as w long off on =
-      ext_get_or None (nodes_of v heads).held w (length-held ∙ sym long) (λ h within.
-      elim (holder h heads) as (λ o. holder h heads ≡ o → held_in (nodes_of v heads).held h ≡ held_in w h) [
+      ext_get_or None (held_of v heads) w (length-held ∙ sym long) (λ h within.
+      elim (holder h heads) as (λ o. holder h heads ≡ o → held_in (held_of v heads) h ≡ held_in w h) [
         | None ↦ λ none. held_off h none ∙ sym (off h none)
         | Some s ↦ λ some. held_on h (ap is_some some) ∙ sym (on h (ap is_some some))
       ] refl)

@@ -83,9 +83,6 @@ pub reverse_onto : {X : Type 0} (n : X) (ns free : List X) → reverse ns ++ (n 
 reverse_onto n ns free = sym (ap (λ xs. xs ++ free) (reverse-append (n ∷ []) ns) ∙ append_assoc (reverse ns) (n ∷ []) free)
 
 module _ (id : ℕ) (fields : List Fields) (held : List (Option Message)) (shelves : List (List Message)) where
-  abbrev over : CountedStore → List ℕ → Arena
-  over s free = record { id = id; store = s.store; free = free; held = held; shelves = shelves }
-
   -- how many blocks of messages name a data block
   abbrev names : ℕ → ℕ
   names d = count_by (uses_data d) (blocks_on shelves ++ blocks_held held)
@@ -105,16 +102,21 @@ module _ (id : ℕ) (fields : List Fields) (held : List (Option Message)) (shelv
   counts_left [] s counts d = omega (arith, counts d)
   counts_left (n ∷ ns) s counts d = counts_left ns (without_reference (fields_at fields n).data_number s) (counted_less s n ns counts) d
 
-  one_freed : (n : ℕ) (ns : List ℕ) (s : CountedStore) (free : List ℕ) → AreCounted s (n ∷ ns)
-      → with_block_freed (block_at fields n) (message_of fields ns) (over s free) ≡ over (without_reference (fields_at fields n).data_number s) (n ∷ free)
-  one_freed n ns s free counts = grind (arith, common_steps, times-cons, one_if, eq-eqb, naming-named, last_one)
+  -- what is there while loose blocks are freed
+  module _ (least : ℕ) where
+    abbrev over : CountedStore → List ℕ → Arena
+    over s free = record { id = id; store = s.store; free = free; held = held; shelves = shelves; least = least }
 
-  -- blocks that are freed first to last leave what is left once their references are dropped
-  pub all_freed : (ns : List ℕ) (s : CountedStore) (free : List ℕ) → AreCounted s ns
-      → with_blocks_freed (message_of fields ns) (over s free) ≡ over (with_references_dropped (data_used_by fields ns) s) (reverse ns ++ free)
-  all_freed [] s free counts = refl
-  all_freed (n ∷ ns) s free counts =
-      let d = (fields_at fields n).data_number in
-      ap (with_blocks_freed (message_of fields ns)) (one_freed n ns s free counts)
-      ∙ all_freed ns (without_reference d s) (n ∷ free) (counted_less s n ns counts)
-      ∙ ap (over (with_references_dropped (data_used_by fields (n ∷ ns)) s)) (reverse_onto n ns free)
+    one_freed : (n : ℕ) (ns : List ℕ) (s : CountedStore) (free : List ℕ) → AreCounted s (n ∷ ns)
+        → with_block_freed (block_at fields n) (message_of fields ns) (over s free) ≡ over (without_reference (fields_at fields n).data_number s) (n ∷ free)
+    one_freed n ns s free counts = grind (arith, common_steps, times-cons, one_if, eq-eqb, naming-named, last_one)
+
+    -- blocks that are freed first to last leave what is left once their references are dropped
+    pub all_freed : (ns : List ℕ) (s : CountedStore) (free : List ℕ) → AreCounted s ns
+        → with_blocks_freed (message_of fields ns) (over s free) ≡ over (with_references_dropped (data_used_by fields ns) s) (reverse ns ++ free)
+    all_freed [] s free counts = refl
+    all_freed (n ∷ ns) s free counts =
+        let d = (fields_at fields n).data_number in
+        ap (with_blocks_freed (message_of fields ns)) (one_freed n ns s free counts)
+        ∙ all_freed ns (without_reference d s) (n ∷ free) (counted_less s n ns counts)
+        ∙ ap (over (with_references_dropped (data_used_by fields (n ∷ ns)) s)) (reverse_onto n ns free)

@@ -77,7 +77,7 @@ module _ (id : ℕ) (s : CountedStore) (fields : List Fields) (v : NodeLists) (f
         after =
             shows
             ∙ ap (λ (c : CountedStore). record left { store = c.store; free = reverse out ++ v.free }) t_is
-            ∙ sym (all_freed id fields left.held old.shelves out s v.free loose);
+            ∙ sym (all_freed id fields left.held old.shelves v.least out s v.free loose);
       }
         where
           many : length w.held ≡ length v.held

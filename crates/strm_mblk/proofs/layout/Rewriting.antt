@@ -71,7 +71,7 @@ module _ (id : ℕ) (s : CountedStore) (fields : List Fields) (v : NodeLists) (f
   message_shows store now apart =
       let held_now = held-one fields now v.held h ns held (alike_apart fields now ns apart (blocks_held (set v.held h None)) (λ n. omega (arith, one_of_all v filled.parted n, held_parts v h n ns held))) in
       let shelves_now = shelves-alike fields now v.shelves (alike_apart fields now ns apart (blocks_on v.shelves) (λ n. omega (arith, one_of_all v filled.parted n, held_parts v h n ns held))) in
-      λ i. record { id = id; store = store; free = v.free; held = held_now i; shelves = shelves_now i }
+      λ i. record { id = id; store = store; free = v.free; held = held_now i; shelves = shelves_now i; least = v.least }
 
   module _ (t : CountedStore) (now : List Fields) (change : AreRewritten fields now ns) where
     pub message_filled : IsKept t → t.counts ≡ s.counts → ((n : ℕ) → n < length now → IsPlaced t.store (fields_at now n)) → IsFilled t now v (arena_of id t.store now v)

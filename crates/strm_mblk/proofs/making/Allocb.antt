@@ -8,7 +8,7 @@ use Rattle.strm_data.specs.Classes.{fits_a_class}
 use Rattle.strm_data.specs.CountedStore.{CountedStore, IsKept, IsUnused, count_of, after_take}
 use Rattle.strm_data.specs.DataStore.{DataStore, take_data, with_data_taken}
 use Rattle.strm_mblk.specs.declared.blocks.Fields.{Fields}
-use Rattle.strm_mblk.specs.Arena.{Arena, with_held}
+use Rattle.strm_mblk.specs.Arena.{Arena, with_held, with_free_left}
 use Rattle.strm_mblk.specs.Block.{uses_data, new_block}
 use Rattle.strm_mblk.specs.BlockCalls.{allocb}
 use Rattle.strm_mblk.specs.BlocksLayout.{IsFilled, IsPlaced, arena_of, fields_of, with_fields}
@@ -22,7 +22,7 @@ use Rattle.std.proofs.lemmas.Grind.{common_steps}
 
 -- what the model gives if a block of each kind is free
 allocb_done : (a : Arena) (size n d : ℕ) (ns : List ℕ) → fits_a_class size a.store.classes ≡ true → a.free ≡ n ∷ ns → take_data size a.store ≡ Ok d
-    → allocb size a ≡ Ok (n, with_held (new_block n d ∷ []) (record a { free = ns; store = with_data_taken d a.store }))
+    → allocb size a ≡ Ok (n, with_held (new_block n d ∷ []) (record (with_free_left ns a) { store = with_data_taken d a.store }))
 allocb_done a size n d ns fits is some = grind (arith, common_steps)
 
 -- a size takes a data block only where some class is as large

@@ -9,7 +9,7 @@ use Rattle.strm_data.specs.CountedStore.{CountedStore, IsKept, count_of}
 use Rattle.strm_data.specs.DataStore.{DataStore, times}
 use Rattle.strm_links.proofs.lists.Counting.{times-append, times-cons, times_here, times_other}
 use Rattle.strm_mblk.specs.declared.blocks.Fields.{Fields}
-use Rattle.strm_mblk.specs.Arena.{Arena, held_at, references_to, shelved_blocks, with_held}
+use Rattle.strm_mblk.specs.Arena.{Arena, held_at, references_to, shelved_blocks, with_held, with_free_left}
 use Rattle.strm_mblk.specs.Block.{Block, Message, head_of, uses_data}
 use Rattle.strm_mblk.specs.BlockCalls.{held_under, blocks_renumbered}
 use Rattle.strm_mblk.specs.BlocksLayout.{IsFilled, IsPlaced, arena_of, block_of, fields_at, fields_of, message_of, no_fields, with_fields}
@@ -145,7 +145,7 @@ module _ (id : ℕ) (s : CountedStore) (fields : List Fields) (v : NodeLists) (f
           ∙ shelves-alike fields now v.shelves (alike_others ns (map fields_of bs) fields (blocks_on v.shelves) (λ k. omega (arith, parts k, one_of_all v filled.parted k)))
 
       abbrev rest : Arena
-      rest = record old { free = drop (length bs) v.free; store = t.store }
+      rest = record (with_free_left (drop (length bs) v.free) old) { store = t.store }
 
       arena_is : arena_of id t.store now w ≡ with_held m rest
       arena_is = grind (arith, common_steps, held_is, head_is, shelves_is)

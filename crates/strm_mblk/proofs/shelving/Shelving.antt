@@ -176,7 +176,7 @@ module _ (id : ℕ) (s : CountedStore) (fields : List Fields) (v : NodeLists) (f
         put_before_head-seen fields before (nodes_at v h) (shelf_in v.shelves q)
         ∙ (λ i. put_before_head head_of before (sym (message_at-seen id s.store fields v h) i) (sym (shelf_at-seen id s.store fields v q) i)) in
         let shelves_are = map-set (map (message_of fields)) v.shelves q (put_before_head head_node before (nodes_at v h) (shelf_in v.shelves q)) ∙ ap (set old.shelves q) shelf_is in
-        ap (arena_of id s.store fields) w_is ∙ (λ i. record { id = id; store = s.store; free = v.free; held = held_is i; shelves = shelves_are i })
+        ap (arena_of id s.store fields) w_is ∙ (λ i. record { id = id; store = s.store; free = v.free; held = held_is i; shelves = shelves_are i; least = v.least })
 
     pub shelve_filled : IsFilled s fields w (arena_of id s.store fields w)
     shelve_filled =
@@ -251,7 +251,7 @@ module _ (id : ℕ) (s : CountedStore) (fields : List Fields) (v : NodeLists) (f
         let shelves_are =
         map-set (map (message_of fields)) v.shelves q (without_head head_node h (shelf_in v.shelves q))
         ∙ ap (set was.shelves q) (without-seen fields h (shelf_in v.shelves q) ∙ ap (without_head head_of h) seen) in
-        ap (arena_of id s.store fields) w_is ∙ (λ i. record { id = id; store = s.store; free = v.free; held = held_is i; shelves = shelves_are i })
+        ap (arena_of id s.store fields) w_is ∙ (λ i. record { id = id; store = s.store; free = v.free; held = held_is i; shelves = shelves_are i; least = v.least })
 
     unshelve_held : held_at now h ≡ Some found.0
     unshelve_held = ap (λ a. held_at a h) unshelve_shows ∙ get_or-set_same was.held h (with_head head_of h (shelf_at was q)) None shelved_within ∙ found_is

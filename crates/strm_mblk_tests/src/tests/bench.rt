@@ -196,6 +196,18 @@ impl Bench {
         self.assert_is(rt, &self.blocks.census(), &census);
     }
 
+    // Asserts the fewest message blocks that were free, and data blocks of each of two classes.
+    pub(super) fn assert_least(&self, rt: &impl Abort, blocks: u32, data: [u32; 2]) {
+        let given = [0, 1].map(|class| self.blocks.least_free(class));
+        self.assert_is(rt, &self.blocks.least_free_blocks(), &blocks);
+        self.assert_is(rt, &given, &data.map(Some));
+    }
+
+    // Makes those that are free now the fewest.
+    pub(super) fn reset_least(&mut self) {
+        self.blocks.reset_least();
+    }
+
     // Asserts the number of free data blocks of each of two classes.
     pub(super) fn assert_free_data(&self, rt: &impl Abort, free: [Option<u32>; 2]) {
         let given = [0, 1].map(|class| self

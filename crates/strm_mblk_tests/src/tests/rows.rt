@@ -98,6 +98,10 @@ pub(super) enum Row {
     Free(Name, &'static [u32], &'static [u32]),
     // The numbers of message blocks that are free, on shelves and held.
     Census(u32, u32, u32),
+    // The fewest message blocks that were free, and data blocks of each of the first two classes.
+    Least(u32, u32, u32),
+    // Makes those that are free now the fewest.
+    ResetLeast,
     // The heads on a shelf, front to back.
     Heads(u8, &'static [u32]),
     // Type, band and size of the message with a head on the first shelf.
@@ -288,6 +292,7 @@ impl Served {
                 let message = self.at(rt, name);
                 self.bench.assert_free(rt, message, heads, numbers);
             }
+            Row::ResetLeast => self.bench.reset_least(),
             _ => self.look_at(rt, row),
         }
     }
@@ -332,6 +337,9 @@ impl Served {
             Row::Class(class, info) => self.bench.assert_class(rt, class, info),
             Row::FreeData(first, second) => self.bench.assert_free_data(rt, [first, second]),
             Row::Census(free, queued, held) => self.bench.assert_census(rt, free, queued, held),
+            Row::Least(blocks, first, second) => {
+                self.bench.assert_least(rt, blocks, [first, second])
+            }
             Row::Heads(shelf, heads) => self.bench.assert_heads(rt, shelf, heads),
             Row::Head(head, told) => self.bench.assert_head(rt, head, told),
             _ => panic!(rt; "no such row"),
