@@ -10,5 +10,6 @@ pub mod Tallies
 pub mod QueuedBlocks
 pub mod QueueCalls
 pub mod QueueLooks
+pub mod HeadCalls
 pub mod Joining
 pub mod QueuesLayout

@@ -1,22 +1,27 @@
 -- What the calls that take a message off a queue do, by the model.
-use Rattle.std.proofs.Common.{arith, ◌≡◌, ◌≢◌, ℕ, false, ◌+◌, true, List, [], ◌∷◌, ◌++◌, length, take, drop, Option, Some, None, Ok, refl, sym, ap, ◌∙◌}
+use Rattle.std.proofs.Common.{arith, ◌≡◌, ◌≢◌, ℕ, false, ◌+◌, true, List, [], ◌∷◌, ◌++◌, length, take, drop, Option, Some, None, Result, Ok, Err, refl, sym, ap, ◌∙◌}
 use Rattle.std.proofs.lemmas.Grind.{common_steps}
-use Rattle.std.specs.Prelude.{nat_lt, option_map, slice_get}
+use Rattle.std.specs.Prelude.{nat_lt, ok_or, option_map, slice_get}
 use Rattle.std.proofs.lemmas.Bool.{cond-true}
 use Rattle.std.proofs.lemmas.List.{take-append-drop}
 use Rattle.std.proofs.lemmas.Option.{none-some, same_Some, slice_get-map}
+use Rattle.strm_data.specs.declared.refusal.Refusal.{Refusal}
+use Rattle.strm_data.specs.declared.refusal.Refusal.TheVariants.{NoSuchPlace}
 use Rattle.strm_links.specs.Chains.{without_place}
 use Rattle.strm_links.specs.Rows.{first}
 use Rattle.strm_mblk.specs.Arena.{Arena, IsParted, shelf_at, with_held, with_shelf}
 use Rattle.strm_mblk.specs.Block.{Message, head_of}
-use Rattle.strm_mblk.specs.Given.{value_after}
-use Rattle.strm_mblk.specs.Shelves.{heads_at, unshelve}
+use Rattle.strm_mblk.specs.Given.{Given, and_then, value_after}
+use Rattle.strm_mblk.specs.Shelves.{heads_at, shelf_of, unshelve}
 use Rattle.strm_mblk.proofs.lists.ListParts.{drop_from}
 use Rattle.strm_mblk.proofs.arena.Stands.{heads_apart}
 use Rattle.strm_queue.specs.Flow.{with_read}
-use Rattle.strm_queue.specs.QueueCalls.{getq, get_at, get_first, rmvq, with_queue_settled, with_got, with_state}
+use Rattle.strm_queue.specs.HeadCalls.{place_of, rmvq_head}
+use Rattle.strm_queue.specs.QueueCalls.{getq, get_at, get_first, messages_on, rmvq, with_queue_settled, with_got, with_state}
+use Rattle.strm_queue.specs.QueueLooks.{queue_of}
 use Rattle.strm_queue.specs.QueuedBlocks.{Agrees, AreMarksLawful, QueuedBlocks, QueuesValue, queued_blocks}
-use Rattle.strm_queue.proofs.shelf.OnShelf.{FirstParts, first_of, unshelved}
+use Rattle.strm_queue.proofs.shelf.Across.{shelf_has}
+use Rattle.strm_queue.proofs.shelf.OnShelf.{FirstParts, IsPlacedAt, first_of, place_there, unshelved}
 
 module _ (v : QueuesValue) (a : Arena) (agrees : Agrees v a) (parted : IsParted a) (q : ℕ) (there : nat_lt q (length v.state.specs) ≡ true) (h : ℕ) where
   abbrev both : QueuedBlocks
@@ -77,3 +82,23 @@ module _ (v : QueuesValue) (a : Arena) (agrees : Agrees v a) (parted : IsParted 
     module _ (w : QueuesValue) (b : Arena) (got : IsGot w b) where
       pub rmvq_after : with_queue_settled q (queued_blocks w b) ≡ value_after both (rmvq q k both)
       rmvq_after = ap (with_queue_settled q) (got_together (take k (shelf_at a q)) (drop (k + 1) (shelf_at a q)) here.0 parts_here here.1.1 w b got) ∙ sym (ap (value_after both) rmvq_given)
+
+-- ---- one by its head
+
+module _ (v : QueuedBlocks) (h q : ℕ) (is : queue_of h v ≡ Ok q) where
+  pub queue_found : shelf_of v.arena h ≡ Some q
+  queue_found = of_shelf (shelf_of v.arena h) is
+    where
+      of_shelf : (o : Option ℕ) → (let r : Result ℕ Refusal = ok_or o NoSuchPlace in r ≡ Ok q) → o ≡ Some q
+      of_shelf None none = absurd (cc)
+      of_shelf (Some p) some = cc
+
+  pub place_found : IsPlacedAt h (messages_on v q)
+  place_found = place_there h (messages_on v q) (shelf_has v.arena h q queue_found)
+
+  pub rmvq_head_is : rmvq_head h v ≡ rmvq q place_found.place v
+  rmvq_head_is =
+      ap (and_then (λ p. and_then (λ k. rmvq p k v) (place_of v p h))) is ∙ ap {B = Given QueuedBlocks ℕ} (λ o. and_then (λ k. rmvq q k v) (ok_or o NoSuchPlace)) place_found.found
+
+pub rmvq_head_refused : (v : QueuedBlocks) (h : ℕ) (why : Refusal) → queue_of h v ≡ Err why → rmvq_head h v ≡ Err why
+rmvq_head_refused v h why is = ap (and_then (λ q. and_then (λ k. rmvq q k v) (place_of v q h))) is

@@ -1,22 +1,25 @@
 -- What the calls that put a message on a queue do, by the model.
-use Rattle.std.proofs.Common.{◌≡◌, ℕ, ◌≤◌, Bool, true, false, List, length, take, drop, Option, Ok, Err, sym, ap, ◌∙◌, subst, if◌then◌else◌, ◌≢◌, suc, ◌<◌, [], ◌∷◌, Some, arith, length-append}
+use Rattle.std.proofs.Common.{◌≡◌, ℕ, ◌≤◌, Bool, true, false, List, length, map, take, drop, Option, None, Result, Ok, Err, refl, sym, ap, ◌∙◌, subst, if◌then◌else◌, ◌≢◌, suc, ◌<◌, [], ◌∷◌, Some, arith, length-append}
 use Rattle.std.proofs.lemmas.Grind.{common_steps}
-use Rattle.std.specs.Prelude.{nat_lt, slice_get}
+use Rattle.std.specs.Prelude.{nat_lt, ok_or, slice_get}
 use Rattle.std.proofs.lemmas.Bool.{cond-true, cond-false}
-use Rattle.std.proofs.lemmas.List.{take-append-drop, set-set}
+use Rattle.std.proofs.lemmas.List.{length-map, take-append-drop, set-set}
+use Rattle.std.proofs.lemmas.Option.{slice_get_past}
 use Rattle.strm_links.specs.Rows.{IsApart}
-use Rattle.strm_data.specs.declared.refusal.Refusal.TheVariants.{BadOrder}
+use Rattle.strm_data.specs.declared.refusal.Refusal.{Refusal}
+use Rattle.strm_data.specs.declared.refusal.Refusal.TheVariants.{BadOrder, NoSuchPlace}
 use Rattle.strm_mblk.specs.Arena.{Arena, IsParted, message_at, shelf_at, census_of, held_at, with_shelf, without_held}
 use Rattle.strm_mblk.specs.Block.{Message, head_of}
-use Rattle.strm_mblk.specs.Given.{value_after}
+use Rattle.strm_mblk.specs.Given.{Given, and_then, value_after}
 use Rattle.strm_mblk.specs.Messages.{put_before_head}
-use Rattle.strm_mblk.specs.Shelves.{heads_at, shelve}
+use Rattle.strm_mblk.specs.Shelves.{heads_at, is_on, shelve}
 use Rattle.strm_mblk.proofs.arena.Stands.{heads_apart}
 use Rattle.strm_queue.specs.Flow.{enabled_where, enables_inserted, enables_put, enables_put_back}
-use Rattle.strm_queue.specs.QueueCalls.{insq, flags_of, putbq, putq, rank_put, with_put, with_state}
+use Rattle.strm_queue.specs.HeadCalls.{insq_before, place_before}
+use Rattle.strm_queue.specs.QueueCalls.{has_queue, insq, flags_of, messages_on, putbq, putq, rank_put, with_put, with_state}
 use Rattle.strm_queue.specs.QueuedBlocks.{QueuedBlocks, QueuesValue, queued_blocks}
 use Rattle.strm_queue.specs.Rank.{as_queued, is_ordered, put_ahead, put_at, put_behind, rank_of}
-use Rattle.strm_queue.proofs.shelf.OnShelf.{first_at, heads, placed-between}
+use Rattle.strm_queue.proofs.shelf.OnShelf.{first_at, heads, place_missing, place_there, placed-between}
 use Rattle.std.specs.List.{All, flat_map}
 use Rattle.strm_mblk.specs.BlockCalls.{with_band, setband}
 use Rattle.strm_mblk.proofs.arena.Counts.{flat_map-set_adds, length_adds}
@@ -70,6 +73,37 @@ module _ (v : QueuesValue) (a : Arena) (q h : ℕ) (there : nat_lt q (length v.s
 
       pub insq_after : (so : Bool) → so ≡ enables_inserted (flags_of both q) → put so (put_before_head head_of before m (shelf_at a q)) ≡ value_after both (insq q k h both)
       insq_after so enables = (λ i. put (enables i) (placed_at i)) ∙ sym (ap (value_after both) insq_given)
+
+-- ---- `insq_before` puts a message before one with a head
+
+-- the place before the message with this head, or the last one
+pub record IsPlaceBefore (v : QueuedBlocks) (q : ℕ) (before : Option ℕ) : Type 0 where
+  pub place : ℕ
+  pub found : place_before v q before ≡ Ok place
+  pub few : place ≤ length (messages_on v q)
+  pub at : before ≡ slice_get (heads_at v.arena q) place
+
+pub placed_before : (v : QueuedBlocks) (q : ℕ) (before : Option ℕ) → ((h : ℕ) → before ≡ Some h → is_on v.arena q h ≡ true) → IsPlaceBefore v q before
+placed_before v q None there = record {
+  place = length (messages_on v q);
+  found = refl;
+  few = omega arith;
+  at = sym (slice_get_past (heads_at v.arena q) (length (messages_on v q)) (omega (arith, length-map (messages_on v q) head_of)));
+}
+placed_before v q (Some h) there =
+    let placed = place_there h (messages_on v q) (there h refl) in
+    record { place = placed.place; found = ap {B = Result ℕ Refusal} (λ o. ok_or o NoSuchPlace) placed.found; few = placed.few; at = sym placed.at }
+
+module _ (v : QueuedBlocks) (q h : ℕ) (before : Option ℕ) (there : has_queue v q ≡ true) where
+  pub insq_before_is : (k : ℕ) → place_before v q before ≡ Ok k → insq_before q before h v ≡ insq q k h v
+  insq_before_is k is = cond-true _ _ _ there ∙ ap (and_then (λ n. insq q n h v)) is
+
+  -- no message of the queue has the head
+  pub insq_before_missing : (x : ℕ) → before ≡ Some x → is_on v.arena q x ≡ false → insq_before q before h v ≡ Err NoSuchPlace
+  insq_before_missing x is absent =
+      cond-true _ _ _ there
+      ∙ ap (λ b. and_then (λ n. insq q n h v) (place_before v q b)) is
+      ∙ ap {B = Given QueuedBlocks (Unit {0})} (λ o. and_then (λ n. insq q n h v) (ok_or o NoSuchPlace)) (place_missing x (messages_on v q) absent)
 
 -- ---- a message is put on a shelf
 

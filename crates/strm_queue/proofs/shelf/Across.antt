@@ -1,12 +1,12 @@
 -- A message on one shelf is the only one on all shelves with its head.
-use Rattle.std.proofs.Common.{◌≡◌, ℕ, zero, suc, Bool, true, Ok, map, ◌+◌, ◌<◌, ◌≤◌, ◌==◌, List, [], ◌∷◌, ◌++◌, length, take, drop, get_or, Option, None, Some, refl, sym, ap, ◌∙◌, subst, arith}
+use Rattle.std.proofs.Common.{◌≡◌, ◌≢◌, inl, inr, ℕ, zero, suc, Bool, true, false, Ok, map, ◌+◌, ◌<◌, ◌≤◌, ◌==◌, List, [], ◌∷◌, ◌++◌, length, take, drop, get_or, Option, None, Some, refl, sym, ap, ◌∙◌, subst, arith}
 use Rattle.std.proofs.lemmas.List.{take-append-drop}
 use Rattle.std.proofs.lemmas.Option.{none-some, same_Some, slice_get-map}
 use Rattle.std.specs.Prelude.{count_by, filter, is_some, nat_lt, ok_or, option_map, slice_get}
 use Rattle.std.proofs.lemmas.List.Quantifiers.{position-Some}
 use Rattle.std.specs.List.{All, flat_map}
 use Rattle.std.proofs.lemmas.List.Elements.{filter-append, filter_passes}
-use Rattle.std.proofs.lemmas.Bool.{eqb-true, false≢true}
+use Rattle.std.proofs.lemmas.Bool.{cases_Bool, cases_eq, eq-eqb, eqb-true, false≢true, ne_eqb}
 use Rattle.strm_links.specs.Rows.{IsApart, has}
 use Rattle.strm_mblk.specs.Arena.{Arena, IsParted, shelf_at}
 use Rattle.strm_mblk.specs.Block.{Block, Message, head_of, kind_of, size_of}
@@ -20,8 +20,8 @@ use Rattle.strm_mblk.proofs.arena.Counts.{blocks_in_adds, count_adds, times-all}
 use Rattle.strm_mblk.proofs.arena.Moves.{head_counts, number_is, one_most}
 use Rattle.strm_mblk.proofs.lists.ListParts.{drop_from}
 use Rattle.strm_mblk.proofs.shelving.Shelving.{none_begins, parted_adds}
-use Rattle.strm_mblk.proofs.arena.Stands.{heads_apart}
-use Rattle.strm_queue.proofs.shelf.OnShelf.{heads, with-at}
+use Rattle.strm_mblk.proofs.arena.Stands.{heads_apart, shelf_of-there}
+use Rattle.strm_queue.proofs.shelf.OnShelf.{heads, parts_of, with-at}
 
 -- messages with this head
 abbrev begun : ℕ → List Message → List Message
@@ -74,6 +74,21 @@ across h (ms ∷ shelves) (suc q) m all once is some same =
     filter-append _ ms (flat_map (λ xs. xs) shelves)
     ∙ ap (λ ys. ys ++ begun h (flat_map (λ xs. xs) shelves)) (none_begins h ms (all 0) (omega (arith, both, once, begun_on h shelves q m is some same)))
     ∙ across h shelves q m (λ s. all (suc s)) (omega (arith, both, once)) is some same
+
+-- two shelves have no more of them than all
+on_count : (h : ℕ) (shelves : List (List Message)) (q : ℕ) → count_by (number_is h) (flat_map (λ x. x) (get_or shelves q [])) ≤ times_on h shelves
+on_count h [] q = omega arith
+on_count h (ms ∷ shelves) zero = omega (arith, (count_adds (number_is h)).both (flat_map (λ x. x) ms) (blocks_on shelves))
+on_count h (ms ∷ shelves) (suc q) = omega (arith, (count_adds (number_is h)).both (flat_map (λ x. x) ms) (blocks_on shelves), on_count h shelves q)
+
+two_on : (h : ℕ) (shelves : List (List Message)) (p q : ℕ) → p ≢ q
+    → count_by (number_is h) (flat_map (λ x. x) (get_or shelves p [])) + count_by (number_is h) (flat_map (λ x. x) (get_or shelves q [])) ≤ times_on h shelves
+two_on h [] p q other = omega arith
+two_on h (ms ∷ shelves) zero zero other = absurd (other refl)
+two_on h (ms ∷ shelves) zero (suc q) other = omega (arith, (count_adds (number_is h)).both (flat_map (λ x. x) ms) (blocks_on shelves), on_count h shelves q)
+two_on h (ms ∷ shelves) (suc p) zero other = omega (arith, (count_adds (number_is h)).both (flat_map (λ x. x) ms) (blocks_on shelves), on_count h shelves p)
+two_on h (ms ∷ shelves) (suc p) (suc q) other =
+    omega (arith, (count_adds (number_is h)).both (flat_map (λ x. x) ms) (blocks_on shelves), two_on h shelves p q (λ same. other (ap suc same)))
 
 module _ (a : Arena) (parted : IsParted a) where
   once_on : (h : ℕ) → times_on h a.shelves ≤ 1
@@ -157,8 +172,44 @@ module _ (a : Arena) (h q : ℕ) (is : shelf_of a h ≡ Some q) where
   shelf_there = (position-Some (λ ms. has h (map head_of ms)) a.shelves q [] is).0
 
   -- it has the message's head
-  shelf_has : is_on a q h ≡ true
+  pub shelf_has : is_on a q h ≡ true
   shelf_has = (position-Some (λ ms. has h (map head_of ms)) a.shelves q [] is).1
+
+module _ (a : Arena) (parted : IsParted a) (h : ℕ) where
+  -- a shelf that has the message has a block with its number
+  counted_on : (q : ℕ) → is_on a q h ≡ true → 0 < count_by (number_is h) (flat_map (λ x. x) (shelf_at a q))
+  counted_on q there =
+      let parts = parts_of h (shelf_at a q) there in
+      begun_counts h parts.at (shelf_at a q)
+      (ap (begun h) parts.is ∙ subst (λ n. begun n (parts.pre ++ parts.at ∷ parts.post) ≡ parts.at ∷ []) parts.head (with-at parts.pre parts.post parts.at (apart_here a parted q parts.pre parts.post parts.at parts.is)))
+      (some_here a parted q parts.pre parts.post parts.at parts.is) parts.head
+
+  -- so no other shelf has it
+  pub shelf_alone : (q : ℕ) → is_on a q h ≡ true → shelf_of a h ≡ Some q
+  shelf_alone q there = of_shelf (shelf_of a h) refl (shelf_of-there a q h there)
+    where
+      of_shelf : (o : Option ℕ) → shelf_of a h ≡ o → is_some (shelf_of a h) ≡ true → shelf_of a h ≡ Some q
+      of_shelf None none some = absurd (false≢true (sym (ap is_some none) ∙ some))
+      of_shelf (Some p) is some =
+          elim (cases_eq p q) [
+            | inl same ↦ is ∙ ap Some same
+            | inr other ↦ absurd (omega (arith, once_on a parted h, two_on h a.shelves p q other, counted_on p (shelf_has a h p is), counted_on q there))
+          ]
+
+  -- the shelf that has it says whether another one does
+  pub shelf_asked : (q p : ℕ) → shelf_of a h ≡ Some p → (p == q) ≡ is_on a q h
+  shelf_asked q p is =
+      elim (cases_Bool (is_on a q h)) [
+        | inl there ↦ eq-eqb p q (same_Some p q (sym is ∙ shelf_alone q there)) ∙ sym there
+        | inr not ↦ ne_eqb p q (λ same. false≢true (sym not ∙ ap (λ n. is_on a n h) (sym same) ∙ shelf_has a h p is)) ∙ sym not
+      ]
+
+  pub shelf_absent : (q : ℕ) → shelf_of a h ≡ None → false ≡ is_on a q h
+  shelf_absent q none =
+      elim (cases_Bool (is_on a q h)) [
+        | inl there ↦ absurd (none-some q (sym none ∙ shelf_alone q there))
+        | inr not ↦ sym not
+      ]
 
 -- what is found on it, such as the message behind or before one
 pub found_on_shelf : (a : Arena) (h : ℕ) → is_some (shelf_of a h) ≡ true → (find : List ℕ → Option ℕ) (found : Option ℕ) → ((q : ℕ) → is_on a q h ≡ true → found ≡ find (heads_at a q))

@@ -1,12 +1,14 @@
 -- The messages of one shelf, found by their heads, which are all different.
-use Rattle.std.proofs.Common.{arith, ◌≡◌, ℕ, zero, suc, true, false, ◌==◌, List, [], ◌∷◌, ◌++◌, map, drop, set, Some, None, is_none, refl, sym, ap, ◌∙◌, subst, inl, inr}
+use Rattle.std.proofs.Common.{arith, ◌≡◌, ℕ, zero, suc, ◌+◌, ◌<◌, ◌≤◌, Bool, true, false, ◌==◌, ◌||◌, List, [], ◌∷◌, ◌++◌, length, map, drop, set, Option, Some, None, is_none, refl, sym, ap, ◌∙◌, subst, inl, inr, if◌then◌else◌}
 use Rattle.std.proofs.lemmas.Grind.{common_steps}
-use Rattle.std.specs.Prelude.{filter, slice_get}
-use Rattle.std.proofs.lemmas.Bool.{cond-true, cond-false, eq-eqb, ne_eqb, false≢true, not_from_true, not_from_false}
+use Rattle.std.specs.Prelude.{filter, nat_lt, not, option_map, slice_get}
+use Rattle.std.specs.List.{position, position_or_len}
+use Rattle.std.proofs.lemmas.Bool.{cond-true, cond-false, eq-eqb, eqb-true, lt-ltb, ne_eqb, false≢true, not_from_true, not_from_false}
 use Rattle.std.proofs.lemmas.List.{map-append, append-nil}
-use Rattle.std.proofs.lemmas.Option.{none-some, same_Some}
+use Rattle.std.proofs.lemmas.List.Quantifiers.{position-Some}
+use Rattle.std.proofs.lemmas.Option.{none-some, same_Some, slice_get-get_or, slice_get-map}
 use Rattle.strm_links.specs.Rows.{IsApart, after, before, first, has, last, last_or}
-use Rattle.strm_links.proofs.lists.OneList.{absent_around, absent_parts, after-at, before-at, has_cases, has_head, has_left, has_right, last_has, last_some}
+use Rattle.strm_links.proofs.lists.OneList.{absent_around, absent_parts, after-at, before-at, has_cases, has_get, has_head, has_left, has_right, last_has, last_some}
 use Rattle.strm_mblk.specs.Arena.{Arena, shelf_at, with_held, with_shelf}
 use Rattle.strm_mblk.specs.Block.{Message, head_of}
 use Rattle.strm_mblk.specs.Messages.{put_before_head, without_head}
@@ -35,6 +37,54 @@ parts_of h (x ∷ xs) there =
           let rest = parts_of h xs later in
           record { pre = x ∷ rest.pre; at = rest.at; post = rest.post; is = ap (λ ys. x ∷ ys) rest.is; head = rest.head }
     ]
+
+-- the place of the message with this head
+pub record IsPlacedAt (h : ℕ) (ms : List Message) : Type 0 where
+  pub place : ℕ
+  pub found : position (λ m. head_of m == h) ms ≡ Some place
+  pub at : slice_get (heads ms) place ≡ Some h
+  pub few : place ≤ length ms
+
+module _ (h : ℕ) where
+  abbrev begins : Message → Bool
+  begins m = head_of m == h
+
+  -- the message that is found has the head
+  placed_at : (ms : List Message) (k : ℕ) → position begins ms ≡ Some k → IsPlacedAt h ms
+  placed_at ms k is =
+      let there = position-Some begins ms k [] is in
+      record {
+        place = k;
+        found = is;
+        at = slice_get-map head_of ms k ∙ ap (option_map head_of) (slice_get-get_or ms k [] there.0) ∙ ap Some (eqb-true _ _ there.1);
+        few = omega (arith, there.0);
+      }
+
+  first_within : (ms : List Message) → has h (heads ms) ≡ true → position_or_len begins ms < length ms
+  first_within [] there = absurd (false≢true there)
+  first_within (x ∷ xs) there = of_first (first_within xs) (head_of x == h) refl
+    where
+      of_first : (has h (heads xs) ≡ true → position_or_len begins xs < length xs) → (b : Bool) → (head_of x == h) ≡ b → position_or_len begins (x ∷ xs) < length (x ∷ xs)
+      of_first rest true same = omega (arith, ap {B = ℕ} (λ b. if not b then 1 + position_or_len begins xs else 0) same)
+      of_first rest false other =
+          omega (
+            arith,
+            ap {B = ℕ} (λ b. if not b then 1 + position_or_len begins xs else 0) other,
+            rest (ap (λ b. b || has h (heads xs)) (sym other) ∙ there),
+          )
+
+  -- it is found if it is among these messages
+  pub place_there : (ms : List Message) → has h (heads ms) ≡ true → IsPlacedAt h ms
+  place_there ms there = placed_at ms (position_or_len begins ms) (cond-true _ _ _ (lt-ltb _ _ (first_within ms there)))
+
+  -- and otherwise not
+  pub place_missing : (ms : List Message) → has h (heads ms) ≡ false → position begins ms ≡ None
+  unfolding placed_at
+  place_missing ms absent = of_place (position begins ms) refl
+    where
+      of_place : (o : Option ℕ) → position begins ms ≡ o → o ≡ None
+      of_place None none = refl
+      of_place (Some k) is = absurd (false≢true (sym absent ∙ has_get (heads ms) k h (placed_at ms k is).at))
 
 -- the last of these and those before it
 pub record LastParts (h : ℕ) (ms : List Message) : Type 0 where

@@ -1,13 +1,15 @@
-//! `getq` and `rmvq`: messages leave a queue and are held again.
-ghost use Rattle.std.specs.Prelude.{None};
+//! `getq`, `rmvq` and `rmvq_head`: messages leave a queue and are held again.
+ghost use Rattle.std.specs.Prelude.{◌≡◌, ◌<◌, ℕ, IsTrue, None, Ok, Some, length, slice_get};
 ghost use Rattle.strm_mblk.specs.Calls.{Takes, TakesAny};
+ghost use Rattle.strm_mblk.specs.Shelves.{heads_at, is_on};
+ghost use Rattle.strm_queue.specs.HeadCalls as by_head;
 ghost use Rattle.strm_queue.specs.QueueCalls as model;
 ghost use Rattle.strm_queue.specs.QueuedBlocks.{Agrees, queued_blocks, arena};
 
 use super::Queues;
 use super::places::head_at;
 use strm_data::Refusal;
-use strm_mblk::{Blocks, Token};
+use strm_mblk::{BlockNo, Blocks, Token};
 
 impl Queues {
     /// Removes the first message of a queue and returns its token, or returns none if the queue is empty.
@@ -53,7 +55,6 @@ impl Queues {
             (queued_blocks self.old blocks.old) (queued_blocks self.new blocks.new) result }
         ensures agrees { Agrees self.new blocks.new }
     {
-        blocks.lawful();
         if !self.has_queue(queue) {
             return Err(Refusal::NoSuchQueue);
         }
@@ -63,8 +64,41 @@ impl Queues {
         let Some(head) = head_at(blocks, queue, place) else {
             return Err(Refusal::NoSuchPlace);
         };
+        Ok(self.remove(blocks, queue, head))
+    }
+
+    /// Removes the message with this head from the queue that has it, and returns its token. Otherwise it does what
+    /// [`Queues::rmvq`] does at the message's place.
+    ///
+    /// Refused as `NoSuchPlace` if no message on a queue has this head; then nothing changes. Takes a step for each block of
+    /// the message, and those to settle. STREAMS' `rmvq`, whose `mp` is the head; the queue `q` is found.
+    #[tactic(auto, using(strm_mblk::proofs::arena::Calls::takes_none))]
+    pub fn rmvq_head(&mut self, blocks: &mut Blocks, head: BlockNo) -> Result<Token, Refusal>
+        requires { Agrees self.old blocks.old }
+        ensures does { Takes arena (by_head.rmvq_head head (queued_blocks self.old blocks.old))
+            (queued_blocks self.old blocks.old) (queued_blocks self.new blocks.new) result }
+        ensures agrees { Agrees self.new blocks.new }
+    {
+        match self.queue_of(blocks, head) {
+            Ok(queue) => Ok(self.remove(blocks, queue, head)),
+            Err(why) => Err(why),
+        }
+    }
+
+    // Takes the message with this head off its queue, whatever its place there, and settles the queue.
+    #[inline(always)]
+    fn remove(&mut self, blocks: &mut Blocks, queue: u8, head: BlockNo) -> Token
+        requires agrees { Agrees self.old blocks.old }
+        requires queue { queue < length self.old.state.specs }
+        requires there { IsTrue (is_on blocks.old queue head) }
+        ensures does { (place : ℕ) → slice_get (heads_at blocks.old queue) place ≡ Some head
+            → Takes arena (model.rmvq queue place (queued_blocks self.old blocks.old))
+            (queued_blocks self.old blocks.old) (queued_blocks self.new blocks.new) (Ok result) }
+        ensures agrees { Agrees self.new blocks.new }
+    {
+        blocks.lawful();
         let token = self.unshelve(blocks, queue, head);
         self.settle(queue);
-        Ok(token)
+        token
     }
 }

@@ -69,6 +69,22 @@ pub(super) fn head_at(blocks: &Blocks, queue: u8, place: u32) -> Option<BlockNo>
     at
 }
 
+// Whether the message with this head is on this queue; true if no head is given.
+#[tactic(auto, using(crate::proofs::shelf::Across::shelf_asked, crate::proofs::shelf::Across::shelf_absent))]
+pub(super) fn is_at(blocks: &Blocks, queue: u8, at: Option<BlockNo>) -> bool
+    ensures none { at ≡ None → result ≡ true }
+    ensures some { ForSome at (λ head. result ≡ is_on blocks.now queue head) }
+{
+    blocks.lawful();
+    let Some(head) = at else {
+        return true;
+    };
+    match blocks.shelf_of(head) {
+        Some(shelf) => shelf == u32::from(queue),
+        None => false,
+    }
+}
+
 // Whether the message with this head has at most this rank; true if there is none.
 fn is_at_most(blocks: &Blocks, at: Option<BlockNo>, rank: u16) -> bool
     requires { ForSome at (λ head. IsSome (shelf_of blocks.now head)) }

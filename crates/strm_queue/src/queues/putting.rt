@@ -1,18 +1,19 @@
-//! `putq`, `putbq` and `insq`: held messages join a queue.
-ghost use Rattle.std.specs.Prelude.{Ok, ◌<◌, IsTrue, length};
+//! `putq`, `putbq`, `insq` and `insq_before`: held messages join a queue.
+ghost use Rattle.std.specs.Prelude.{◌≡◌, ◌<◌, ◌≤◌, ℕ, IsTrue, None, Ok, Some, length, slice_get};
 ghost use Rattle.std.specs.Option.{ForSome};
-ghost use Rattle.strm_mblk.specs.Arena.{has};
+ghost use Rattle.strm_mblk.specs.Arena.{has, shelf_at};
 ghost use Rattle.strm_mblk.specs.Given.{given_nothing};
-ghost use Rattle.strm_mblk.specs.Shelves.{is_on};
+ghost use Rattle.strm_mblk.specs.Shelves.{heads_at, is_on};
 ghost use Rattle.strm_mblk.specs.Calls.{Puts};
 ghost use Rattle.strm_queue.specs.Flow.{enabled_where};
+ghost use Rattle.strm_queue.specs.HeadCalls as by_head;
 ghost use Rattle.strm_queue.specs.Joining.{IsRank, shelf_with};
 ghost use Rattle.strm_queue.specs.QueueCalls as model;
 ghost use Rattle.strm_queue.specs.QueuedBlocks.{Agrees, queued_blocks, arena};
 ghost use Rattle.strm_queue.specs.Rank.{is_ordered, rank_of};
 
 use super::Queues;
-use super::places::{fits_before, head_at, held_rank};
+use super::places::{fits_before, head_at, held_rank, is_at};
 use strm_data::Refusal;
 use strm_mblk::{BlockNo, Blocks, Rejected, Token};
 
@@ -136,6 +137,62 @@ impl Queues {
             return Err(Rejected { why, token });
         }
         let before = head_at(blocks, queue, place);
+        self.insert(blocks, queue, before, token)
+    }
+
+    /// Puts a message on a queue before the one with this head, or last if none is given. Otherwise it does what
+    /// [`Queues::insq`] does at that message's place.
+    ///
+    /// Rejected as `NoSuchQueue`, then as `NoSuchPlace` if no message on this queue has the head, then as `BadOrder` if ranks
+    /// would rise from front to back; then nothing changes, and the token comes back. Takes a step for each block of the
+    /// message. STREAMS' `insq`, whose `emp` is the head or null.
+    #[tactic(auto, using(strm_mblk::proofs::arena::Calls::puts_none))]
+    pub fn insq_before(
+        &mut self,
+        blocks: &mut Blocks,
+        queue: u8,
+        before: Option<BlockNo>,
+        token: Token,
+    ) -> Result<(), Rejected>
+        requires agrees { Agrees self.old blocks.old }
+        requires had { IsTrue (has blocks.old token) }
+        ensures does { Puts arena token (by_head.insq_before queue before token.head (queued_blocks self.old blocks.old))
+            (queued_blocks self.old blocks.old) (queued_blocks self.new blocks.new) result }
+        ensures agrees { Agrees self.new blocks.new }
+    {
+        blocks.lawful();
+        if !self.has_queue(queue) {
+            let why = Refusal::NoSuchQueue;
+            return Err(Rejected { why, token });
+        }
+        if !is_at(blocks, queue, before) {
+            let why = Refusal::NoSuchPlace;
+            return Err(Rejected { why, token });
+        }
+        self.insert(blocks, queue, before, token)
+    }
+
+    // Puts a message on a queue, before the one with this head or last, or rejects it as `BadOrder`. It may enable the queue.
+    #[inline(always)]
+    #[tactic(auto, using(strm_mblk::proofs::arena::Calls::puts_none))]
+    fn insert(
+        &mut self,
+        blocks: &mut Blocks,
+        queue: u8,
+        before: Option<BlockNo>,
+        token: Token,
+    ) -> Result<(), Rejected>
+        requires queue { queue < length self.old.state.specs }
+        requires agrees { Agrees self.old blocks.old }
+        requires had { IsTrue (has blocks.old token) }
+        requires before { ForSome before (λ head. IsTrue (is_on blocks.old queue head)) }
+        ensures does { (place : ℕ) → place ≤ length (shelf_at blocks.old queue)
+            → before ≡ slice_get (heads_at blocks.old queue) place
+            → Puts arena token (model.insq queue place token.head (queued_blocks self.old blocks.old))
+            (queued_blocks self.old blocks.old) (queued_blocks self.new blocks.new) result }
+        ensures agrees { Agrees self.new blocks.new }
+    {
+        blocks.lawful();
         let rank = held_rank(blocks, &token);
         if !fits_before(blocks, queue, before, rank) {
             let why = Refusal::BadOrder;

@@ -118,6 +118,38 @@ impl Bench {
         self.back(rt, answer, refusal, &known)
     }
 
+    // Puts a message before the one with this head, or last.
+    pub(in crate::tests) fn insq_before(
+        &mut self,
+        rt: &impl Abort,
+        at: (u8, Option<u32>),
+        token: Token,
+    )
+        requires { Agrees self.old.queues self.old.blocks }
+        ensures { Agrees self.new.queues self.new.blocks }
+    {
+        assert!(rt; self.blocks.has(&token));
+        let answer = self.queues.insq_before(&mut self.blocks, at.0, at.1, token);
+        assert_put(rt, &mut self.blocks, answer);
+    }
+
+    // `insq_before` refuses the message there for this reason, and returns it unchanged.
+    pub(in crate::tests) fn not_put_before(
+        &mut self,
+        rt: &impl Abort,
+        at: (u8, Option<u32>),
+        token: Token,
+        refusal: Refusal,
+    ) -> Token
+        requires { Agrees self.old.queues self.old.blocks }
+        ensures { Agrees self.new.queues self.new.blocks }
+    {
+        let known = self.known(rt, &token);
+        assert!(rt; self.blocks.has(&token));
+        let answer = self.queues.insq_before(&mut self.blocks, at.0, at.1, token);
+        self.back(rt, answer, refusal, &known)
+    }
+
     // `putq` and `putbq` refuse the message, since there is no such queue, and return it unchanged.
     pub(in crate::tests) fn not_queued(&mut self, rt: &impl Abort, queue: u8, token: Token) -> Token
         requires { Agrees self.old.queues self.old.blocks }
@@ -229,6 +261,31 @@ impl Bench {
                 panic!(rt; "a message was there");
             }
             Err(why) => assert!(rt; why == refusal),
+        }
+    }
+
+    // `rmvq_head` returns the message with this head, which has this rank. Frees it.
+    pub(in crate::tests) fn assert_removed(&mut self, rt: &impl Abort, head: u32, rank: u16)
+        requires { Agrees self.old.queues self.old.blocks }
+        ensures { Agrees self.new.queues self.new.blocks }
+    {
+        match self.queues.rmvq_head(&mut self.blocks, head) {
+            Ok(token) => self.assert_is(rt, token, head, rank),
+            Err(why) => panic!(rt; "{why:?}"),
+        }
+    }
+
+    // `rmvq_head` finds no message with this head.
+    pub(in crate::tests) fn assert_not_removed(&mut self, rt: &impl Abort, head: u32)
+        requires { Agrees self.old.queues self.old.blocks }
+        ensures { Agrees self.new.queues self.new.blocks }
+    {
+        match self.queues.rmvq_head(&mut self.blocks, head) {
+            Ok(token) => {
+                self.free(token);
+                panic!(rt; "a message was there");
+            }
+            Err(why) => assert!(rt; why == Refusal::NoSuchPlace),
         }
     }
 

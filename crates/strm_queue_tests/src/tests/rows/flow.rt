@@ -181,6 +181,16 @@ fn far_target_and_far_waker(rt: HostRuntime) {
     bench.assert_waiting(&rt, &[0]);
 }
 
+// `rmvq_head` settles the queue as `rmvq` does.
+#[test]
+fn settled_by_its_head(rt: HostRuntime) {
+    let mut bench = chained(&rt, rt.alloc());
+    bench.bcanput(&rt, (1, 3), Ok(false));
+    bench.assert_removed(&rt, 1, 3);
+    bench.assert_band(&rt, (3, 3), 4, (false, false));
+    bench.assert_waiting(&rt, &[0]);
+}
+
 // A queue with a service procedure is its own target, even if it has a next queue. With no queue behind it, it has no waker.
 #[test]
 fn own_target(rt: HostRuntime) {

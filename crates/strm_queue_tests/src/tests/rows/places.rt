@@ -1,7 +1,7 @@
-//! The places that `putq`, `putbq` and `insq` give messages, step by step.
+//! The places that `putq`, `putbq`, `insq` and `insq_before` give messages, step by step.
 use super::CLASSES;
 use crate::tests::bench::Bench;
-use crate::tests::{ALONE, HIGH_RANK, ranked};
+use crate::tests::{ALONE, HIGH_RANK, QUEUE, ranked};
 use strm_data::Refusal;
 
 // `putq` puts a message after those of its rank or a greater one. High priority is the greatest rank, and then has band 0.
@@ -61,4 +61,34 @@ fn insert_at_a_place(rt: HostRuntime) {
     bench.assert_at(&rt, (0, 1), 1, 1);
     bench.assert_at(&rt, (0, 0), 2, HIGH_RANK);
     bench.assert_none(&rt, 0, Ok(()));
+}
+
+// `insq_before` puts a message before another one of its queue, or last. It and `rmvq_head` refuse all other heads.
+#[test]
+fn insert_before_a_message(rt: HostRuntime) {
+    let mut bench = Bench::opened(&rt, rt.alloc(), &CLASSES, &[QUEUE, QUEUE]);
+    bench.put_new(&rt, 0, ranked(2));
+    bench.put_new(&rt, 1, ranked(HIGH_RANK));
+    let lower = bench.drafted(&rt, ranked(1));
+    let lower = bench.not_put_before(&rt, (0, Some(0)), lower, Refusal::BadOrder);
+    bench.insq_before(&rt, (0, None), lower);
+    let high = bench.drafted(&rt, ranked(HIGH_RANK));
+    let high = bench.not_put_before(&rt, (0, Some(2)), high, Refusal::BadOrder);
+    let high = bench.not_put_before(&rt, (0, None), high, Refusal::BadOrder);
+    // Message 1 is on the other queue, message 3 is held, and the first reason counts.
+    let high = bench.not_put_before(&rt, (0, Some(1)), high, Refusal::NoSuchPlace);
+    let high = bench.not_put_before(&rt, (0, Some(3)), high, Refusal::NoSuchPlace);
+    let high = bench.not_put_before(&rt, (2, Some(9)), high, Refusal::NoSuchQueue);
+    bench.assert_not_removed(&rt, 3);
+    bench.insq_before(&rt, (0, Some(0)), high);
+    bench.assert_heads(&rt, 0, &[3, 0, 2]);
+    bench.assert_removed(&rt, 0, 2);
+    bench.assert_not_removed(&rt, 0);
+    bench.assert_not_removed(&rt, u32::MAX);
+    bench.assert_removed(&rt, 1, HIGH_RANK);
+    bench.assert_heads(&rt, 0, &[3, 2]);
+    bench.assert_removed(&rt, 2, 1);
+    bench.assert_removed(&rt, 3, HIGH_RANK);
+    bench.assert_none(&rt, 0, Ok(()));
+    bench.assert_none(&rt, 1, Ok(()));
 }
