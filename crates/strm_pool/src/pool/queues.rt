@@ -4,6 +4,7 @@ ghost use Rattle.strm_mblk.specs.Arena.{has};
 ghost use Rattle.strm_mblk.specs.Calls.{Flushes, LeavesBlocks, Puts, Takes, TakesAny};
 ghost use Rattle.strm_mblk.specs.Given.{answer_of};
 ghost use Rattle.strm_pool.specs.PoolValue.{arena, on_queues, queued_blocks_of};
+ghost use Rattle.strm_queue.specs.HeadCalls as by_head;
 ghost use Rattle.strm_queue.specs.QueueCalls as queues;
 
 use super::Pool;
@@ -42,6 +43,22 @@ impl Pool {
         self.queues.insq(&mut self.blocks, queue, place, token)
     }
 
+    /// Puts a message on a queue before the one with this head, or last if none is given. Rejected as `NoSuchQueue`,
+    /// `NoSuchPlace`, then `BadOrder`. As [`Queues::insq_before`] of strm_queue.
+    pub fn insq_before(
+        &mut self,
+        queue: u8,
+        before: Option<u32>,
+        token: Token,
+    ) -> Result<(), Rejected>
+        requires { IsTrue (has self.old.arena token) }
+        ensures { Puts arena token (on_queues self.old (by_head.insq_before queue before token.head
+            (queued_blocks_of self.old))) self.old self.new result }
+    {
+        self.queues
+            .insq_before(&mut self.blocks, queue, before, token)
+    }
+
     /// Removes the first message of a queue, if any, and returns its token. Refused as `NoSuchQueue`. As [`Queues::getq`]
     /// of strm_queue.
     pub fn getq(&mut self, queue: u8) -> Result<Option<Token>, Refusal>
@@ -58,6 +75,15 @@ impl Pool {
             self.old self.new result }
     {
         self.queues.rmvq(&mut self.blocks, queue, place)
+    }
+
+    /// Removes the message with this head from its queue, and returns its token. Refused as `NoSuchPlace`. As
+    /// [`Queues::rmvq_head`] of strm_queue.
+    pub fn rmvq_head(&mut self, head: u32) -> Result<Token, Refusal>
+        ensures { Takes arena (on_queues self.old (by_head.rmvq_head head (queued_blocks_of self.old)))
+            self.old self.new result }
+    {
+        self.queues.rmvq_head(&mut self.blocks, head)
     }
 
     /// Returns the number of messages on a queue. Refused as `NoSuchQueue`. As [`Queues::qsize`] of strm_queue.
