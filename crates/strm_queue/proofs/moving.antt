@@ -2,3 +2,4 @@
 pub mod Puts
 pub mod Gets
 pub mod Flushing
+pub mod Taking

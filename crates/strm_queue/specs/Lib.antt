@@ -11,5 +11,6 @@ pub mod QueuedBlocks
 pub mod QueueCalls
 pub mod QueueLooks
 pub mod HeadCalls
+pub mod Taking
 pub mod Joining
 pub mod QueuesLayout

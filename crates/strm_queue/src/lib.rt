@@ -11,6 +11,7 @@ mod queue_info;
 mod queue_spec;
 mod queued_info;
 mod queues;
+mod receiver;
 mod tally;
 
 pub use band_info::BandInfo;
@@ -21,3 +22,4 @@ pub use queue_info::QueueInfo;
 pub use queue_spec::QueueSpec;
 pub use queued_info::QueuedInfo;
 pub use queues::Queues;
+pub use receiver::Receiver;

@@ -24,6 +24,7 @@ mod places;
 mod putting;
 mod settling;
 mod shelving;
+mod taking;
 
 use crate::band_set::BandSet;
 use crate::mark_table::MarkTable;

@@ -100,7 +100,7 @@ pub record IsPassed (picked taken : Message → Bool) (ms rest : List Message) :
 
 module _ (picked taken : Message → Bool) (m : Message) (ms rest : List Message) where
   -- one more message that is not picked
-  abbrev passed_more : (all : List Message) → all ≡ m ∷ ms → picked m ≡ false → IsPassed picked taken ms rest → IsPassed picked taken all rest
+  abbrev pub passed_more : (all : List Message) → all ≡ m ∷ ms → picked m ≡ false → IsPassed picked taken ms rest → IsPassed picked taken all rest
   passed_more all is off passed = record {
     mid = m ∷ passed.mid;
     is = is ∙ ap (λ xs. m ∷ xs) passed.is;
@@ -108,6 +108,10 @@ module _ (picked taken : Message → Bool) (m : Message) (ms rest : List Message
     stay = cond-true _ _ _ (not_from_false _ off) ∙ ap (λ xs. m ∷ xs) passed.stay;
     begins = passed.begins;
   }
+
+-- messages that are passed add none that are picked
+pub picked_passed : (picked taken : Message → Bool) (pre ms rest : List Message) (passed : IsPassed picked taken ms rest) → filter picked (pre ++ passed.mid) ≡ filter picked pre
+picked_passed picked taken pre ms rest passed = filter-append picked pre passed.mid ∙ ap (λ xs. filter picked pre ++ xs) passed.gone ∙ append-nil (filter picked pre)
 
 module _ (s : DataStore) (flush : Flush) where
   -- a flush of a band passes over what is ahead of it
@@ -225,28 +229,37 @@ module _ (a : Arena) (q h : ℕ) (b : Arena) (spends : IsSpent a q h b) (pre pos
 
 -- ---- the walk
 
--- At least k messages were passed, and those that are picked are free. `at` is the head of the first message that was not passed;
+-- What becomes of messages that left their shelf: they are freed or held. The data blocks keep their contents, and the shelves
+-- stay.
+pub record IsOffShelf (gone : List Message → Arena → Arena) : Type 0 where
+  pub none : (a : Arena) → gone [] a ≡ a
+  pub contents : (ms : List Message) (a : Arena) → (gone ms a).store.blocks ≡ a.store.blocks
+  pub shelves : (ms : List Message) (a : Arena) → (gone ms a).shelves ≡ a.shelves
+
+pub freed_off_shelf : IsOffShelf with_freed
+freed_off_shelf = record { none = λ a. refl; contents = λ ms a. freed_data (flat_map (λ m. m) ms) a; shelves = λ ms a. freed_shelves (flat_map (λ m. m) ms) a }
+
+-- At least k messages were passed, and those that are picked are gone. `at` is the head of the first message that was not passed;
 -- it is picked exactly if it is taken.
-pub record IsFlushing (picked taken : Message → Bool) (old : Arena) (q k : ℕ) (at : Option ℕ) (now : Arena) : Type 0 where
+pub record IsFlushing (gone : List Message → Arena → Arena) (picked taken : Message → Bool) (old : Arena) (q k : ℕ) (at : Option ℕ) (now : Arena) : Type 0 where
   pub pre : List Message
   pub post : List Message
   pub is : shelf_at old q ≡ pre ++ post
   pub many : k ≤ length pre
   pub behind : at ≡ first (heads post)
   pub begins : starts (λ m. picked m ≡ taken m) post
-  pub arena : now ≡ with_freed (filter picked pre) (with_shelf q (filter (λ m. not (picked m)) pre ++ post) old)
+  pub arena : now ≡ gone (filter picked pre) (with_shelf q (filter (λ m. not (picked m)) pre ++ post) old)
 
-module _ (picked taken : Message → Bool) (old : Arena) (q : ℕ) (within : q < length old.shelves) where
+module _ (gone : List Message → Arena → Arena) (off : IsOffShelf gone) (picked taken : Message → Bool) (old : Arena) (q : ℕ) (within : q < length old.shelves) where
   abbrev stays : Message → Bool
   stays m = not (picked m)
 
   -- k messages were passed, and then more that are not picked
-  flushing_on : (k : ℕ) (now : Arena) (pre post : List Message) → shelf_at old q ≡ pre ++ post
-      → now ≡ with_freed (filter picked pre) (with_shelf q (filter stays pre ++ post) old)
-      → (at : Option ℕ) (rest : List Message) (passed : IsPassed picked taken post rest) → k ≤ length pre + length passed.mid → at ≡ first (heads rest) → IsFlushing picked taken old q k at now
+  unfoldable pub flushing_on : (k : ℕ) (now : Arena) (pre post : List Message) → shelf_at old q ≡ pre ++ post
+      → now ≡ gone (filter picked pre) (with_shelf q (filter stays pre ++ post) old)
+      → (at : Option ℕ) (rest : List Message) (passed : IsPassed picked taken post rest) → k ≤ length pre + length passed.mid → at ≡ first (heads rest) → IsFlushing gone picked taken old q k at now
   flushing_on k now pre post is arena at rest passed many behind =
-      let go : filter picked (pre ++ passed.mid) ≡ filter picked pre =
-      filter-append picked pre passed.mid ∙ ap (λ ms. filter picked pre ++ ms) passed.gone ∙ append-nil (filter picked pre) in
+      let go = picked_passed picked taken pre post rest passed in
       let stay : filter stays (pre ++ passed.mid) ++ rest ≡ filter stays pre ++ post =
       ap (λ ms. ms ++ rest) (filter-append stays pre passed.mid ∙ ap (λ ms. filter stays pre ++ ms) passed.stay)
       ∙ append_assoc (filter stays pre) passed.mid rest ∙ ap (λ ms. filter stays pre ++ ms) (sym passed.is) in
@@ -257,22 +270,20 @@ module _ (picked taken : Message → Bool) (old : Arena) (q : ℕ) (within : q <
         many = omega (arith, many, length-append pre passed.mid);
         behind = behind;
         begins = passed.begins;
-        arena = arena ∙ sym (λ i. with_freed (go i) (with_shelf q (stay i) old));
+        arena = arena ∙ sym (λ i. gone (go i) (with_shelf q (stay i) old));
       }
 
-  pub flushing_none : (at : Option ℕ) (rest : List Message) → IsPassed picked taken (shelf_at old q) rest → at ≡ first (heads rest) → IsFlushing picked taken old q 0 at old
-  flushing_none at rest passed behind = grind (arith, common_steps)
+  unfoldable pub flushing_none : (at : Option ℕ) (rest : List Message) → IsPassed picked taken (shelf_at old q) rest → at ≡ first (heads rest) → IsFlushing gone picked taken old q 0 at old
+  flushing_none at rest passed behind =
+      flushing_on 0 old [] (shelf_at old q) refl (sym (off.none (with_shelf q (shelf_at old q) old) ∙ ap (λ xs. let a : Arena = record old { shelves = xs } in a) (set-get_or old.shelves q []))) at rest passed (omega arith) behind
 
-  module _ (k : ℕ) (at : Option ℕ) (now : Arena) (walk : IsFlushing picked taken old q k at now) where
-    abbrev freed : List Block
-    freed = flat_map (λ m. m) (filter picked walk.pre)
-
+  module _ (k : ℕ) (at : Option ℕ) (now : Arena) (walk : IsFlushing gone picked taken old q k at now) where
     -- the store has the data that it had
     pub flushing_data : now.store.blocks ≡ old.store.blocks
-    flushing_data = ap (λ (a : Arena). a.store.blocks) walk.arena ∙ freed_data freed (with_shelf q (filter stays walk.pre ++ walk.post) old)
+    flushing_data = ap (λ (a : Arena). a.store.blocks) walk.arena ∙ off.contents (filter picked walk.pre) (with_shelf q (filter stays walk.pre ++ walk.post) old)
 
     flushing_shelves : now.shelves ≡ set old.shelves q (filter stays walk.pre ++ walk.post)
-    flushing_shelves = ap (λ (a : Arena). a.shelves) walk.arena ∙ freed_shelves freed (with_shelf q (filter stays walk.pre ++ walk.post) old)
+    flushing_shelves = ap (λ (a : Arena). a.shelves) walk.arena ∙ off.shelves (filter picked walk.pre) (with_shelf q (filter stays walk.pre ++ walk.post) old)
 
     flushing_is : shelf_at now q ≡ filter stays walk.pre ++ walk.post
     flushing_is = ap (λ xs. get_or xs q []) flushing_shelves ∙ get_or-set_same old.shelves q (filter stays walk.pre ++ walk.post) [] within
@@ -299,39 +310,52 @@ module _ (picked taken : Message → Bool) (old : Arena) (q : ℕ) (within : q <
 
         module _ (o : Option ℕ) (rest : List Message) (passed : IsPassed picked taken next.post rest) (o_is : o ≡ first (heads rest)) where
           -- it stays
-          pub flushing_kept : picked next.at ≡ false → IsFlushing picked taken old q (k + 1) o now
+          unfoldable pub flushing_kept : picked next.at ≡ false → IsFlushing gone picked taken old q (k + 1) o now
           flushing_kept not_picked =
               flushing_on (k + 1) now walk.pre walk.post walk.is walk.arena o rest
               (passed_more picked taken next.at next.post rest walk.post next.is not_picked passed) (omega (arith, walk.many)) o_is
 
-          -- it is freed
-          pub flushing_freed : picked next.at ≡ true → (new : Arena) → IsSpent now q h new → IsFlushing picked taken old q (k + 1) o new
-          flushing_freed is_picked new spends =
+          -- it is gone, if the others that are gone are so without it
+          unfoldable pub flushing_gone : picked next.at ≡ true → (new : Arena)
+              → new ≡ gone (filter picked walk.pre ++ next.at ∷ []) (with_shelf q (filter stays walk.pre ++ next.post) old) → IsFlushing gone picked taken old q (k + 1) o new
+          flushing_gone is_picked new arena =
               let stay : filter stays (walk.pre ++ next.at ∷ []) ≡ filter stays walk.pre =
               filter-append stays walk.pre (next.at ∷ []) ∙ ap (λ ms. filter stays walk.pre ++ ms) (cond-false _ _ _ (not_from_true _ is_picked)) ∙ append-nil (filter stays walk.pre) in
               let go : filter picked (walk.pre ++ next.at ∷ []) ≡ filter picked walk.pre ++ next.at ∷ [] =
               filter-append picked walk.pre (next.at ∷ []) ∙ ap (λ ms. filter picked walk.pre ++ ms) (cond-true _ _ _ is_picked) in
-              let blocks : flat_map (λ m. m) (filter picked (walk.pre ++ next.at ∷ [])) ≡ freed ++ next.at =
-              ap (flat_map (λ m. m)) go ∙ flat_map-append (λ (m : Message). m) (filter picked walk.pre) (next.at ∷ []) ∙ ap (λ bs. freed ++ bs) (append-nil next.at) in
               flushing_on (k + 1) new (walk.pre ++ next.at ∷ []) next.post (walk.is ∙ ap (λ ms. walk.pre ++ ms) next.is ∙ sym (append_assoc walk.pre (next.at ∷ []) next.post))
-              (freed_alone now q h new spends (filter stays walk.pre) next.post next.at next_is next.head apart
-              ∙ ap (λ a. with_blocks_freed next.at (with_shelf q (filter stays walk.pre ++ next.post) a)) walk.arena
-              ∙ ap (λ ms. with_blocks_freed next.at (with_shelf q (filter stays walk.pre ++ next.post) (with_blocks_freed freed (with_shelf q (filter stays walk.pre ++ ms) old)))) next.is
-              ∙ freed_next old q within (filter stays walk.pre) next.post next.at freed
-              ∙ ap (λ ms. with_blocks_freed (freed ++ next.at) (with_shelf q (ms ++ next.post) old)) (sym stay)
-              ∙ ap (λ bs. with_blocks_freed bs (with_shelf q (filter stays (walk.pre ++ next.at ∷ []) ++ next.post) old)) (sym blocks))
+              (arena ∙ sym (λ i. gone (go i) (with_shelf q (stay i ++ next.post) old)))
               o rest passed (omega (arith, length-append walk.pre (next.at ∷ []), walk.many)) o_is
+
+-- the message at the walk's head is freed
+module _ (picked taken : Message → Bool) (old : Arena) (q : ℕ) (within : q < length old.shelves) (k : ℕ) (at : Option ℕ) (now : Arena) (walk : IsFlushing with_freed picked taken old q k at now)
+    (h : ℕ) (some : at ≡ Some h) (apart : IsApart (heads_at now q)) where
+  abbrev freed_next_one : FirstParts h walk.post
+  freed_next_one = next with_freed freed_off_shelf picked taken old q within k at now walk h some
+
+  pub flushing_freed : (o : Option ℕ) (rest : List Message) (passed : IsPassed picked taken freed_next_one.post rest) → o ≡ first (heads rest) → picked freed_next_one.at ≡ true → (new : Arena) → IsSpent now q h new
+      → IsFlushing with_freed picked taken old q (k + 1) o new
+  flushing_freed o rest passed o_is is_picked new spends =
+      let one = freed_next_one in
+      let ahead = filter (λ m. not (picked m)) walk.pre in
+      let freed = flat_map (λ m. m) (filter picked walk.pre) in
+      let blocks : flat_map (λ m. m) (filter picked walk.pre ++ one.at ∷ []) ≡ freed ++ one.at =
+      flat_map-append (λ (m : Message). m) (filter picked walk.pre) (one.at ∷ []) ∙ ap (λ bs. freed ++ bs) (append-nil one.at) in
+      flushing_gone with_freed freed_off_shelf picked taken old q within k at now walk h some apart o rest passed o_is is_picked new
+      (freed_alone now q h new spends ahead one.post one.at (next_is with_freed freed_off_shelf picked taken old q within k at now walk h some) one.head apart
+      ∙ ap (λ a. with_blocks_freed one.at (with_shelf q (ahead ++ one.post) a)) walk.arena
+      ∙ ap (λ ms. with_blocks_freed one.at (with_shelf q (ahead ++ one.post) (with_blocks_freed freed (with_shelf q (ahead ++ ms) old)))) one.is
+      ∙ freed_next old q within ahead one.post one.at freed
+      ∙ ap (λ bs. with_blocks_freed bs (with_shelf q (ahead ++ one.post) old)) (sym blocks))
 
 -- ---- the queues, where one of them was flushed
 
 -- wanted marks of other queues stay lawful
-pub flushed_flags : (v : QueuesValue) (a : Arena) → Agrees v a → (q : ℕ) (picked : Message → Bool) (b : Arena)
-    → b ≡ with_freed (filter picked (shelf_at a q)) (with_shelf q (filter (λ m. not (picked m)) (shelf_at a q)) a) → (p : ℕ) → p ≢ q → AreMarksLawful v.state b p
-flushed_flags v a agrees q picked b is p other =
-    let stay = filter (λ m. not (picked m)) (shelf_at a q) in
-    let gone = flat_map (λ m. m) (filter picked (shelf_at a q)) in
-    marks_left_lawful v (with_shelf q stay a) b (ap (λ (x : Arena). x.shelves) is ∙ freed_shelves gone (with_shelf q stay a))
-    (data_same a.store b.store (ap (λ (x : Arena). x.store.blocks) is ∙ freed_data gone (with_shelf q stay a)) (shelved_blocks (with_shelf q stay a))) p
+pub flushed_flags : (gone : List Message → Arena → Arena) → IsOffShelf gone → (v : QueuesValue) (a : Arena) → Agrees v a → (q : ℕ) (go stay : List Message) (b : Arena)
+    → b ≡ gone go (with_shelf q stay a) → (p : ℕ) → p ≢ q → AreMarksLawful v.state b p
+flushed_flags gone off v a agrees q go stay b is p other =
+    marks_left_lawful v (with_shelf q stay a) b (ap (λ (x : Arena). x.shelves) is ∙ off.shelves go (with_shelf q stay a))
+    (data_same a.store b.store (ap (λ (x : Arena). x.store.blocks) is ∙ off.contents go (with_shelf q stay a)) (shelved_blocks (with_shelf q stay a))) p
     (marks_other v.state a q stay (with_shelf q stay a) refl refl p other (agrees.marks p))
 
 -- ---- held messages

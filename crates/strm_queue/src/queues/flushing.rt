@@ -30,7 +30,7 @@ fn carries_data(kind: MsgType) -> bool
 
 // Whether a flush of all bands frees the message with this head.
 #[tactic(auto, using(crate::proofs::moving::Flushing::head_told, crate::proofs::moving::Flushing::data_told))]
-fn takes(blocks: &Blocks, head: BlockNo, flush: Flush) -> bool
+pub(super) fn takes(blocks: &Blocks, head: BlockNo, flush: Flush) -> bool
     requires { IsSome (shelf_of blocks.now head) }
     ensures { (queue : ℕ) (pre post : List Message) (m : Message) → shelf_at blocks.now queue ≡ pre ++ m ∷ post
         → head_of m ≡ head
@@ -103,7 +103,7 @@ impl Queues {
 
     // The head of the first message that counts with the band, from `at` on, if any; without a band, `at`. Skips other
     // bands in one step.
-    fn onward(
+    pub(super) fn onward(
         &self,
         blocks: &Blocks,
         queue: u8,

@@ -6,11 +6,10 @@ use Rattle.std.proofs.lemmas.Bool.{cond-true}
 use Rattle.strm_mblk.specs.Arena.{shelf_at, with_shelf}
 use Rattle.strm_mblk.specs.Frame.{LeavesOthers}
 use Rattle.strm_mblk.specs.Given.{value_after}
-use Rattle.strm_queue.specs.Flush.{is_picked}
+use Rattle.strm_queue.specs.Flush.{is_picked, with_freed}
 use Rattle.strm_queue.specs.QueueCalls.{with_queue_settled}
 use Rattle.strm_queue.specs.QueuedBlocks.{AreMarksLawful, QueuedBlocks, queued_blocks}
-use Rattle.strm_queue.proofs.moving.Flushing.{flushed_flags}
-use Rattle.strm_queue.proofs.moving.Flushing.{others_freed}
+use Rattle.strm_queue.proofs.moving.Flushing.{flushed_flags, freed_off_shelf, others_freed}
 use Rattle.strm_queue.proofs.queues.Queues.flush_band.Goals as goal
 
 pub returns-clause-does : goal.returns-clause-does
@@ -30,7 +29,9 @@ returns-clause-does c =
 
 pub returns-clause-agrees : goal.returns-clause-agrees
 returns-clause-agrees c =
+    let ms = shelf_at c.args.blocks.now c.args.queue in
+    let picked = is_picked c.args.blocks.now.store c.args.band c.args.flush in
     c.settle.ensures.agrees c.flush_shelf.new.blocks c.flush_shelf.ensures.in_order
     (λ other away.
     subst (λ s. AreMarksLawful s c.flush_shelf.new.blocks other) (sym c.flush_shelf.ensures.state)
-    (flushed_flags c.args.self.now c.args.blocks.now c.requires c.args.queue (is_picked c.args.blocks.now.store c.args.band c.args.flush) c.flush_shelf.new.blocks c.flush_shelf.ensures.after other away))
+    (flushed_flags with_freed freed_off_shelf c.args.self.now c.args.blocks.now c.requires c.args.queue (filter picked ms) (filter (λ m. not (picked m)) ms) c.flush_shelf.new.blocks c.flush_shelf.ensures.after other away))

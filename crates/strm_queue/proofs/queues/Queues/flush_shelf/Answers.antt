@@ -5,11 +5,11 @@ use Rattle.strm_mblk.specs.Arena.{shelf_at}
 use Rattle.strm_mblk.specs.Block.{Message}
 use Rattle.strm_mblk.specs.Shelves.{heads_at, is_on}
 use Rattle.strm_mblk.proofs.arena.Stands.{shelf_of-there}
-use Rattle.strm_queue.specs.Flush.{is_flushed, is_picked}
+use Rattle.strm_queue.specs.Flush.{is_flushed, is_picked, with_freed}
 use Rattle.strm_queue.specs.Flushing.{messages_from_band}
 use Rattle.strm_queue.specs.QueuedBlocks.{AreInOrder, QueuesValue}
 use Rattle.strm_queue.proofs.agreeing.Agreeing.{in_order_left}
-use Rattle.strm_queue.proofs.moving.Flushing.{IsFlushing, IsPassed, behind_next, flushing_data, flushing_freed, flushing_kept, flushed_same, flushing_none, from_band_passed, from_band_same, next, next_is, next_taken, next_there}
+use Rattle.strm_queue.proofs.moving.Flushing.{IsFlushing, IsPassed, behind_next, flushing_data, flushing_freed, flushing_kept, freed_off_shelf, flushed_same, flushing_none, from_band_passed, from_band_same, next, next_is, next_taken, next_there}
 use Rattle.strm_queue.proofs.shelf.OnShelf.{FirstParts, first_there, heads}
 use Rattle.strm_queue.proofs.queues.Queues.flush_shelf.Goals as goal
 use Rattle.strm_queue.proofs.queues.Queues.flush_shelf.Goals.{After-reads_alike, After-takes, then-takes, else-takes}
@@ -20,7 +20,7 @@ within c = omega (arith, c.requires.queue, c.requires.in_order.shelves)
 
 pub loop-message-init : goal.loop-message-init
 loop-message-init c = (
-  flushing_none (is_picked c.args.blocks.now.store c.args.band c.args.flush) (is_flushed c.args.blocks.now.store c.args.flush) c.args.blocks.now c.args.queue (omega (arith, c.requires.queue, c.requires.in_order.shelves)) c.onward-at.result
+  flushing_none with_freed freed_off_shelf (is_picked c.args.blocks.now.store c.args.band c.args.flush) (is_flushed c.args.blocks.now.store c.args.flush) c.args.blocks.now c.args.queue (omega (arith, c.requires.queue, c.requires.in_order.shelves)) c.onward-at.result
       (messages_from_band c.args.blocks.now.store c.args.band (shelf_at c.args.blocks.now c.args.queue)) (from_band_passed c.args.blocks.now.store c.args.flush c.args.band (shelf_at c.args.blocks.now c.args.queue))
       (c.onward-at.ensures [] (shelf_at c.args.blocks.now c.args.queue) refl c.first.ensures),
   refl,
@@ -34,29 +34,29 @@ module _ (c : After-reads_alike) where
   abbrev taken : Message → Bool
   taken = is_flushed c.args.blocks.now.store c.args.flush
 
-  abbrev so_far : IsFlushing picked taken c.args.blocks.now c.args.queue c.loop-message._message c.loop-message.at c.loop-message.blocks
+  abbrev so_far : IsFlushing with_freed picked taken c.args.blocks.now c.args.queue c.loop-message._message c.loop-message.at c.loop-message.blocks
   so_far = c.loop-message.invariant.0
 
   -- the message at the loop's head
   abbrev one : FirstParts c.in-Some.head so_far.post
-  one = next picked taken c.args.blocks.now c.args.queue (within c) c.loop-message._message c.loop-message.at c.loop-message.blocks so_far c.in-Some.head c.in-Some.is
+  one = next with_freed freed_off_shelf picked taken c.args.blocks.now c.args.queue (within c) c.loop-message._message c.loop-message.at c.loop-message.blocks so_far c.in-Some.head c.in-Some.is
 
   -- it is on the queue
   there : is_on c.loop-message.blocks c.args.queue c.in-Some.head ≡ true
-  there = next_there picked taken c.args.blocks.now c.args.queue (within c) c.loop-message._message c.loop-message.at c.loop-message.blocks so_far c.in-Some.head c.in-Some.is
+  there = next_there with_freed freed_off_shelf picked taken c.args.blocks.now c.args.queue (within c) c.loop-message._message c.loop-message.at c.loop-message.blocks so_far c.in-Some.head c.in-Some.is
 
   abbrev ahead : List Message
   ahead = filter (λ m. not (picked m)) so_far.pre
 
   here : shelf_at c.loop-message.blocks c.args.queue ≡ ahead ++ one.at ∷ one.post
-  here = next_is picked taken c.args.blocks.now c.args.queue (within c) c.loop-message._message c.loop-message.at c.loop-message.blocks so_far c.in-Some.head c.in-Some.is
+  here = next_is with_freed freed_off_shelf picked taken c.args.blocks.now c.args.queue (within c) c.loop-message._message c.loop-message.at c.loop-message.blocks so_far c.in-Some.head c.in-Some.is
 
   same_data : c.loop-message.blocks.store.blocks ≡ c.args.blocks.now.store.blocks
-  same_data = flushing_data picked taken c.args.blocks.now c.args.queue (within c) c.loop-message._message c.loop-message.at c.loop-message.blocks so_far
+  same_data = flushing_data with_freed freed_off_shelf picked taken c.args.blocks.now c.args.queue (within c) c.loop-message._message c.loop-message.at c.loop-message.blocks so_far
 
   -- the message after it
   behind : (o : Option ℕ) → o ≡ after c.in-Some.head (heads_at c.loop-message.blocks c.args.queue) → o ≡ first (heads one.post)
-  behind = behind_next picked taken c.args.blocks.now c.args.queue (within c) c.loop-message._message c.loop-message.at c.loop-message.blocks so_far c.in-Some.head c.in-Some.is (c.reads_alike.ensures.apart c.args.queue)
+  behind = behind_next with_freed freed_off_shelf picked taken c.args.blocks.now c.args.queue (within c) c.loop-message._message c.loop-message.at c.loop-message.blocks so_far c.in-Some.head c.in-Some.is (c.reads_alike.ensures.apart c.args.queue)
 
   -- the rest of the shelf from the band's next message on
   abbrev rest : List Message
@@ -86,7 +86,7 @@ asked c =
     let at = c.before.before.before in
     c.takes.ensures c.args.queue (ahead at) (one at).post (one at).at (here at) (one at).head
     ∙ flushed_same c.args.blocks.now.store c.loop-message.blocks.store (same_data at) c.args.flush (one at).at
-    ∙ sym (next_taken (picked at) (taken at) c.args.blocks.now c.args.queue (within at) c.loop-message._message c.loop-message.at c.loop-message.blocks (so_far at) c.in-Some.head c.in-Some.is)
+    ∙ sym (next_taken with_freed freed_off_shelf (picked at) (taken at) c.args.blocks.now c.args.queue (within at) c.loop-message._message c.loop-message.at c.loop-message.blocks (so_far at) c.in-Some.head c.in-Some.is)
 
 -- where the loop goes on
 gone_on : (c : After-takes) → c.onward-at-in-loop-message.result ≡ first (heads (rest c.before.before.before))
@@ -117,8 +117,8 @@ loop-message-preserved c =
             (in_order_left w.unshelve_apart-token.new.self w.unshelve_apart-token.new.blocks w.freemsg.new.self w.freemsg.ensures.shelves.shelves w.freemsg.ensures.shelves.shelved_data w.unshelve_apart-token.ensures.in_order)),
       )
       | else-takes w ↦ (
-        subst (λ b. IsFlushing (picked at) (taken at) c.args.blocks.now c.args.queue (c.loop-message._message + 1) c.onward-at-in-loop-message.result b) (sym w.blocks-is)
-            (flushing_kept (picked at) (taken at) c.args.blocks.now c.args.queue (within at) c.loop-message._message c.loop-message.at c.loop-message.blocks (so_far at) c.in-Some.head c.in-Some.is (c.reads_alike.ensures.apart c.args.queue)
+        subst (λ b. IsFlushing with_freed (picked at) (taken at) c.args.blocks.now c.args.queue (c.loop-message._message + 1) c.onward-at-in-loop-message.result b) (sym w.blocks-is)
+            (flushing_kept with_freed freed_off_shelf (picked at) (taken at) c.args.blocks.now c.args.queue (within at) c.loop-message._message c.loop-message.at c.loop-message.blocks (so_far at) c.in-Some.head c.in-Some.is (c.reads_alike.ensures.apart c.args.queue)
             c.onward-at-in-loop-message.result (rest at) (passed at) (gone_on end) (is ∙ w.if-takes.false)),
         ap (λ (v : QueuesValue). v.state) w.self-is ∙ c.loop-message.invariant.1,
         subst (λ v. AreInOrder v c.if-takes.blocks) (sym w.self-is) (subst (AreInOrder c.loop-message.self) (sym w.blocks-is) c.loop-message.invariant.2),
