@@ -1,5 +1,5 @@
 -- A call on a part of a pool is one on the whole.
-use Rattle.std.proofs.Common.{◌≡◌, ℕ, List, [], ◌∷◌, Option, None, Result, Ok, Err, refl, sym, ap, ◌∙◌, subst}
+use Rattle.std.proofs.Common.{◌≡◌, ℕ, List, [], ◌∷◌, length, Option, None, Result, Ok, Err, refl, sym, ap, ◌∙◌, subst}
 use Rattle.std.specs.Prelude.{MatchResult, option_map}
 use Rattle.strm_data.specs.declared.refusal.Refusal.{Refusal}
 use Rattle.strm_mblk.specs.declared.rejected.Rejected.{Rejected}
@@ -10,6 +10,7 @@ use Rattle.strm_mblk.specs.Frame.{LeavesShelves}
 use Rattle.strm_mblk.specs.Freeing as freeing
 use Rattle.strm_mblk.specs.Given.{Given, answer_map, answer_of, or_rejected, value_after, without_token}
 use Rattle.strm_mblk.proofs.arena.Frame.{leaves_same}
+use Rattle.strm_queue.specs.Taking.{AreHanded, Hands, heads_taken}
 use Rattle.strm_queue.specs.QueuedBlocks as on
 use Rattle.strm_queue.specs.QueuedBlocks.{Agrees, QueuedBlocks, QueuesValue}
 use Rattle.strm_queue.proofs.agreeing.Agreeing.{agrees_left}
@@ -199,3 +200,13 @@ module _ {u v : PoolValue} {q : QueuedBlocks} (view : u ≡ v) where
   leaves_on {X} {result} call g =
       subst (λ w. LeavesBlocks arena (on_queues w (call (queued_blocks_of w))) w (with_queued u q) result) view
       (record { after = queues_after u (call (queued_blocks_of u)) q g.after; answer = g.answer ∙ sym (queues_answer u (call (queued_blocks_of u))); arena_stays = g.arena_stays })
+
+  pub hands_on : {R : Type 0} {receives : R → TokenValue → R → Type 0} {before after : R} {result : Result ℕ Refusal} (call : QueuedBlocks → Given QueuedBlocks (List ℕ))
+      → Hands on.arena receives (call (queued_blocks_of u)) (queued_blocks_of u) q before after result → Hands arena receives (on_queues v (call (queued_blocks_of v))) v (with_queued u q) before after result
+  hands_on {R} {receives} {before} {after} {result} call g =
+      subst (λ w. Hands arena receives (on_queues w (call (queued_blocks_of w))) w (with_queued u q) before after result) view
+      (record {
+        left = queues_after u (call (queued_blocks_of u)) q g.left;
+        count = g.count ∙ ap (answer_map (λ heads. length heads)) (sym (queues_answer u (call (queued_blocks_of u))));
+        tokens = subst (λ a. AreHanded receives (heads_taken a) u.arena q.arena before after) (sym (queues_answer u (call (queued_blocks_of u)))) g.tokens;
+      })

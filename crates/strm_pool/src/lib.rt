@@ -30,6 +30,6 @@ pub use short_list::{ClassSpecs, Octets, QueueSpecs, ShortList};
 pub use strm_data::{ClassInfo, ClassSpec, MsgType, Refusal};
 pub use strm_mblk::{BlockInfo, BlockPlace, Blocks, Census, Rejected, Token, TokenValue};
 pub use strm_queue::{
-    BANDS, BandInfo, Flush, MOST_QUEUES, Marks, QueueInfo, QueueSpec, QueuedInfo, Queues,
+    BANDS, BandInfo, Flush, MOST_QUEUES, Marks, QueueInfo, QueueSpec, QueuedInfo, Queues, Receiver,
 };
 pub use token_slot::TokenSlot;

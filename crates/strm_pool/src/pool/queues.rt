@@ -6,11 +6,13 @@ ghost use Rattle.strm_mblk.specs.Given.{answer_of};
 ghost use Rattle.strm_pool.specs.PoolValue.{arena, on_queues, queued_blocks_of};
 ghost use Rattle.strm_queue.specs.HeadCalls as by_head;
 ghost use Rattle.strm_queue.specs.QueueCalls as queues;
+ghost use Rattle.strm_queue.specs.Taking as taking;
+ghost use Rattle.strm_queue.specs.Taking.{Hands};
 
 use super::Pool;
 use strm_data::Refusal;
 use strm_mblk::{Rejected, Token};
-use strm_queue::{BandInfo, Flush, Marks, QueueInfo};
+use strm_queue::{BandInfo, Flush, Marks, QueueInfo, Receiver};
 
 impl Pool {
     /// Puts a message on a queue, after the last message whose rank is at least its own. Rejected as `NoSuchQueue`. As
@@ -109,6 +111,39 @@ impl Pool {
             self.old self.new result }
     {
         self.queues.flushband(&mut self.blocks, queue, band, flush)
+    }
+
+    /// Takes messages off a queue that [`Pool::flushq`] would free, at most `most`; their tokens go to `into`. Returns their
+    /// number. Refused as `NoSuchQueue`. As [`Queues::take_flushed`] of strm_queue.
+    pub fn take_flushed<R: Receiver>(
+        &mut self,
+        queue: u8,
+        flush: Flush,
+        most: u32,
+        into: &mut R,
+    ) -> Result<u32, Refusal>
+        ensures { Hands arena R.receives (on_queues self.old (taking.take_flushed queue flush most
+            (queued_blocks_of self.old))) self.old self.new into.old into.new result }
+    {
+        self.queues
+            .take_flushed(&mut self.blocks, queue, flush, most, into)
+    }
+
+    /// Takes messages of one band off a queue that [`Pool::flushband`] would free, at most `most`; their tokens go to `into`.
+    /// Returns their number. Refused as `NoSuchQueue`. As [`Queues::take_flushed_band`] of strm_queue.
+    pub fn take_flushed_band<R: Receiver>(
+        &mut self,
+        queue: u8,
+        band: u8,
+        flush: Flush,
+        most: u32,
+        into: &mut R,
+    ) -> Result<u32, Refusal>
+        ensures { Hands arena R.receives (on_queues self.old (taking.take_flushed_band queue band flush most
+            (queued_blocks_of self.old))) self.old self.new into.old into.new result }
+    {
+        self.queues
+            .take_flushed_band(&mut self.blocks, queue, band, flush, most, into)
     }
 
     /// Says whether a band has room at the target of a queue; if not, the band is wanted there. Refused as `NoSuchQueue`.
