@@ -263,9 +263,9 @@ AR := $(TOOLS_FOR)ar
 endif
 OBJCOPY ?= $(TOOLS_FOR)objcopy
 
-# The library is the proved part, with tables for backtraces on x86-64, and the objects of C around it: one that checks pointers, the heap, the
+# The library is the proved part, with tables for backtraces on x86-64, and the objects of C around it: one that checks pointers, the report, the heap, the
 # region that the heap takes pieces of, and what needs libc. The functions of the heap get the names that c/heap.c has.
-PARTS := strm heap region malloc
+PARTS := strm report heap region malloc
 $(BUILD)/libstrm.a: $(PROVED) $(PARTS:%=c/%.c) c/heap.h c/strm_c.h c/strm.h tools/unwind_tables
 	@mkdir -p $(BUILD)
 	cp $(PROVED) $@

@@ -49,7 +49,8 @@
  *     strm_read, strm_size, strm_msgdsize, strm_block, strm_blocks, strm_bytes, strm_iov,
  *     strm_place, strm_has, strm_name_at, strm_qsize, strm_queued_at, strm_read_queued,
  *     strm_first_queued, strm_queued_after, strm_queue_spec, strm_strqget, strm_run_at,
- *     strm_wish_at, strm_census, strm_class_info, strm_queue_info, strm_band_info and strm_is_open.
+ *     strm_wish_at, strm_census, strm_class_info, strm_queue_info, strm_band_info,
+ *     strm_report and strm_is_open.
  *
  *
  * Results
@@ -997,6 +998,16 @@ int strm_queue_info(const struct strm_pool *pool, uint32_t queue, struct strm_qu
  * STREAMS: qb_count, and QB_FULL and QB_WANTW of qb_flag.
  */
 int strm_band_info(const struct strm_pool *pool, uint32_t queue, uint32_t band, struct strm_band_info *info);
+
+/*
+ * Writes the report that the program strm prints of a pool (strm(1)): as much as fits into `length`
+ * bytes, with a 0 at the end unless `length` is 0. Returns the length of the whole text without the
+ * 0. If the handle is not open, `text` is null and `length` is not 0, or `length` is above
+ * SIZE_MAX / 2, returns 0 and writes nothing. The text of a pool has at most 180 KB.
+ * Since 0.4.0.
+ * Not in STREAMS.
+ */
+size_t strm_report(const struct strm_pool *pool, char *text, size_t length);
 
 /* ---- texts: strm_text(3) */
 

@@ -4,7 +4,7 @@
  *
  *     drawn CALLS SEED            compares. The last line is 'N passed, M failed', which counts pairs of pools. One more fails if an answer
  *                                 never came in a million calls.
- *     drawn CALLS SEED SCRIPT     writes a script of calls on one pool, and prints the model's replies, a line each.
+ *     drawn CALLS SEED SCRIPT     writes a script of calls on one pool, and prints the model's replies, a line each, and the pool's report.
  *
  * With -DIN_ARRAY pools are in static arrays, with -DIN_HUGE_PAGE in huge pages.
  */
@@ -549,25 +549,27 @@ static int run_pools(uint32_t id, unsigned long calls)
 
 static int write_script(const char *path, unsigned long calls)
 {
-	struct setup setup;
-	struct model *model;
+	static struct side side;
+	static char report[1 << 20];
 	FILE *script = fopen(path, "w");
 	unsigned long i;
 
-	draw_setup(&setup, 1);
-	model = model_open(&setup.config);
-	if (script == NULL || model == NULL)
+	if (script == NULL || !opens(&side, 1, 0))
 		return EXIT_FAILURE;
-	print_header(script, &setup.config);
+	print_header(script, &side.setup.config);
 	for (i = 0; i < calls; i++) {
-		struct call call = drawn_call(model, model, &setup, VERBS_OF_STRM);
-		struct reply reply = model_apply(model, model, &call);
+		struct call call = drawn_call(side.model, side.model, &side.setup, VERBS_OF_STRM);
+		struct reply reply = model_apply(side.model, side.model, &call);
 
 		print_call(script, &call);
 		print_reply(stdout, &reply);
+		if (reply.kind != TAKEN && !same_answer(&side, &side, &call, &reply))
+			return EXIT_FAILURE;
 	}
-	model_close(model);
-	return fclose(script) == 0 ? EXIT_SUCCESS : EXIT_FAILURE;
+	if (strm_report(&side.face.pool, report, sizeof report) >= sizeof report)
+		return EXIT_FAILURE;
+	printf("%s", report);
+	return closes(&side) && fclose(script) == 0 ? EXIT_SUCCESS : EXIT_FAILURE;
 }
 
 int main(int argc, char **argv)

@@ -991,6 +991,38 @@ static void test_order(void)
 	ANSWERS(strm_close(&pool), STRM_OK);
 }
 
+/* The report of the scene that its first line says, as much of it as fits. */
+static void test_report(void)
+{
+	static const char wanted[] =
+		"blocks free=5 queued=1 held=0 total=6\ndata size=16 free=5 total=6\ndata size=64 free=2 total=2\n"
+		"queue 0 msgs=0 bytes=0 read=1 noenable=0 enabled=0\nqueue 1 msgs=0 bytes=0 read=1 noenable=0 enabled=0\n"
+		"queue 2 msgs=1 bytes=3 read=1 noenable=0 enabled=0\nband 7 bytes=3 full=0 wanted=0\nrun -\nwishes 1:16\n";
+	struct strm_pool pool = opened(6), closed = STRM_POOL_INIT;
+	struct strm_msg msg = message(&pool, "abc");
+	size_t whole, i;
+	uint32_t id;
+	char text[600];
+
+	ANSWERS(strm_noenable(&pool, 2), STRM_OK);
+	ANSWERS(strm_setband(&pool, msg, 7), STRM_OK);
+	ANSWERS(strm_putq(&pool, 2, msg), STRM_OK);
+	ANSWERS(strm_enableok(&pool, 2), STRM_OK);
+	ANSWERS(strm_bufcall(&pool, 16, &id), STRM_OK);
+	whole = strm_report(&pool, text, sizeof text);
+	CHECK(whole == strlen(wanted) && strcmp(text, wanted) == 0);
+	for (i = 0; i <= whole + 1; i++) {
+		memset(text, '.', sizeof text);
+		CHECK(strm_report(&pool, text, i) == whole && text[i] == '.');
+		CHECK(i == 0 || (strlen(text) == (i <= whole ? i - 1 : whole) && memcmp(text, wanted, strlen(text)) == 0));
+	}
+	CHECK(strm_report(&pool, NULL, 0) == whole);
+	memset(text, '.', sizeof text);
+	CHECK(strm_report(&pool, NULL, 1) == 0 && strm_report(&pool, text, (size_t)-1 / 2 + 1) == 0);
+	CHECK(strm_report(NULL, text, 1) == 0 && strm_report(&closed, text, 1) == 0 && text[0] == '.');
+	ANSWERS(strm_close(&pool), STRM_OK);
+}
+
 /* A message of high priority, one of two blocks in band 2, and one in band 0, from front to back of queue 2. */
 static void test_looks_at_queues(void)
 {
@@ -1517,6 +1549,7 @@ int main(void)
 	test_transfer_refused();
 	test_order();
 	test_looks_at_queues();
+	test_report();
 	test_several();
 	test_all_of_a_queue();
 	test_specs();
