@@ -48,9 +48,9 @@
  *   - look: a call that changes nothing in the pool. Its handle is `const`. Looks are strm_testb,
  *     strm_read, strm_size, strm_msgdsize, strm_block, strm_blocks, strm_bytes, strm_iov,
  *     strm_place, strm_has, strm_name_at, strm_qsize, strm_queued_at, strm_read_queued,
- *     strm_first_queued, strm_queued_after, strm_queue_spec, strm_strqget, strm_run_at,
- *     strm_wish_at, strm_census, strm_class_info, strm_queue_info, strm_band_info,
- *     strm_report and strm_is_open.
+ *     strm_first_queued, strm_last_queued, strm_queued_after, strm_queued_before, strm_queue_of,
+ *     strm_queue_spec, strm_strqget, strm_run_at, strm_wish_at, strm_census, strm_class_info,
+ *     strm_queue_info, strm_band_info, strm_report and strm_is_open.
  *
  *
  * Results
@@ -826,12 +826,34 @@ int strm_read_queued(const struct strm_pool *pool, uint32_t queue, uint32_t plac
 int strm_first_queued(const struct strm_pool *pool, uint32_t queue, uint32_t *head);
 
 /*
+ * Returns the number of the first block of the last message on a queue, or STRM_NONE if the queue
+ * is empty. Since 0.4.0.
+ * STREAMS: q_last.
+ */
+int strm_last_queued(const struct strm_pool *pool, uint32_t queue, uint32_t *head);
+
+/*
  * Returns the number of the first block of the next message on the same queue, after the message
  * whose first block is `head`; or STRM_NONE if that is the last one.
  * Refused as STRM_NO_SUCH_PLACE if no message on a queue begins with that block.
  * STREAMS: b_next.
  */
 int strm_queued_after(const struct strm_pool *pool, uint32_t head, uint32_t *after);
+
+/*
+ * Returns the number of the first block of the message before the one whose first block is `head`,
+ * on the same queue; or STRM_NONE if that is the first one. Since 0.4.0.
+ * Refused as STRM_NO_SUCH_PLACE if no message on a queue begins with that block.
+ * STREAMS: b_prev.
+ */
+int strm_queued_before(const struct strm_pool *pool, uint32_t head, uint32_t *before);
+
+/*
+ * Returns the queue that has the message whose first block is `head`. Since 0.4.0.
+ * Refused as STRM_NO_SUCH_PLACE if no message on a queue begins with that block.
+ * Not in STREAMS.
+ */
+int strm_queue_of(const struct strm_pool *pool, uint32_t head, uint32_t *queue);
 
 /*
  * Frees messages of a queue, front to back: all, or those with data (STRM_FLUSHALL,

@@ -74,7 +74,10 @@ struct strm_reader {
 	LOOK(queued_at, (POOL, uint32_t queue, uint32_t place, struct strm_queued *queued), \
 		(&reader, queue, place, queued), queued != NULL) \
 	LOOK(first_queued, (POOL, uint32_t queue, uint32_t *head), (&reader, queue, head), head != NULL) \
+	LOOK(last_queued, (POOL, uint32_t queue, uint32_t *head), (&reader, queue, head), head != NULL) \
 	LOOK(queued_after, (POOL, uint32_t head, uint32_t *after), (&reader, head, after), after != NULL) \
+	LOOK(queued_before, (POOL, uint32_t head, uint32_t *before), (&reader, head, before), before != NULL) \
+	LOOK(queue_of, (POOL, uint32_t head, uint32_t *queue), (&reader, head, queue), queue != NULL) \
 	LOOK(strqget, (POOL, uint32_t queue, uint32_t band, struct strm_marks *marks), \
 		(&reader, queue, band, marks), marks != NULL) \
 	LOOK(run_at, (POOL, uint32_t place, uint32_t *queue), (&reader, place, queue), queue != NULL) \

@@ -99,7 +99,10 @@
 	LOOK(READ_QUEUED, read_queued, "qkn", (pool, c->queue, c->place, c->number, TO(void), a->length, a->done), 2, \
 		IS(TOLD_BYTES) | NOT(STRM_NO_SUCH_QUEUE) | NOT(STRM_NO_SUCH_PLACE)) \
 	LOOK(FIRST_QUEUED, first_queued, "q", (pool, c->queue, TO(uint32_t)), 1, IS(TOLD_HEAD) | IS(NOTHING) | NOT(STRM_NO_SUCH_QUEUE)) \
+	LOOK(LAST_QUEUED, last_queued, "q", (pool, c->queue, TO(uint32_t)), 1, IS(TOLD_HEAD) | IS(NOTHING) | NOT(STRM_NO_SUCH_QUEUE)) \
 	LOOK(QUEUED_AFTER, queued_after, "e", (pool, c->number, TO(uint32_t)), 3, IS(TOLD_HEAD) | IS(NOTHING) | NOT(STRM_NO_SUCH_PLACE)) \
+	LOOK(QUEUED_BEFORE, queued_before, "e", (pool, c->number, TO(uint32_t)), 3, IS(TOLD_HEAD) | IS(NOTHING) | NOT(STRM_NO_SUCH_PLACE)) \
+	LOOK(QUEUE_OF, queue_of, "e", (pool, c->number, TO(uint32_t)), 2, IS(TOLD_QUEUE) | NOT(STRM_NO_SUCH_PLACE)) \
 	LOOK(QUEUE_SPEC, queue_spec, "q", (pool, c->queue, TO(struct strm_queue_spec)), 1, IS(TOLD_SPEC) | NOT(STRM_NO_SUCH_QUEUE)) \
 	LOOK(RUN_AT, run_at, "k", (pool, c->place, TO(uint32_t)), 1, IS(TOLD_QUEUE) | IS(NOTHING)) \
 	LOOK(WISH_AT, wish_at, "k", (pool, c->place, TO(struct strm_wish)), 1, IS(TOLD_READY) | IS(NOTHING)) \

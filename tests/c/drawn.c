@@ -226,7 +226,7 @@ static int same_places(struct face *face, const struct model *model, int reg)
 /* Goes from message to message of a queue, and compares what is reported of each, by its place and by its first block. */
 static int same_queued(struct face *face, const struct model *model, uint32_t queue)
 {
-	uint32_t msgs = model_queue(model, queue).msgs, place, head;
+	uint32_t msgs = model_queue(model, queue).msgs, place, head, last = 0, before, of;
 	struct strm_queued wanted, found;
 	int code = strm_first_queued(&face->pool, queue, &head);
 
@@ -236,8 +236,16 @@ static int same_queued(struct face *face, const struct model *model, uint32_t qu
 			return 0;
 		if (strm_queued_at(&face->pool, queue, place, &found) != STRM_OK || memcmp(&wanted, &found, sizeof found) != 0)
 			return 0;
+		code = strm_queued_before(&face->pool, head, &before);
+		if (code != (place > 0 ? STRM_OK : STRM_NONE) || (place > 0 && before != last))
+			return 0;
+		if (strm_queue_of(&face->pool, head, &of) != STRM_OK || of != queue)
+			return 0;
+		last = head;
 		code = strm_queued_after(&face->pool, head, &head);
 	}
+	if (strm_last_queued(&face->pool, queue, &head) != (msgs > 0 ? STRM_OK : STRM_NONE) || (msgs > 0 && head != last))
+		return 0;
 	return code == STRM_NONE && strm_queued_at(&face->pool, queue, msgs, &found) == STRM_NO_SUCH_PLACE;
 }
 

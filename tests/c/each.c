@@ -1030,7 +1030,7 @@ static void test_looks_at_queues(void)
 	struct strm_msg a = message(&pool, "abc"), b = message(&pool, "de"), c = message(&pool, "f"), tail = message(&pool, "ghi");
 	struct strm_msg held = message(&pool, "held");
 	struct strm_queued queued;
-	uint32_t head = 99;
+	uint32_t head = 99, queue = 99;
 	size_t count;
 	char room[8];
 
@@ -1040,8 +1040,12 @@ static void test_looks_at_queues(void)
 	ANSWERS(strm_setband(&pool, c, 9), STRM_OK);
 	ANSWERS(strm_first_queued(&pool, 2, &head), STRM_NONE);
 	ANSWERS(strm_first_queued(&pool, 3, &head), STRM_NO_SUCH_QUEUE);
+	ANSWERS(strm_last_queued(&pool, 2, &head), STRM_NONE);
+	ANSWERS(strm_last_queued(&pool, 3, &head), STRM_NO_SUCH_QUEUE);
 	ANSWERS(strm_queued_after(&pool, a.head, &head), STRM_NO_SUCH_PLACE);
-	CHECK(head == 99);
+	ANSWERS(strm_queued_before(&pool, a.head, &head), STRM_NO_SUCH_PLACE);
+	ANSWERS(strm_queue_of(&pool, a.head, &queue), STRM_NO_SUCH_PLACE);
+	CHECK(head == 99 && queue == 99);
 	ANSWERS(strm_putq(&pool, 2, a), STRM_OK);
 	ANSWERS(strm_putq(&pool, 2, b), STRM_OK);
 	ANSWERS(strm_putq(&pool, 2, c), STRM_OK);
@@ -1052,13 +1056,28 @@ static void test_looks_at_queues(void)
 	ANSWERS(strm_queued_after(&pool, head, &head), STRM_OK);
 	CHECK(head == a.head);
 	ANSWERS(strm_queued_after(&pool, head, &head), STRM_NONE);
+	ANSWERS(strm_queued_before(&pool, c.head, &head), STRM_NONE);
+	CHECK(head == a.head);
+	ANSWERS(strm_last_queued(&pool, 2, &head), STRM_OK);
+	CHECK(head == a.head);
+	ANSWERS(strm_queued_before(&pool, head, &head), STRM_OK);
+	CHECK(head == b.head);
+	ANSWERS(strm_queued_before(&pool, head, &head), STRM_OK);
+	CHECK(head == c.head);
+	ANSWERS(strm_queue_of(&pool, b.head, &queue), STRM_OK);
+	CHECK(queue == 2);
+	head = a.head;
 	/* held, behind the first block, free, and not there */
 	ANSWERS(strm_queued_after(&pool, held.head, &head), STRM_NO_SUCH_PLACE);
 	ANSWERS(strm_queued_after(&pool, tail.head, &head), STRM_NO_SUCH_PLACE);
 	ANSWERS(strm_queued_after(&pool, 7, &head), STRM_NO_SUCH_PLACE);
 	ANSWERS(strm_queued_after(&pool, 8, &head), STRM_NO_SUCH_PLACE);
 	ANSWERS(strm_queued_after(&pool, 0xFFFFFFFFu, &head), STRM_NO_SUCH_PLACE);
-	CHECK(head == a.head);
+	ANSWERS(strm_queued_before(&pool, tail.head, &head), STRM_NO_SUCH_PLACE);
+	ANSWERS(strm_queued_before(&pool, 0xFFFFFFFFu, &head), STRM_NO_SUCH_PLACE);
+	ANSWERS(strm_queue_of(&pool, held.head, &queue), STRM_NO_SUCH_PLACE);
+	ANSWERS(strm_queue_of(&pool, 0xFFFFFFFFu, &queue), STRM_NO_SUCH_PLACE);
+	CHECK(head == a.head && queue == 2);
 	ANSWERS(strm_queued_at(&pool, 2, 0, &queued), STRM_OK);
 	CHECK(queued.head == c.head && queued.type == STRM_M_PCPROTO && queued.band == 0 && queued.bytes == 1 && queued.blocks == 1);
 	ANSWERS(strm_queued_at(&pool, 2, 1, &queued), STRM_OK);

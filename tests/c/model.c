@@ -1056,6 +1056,15 @@ static struct reply queued_bytes_told(struct model *v, const struct call *call)
 	return reply;
 }
 
+static const struct item *last_on(const struct line *line)
+{
+	const struct item *item = line->items;
+
+	while (item != NULL && item->next != NULL)
+		item = item->next;
+	return item;
+}
+
 static struct reply head_told(const struct item *item)
 {
 	return item != NULL ? told(TOLD_HEAD, item->message->number, 0) : reply_of(NOTHING);
@@ -1101,6 +1110,8 @@ static struct reply act_on_queue(struct model *v, const struct call *call)
 		return queued_bytes_told(v, call);
 	case FIRST_QUEUED:
 		return head_told(line->items);
+	case LAST_QUEUED:
+		return head_told(last_on(line));
 	case QUEUE_SPEC:
 		return spec_told(line->spec);
 	case QUEUE_INFO:
@@ -1183,16 +1194,16 @@ static struct reply name_told(const struct model *v, uint32_t head)
 	return reply_of(NOTHING);
 }
 
-/* The message after the queued one whose first block has this number. */
-static struct reply after_told(const struct model *v, uint32_t head)
+/* The message after or before the queued one whose first block has this number, or its queue. */
+static struct reply neighbour_told(const struct model *v, const struct call *call)
 {
-	const struct item *item;
+	const struct item *item, *before;
 	uint32_t q;
 
 	for (q = 0; q < v->queue_count; q++)
-		for (item = v->queues[q].items; item != NULL; item = item->next)
-			if (item->message->number == head)
-				return head_told(item->next);
+		for (item = v->queues[q].items, before = NULL; item != NULL; before = item, item = item->next)
+			if (item->message->number == call->number)
+				return call->verb == QUEUE_OF ? told(TOLD_QUEUE, q, 0) : head_told(call->verb == QUEUED_AFTER ? item->next : before);
 	return refused(STRM_NO_SUCH_PLACE);
 }
 
@@ -1243,8 +1254,8 @@ static struct reply act_on_pool(struct model *v, const struct call *call)
 		return wish_taken(v, call);
 	case NAME_AT:
 		return name_told(v, call->number);
-	case QUEUED_AFTER:
-		return after_told(v, call->number);
+	case QUEUED_AFTER: case QUEUED_BEFORE: case QUEUE_OF:
+		return neighbour_told(v, call);
 	default:
 		return told_from(TOLD_CENSUS, &census);
 	}

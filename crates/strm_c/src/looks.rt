@@ -77,6 +77,40 @@ pub extern "C" fn strm_c_first_queued(pool: &mut StrmReader, queue: u32, head: &
     put(coded_any_refusal(answer), head)
 }
 
+/// Stores the number of the first block of the last message on a queue in `head`. As [`Pool::last_queued`] of strm_pool.
+/// Returns `Nothing` if the queue is empty.
+#[unsafe(no_mangle)]
+pub extern "C" fn strm_c_last_queued(pool: &mut StrmReader, queue: u32, head: &mut u32) -> i32
+    ensures answer { Asks (λ v. answer_of_refusable any_or_nothing
+        (looks.last_queued (capped_number queue) (queued_blocks_of v.pool)))
+        pool.old.at.named pool.new.at.named result head.old head.new }
+    ensures same { pool.new ≡ pool.old }
+{
+    let Some(view) = pool.view() else {
+        return Code::NotOpen.number();
+    };
+    let pool = view.named().pool();
+    let answer = pool
+        .queues()
+        .last_queued(pool.blocks(), capped_number(queue));
+    put(coded_any_refusal(answer), head)
+}
+
+/// Stores the queue that has the message that begins with a block in `queue`. As [`Pool::queue_of`] of strm_pool.
+#[unsafe(no_mangle)]
+pub extern "C" fn strm_c_queue_of(pool: &mut StrmReader, head: u32, queue: &mut u32) -> i32
+    ensures answer { Asks (λ v. answer_of_refusable Ok (looks.queue_of head (queued_blocks_of v.pool)))
+        pool.old.at.named pool.new.at.named result queue.old queue.new }
+    ensures same { pool.new ≡ pool.old }
+{
+    let Some(view) = pool.view() else {
+        return Code::NotOpen.number();
+    };
+    let pool = view.named().pool();
+    let answer = pool.queues().queue_of(pool.blocks(), head).map(u32::from);
+    put(coded_refusal(answer), queue)
+}
+
 /// Stores the number of the first block of the message after the one that begins with a block, on the same queue, in `after`.
 /// As [`Pool::queued_after`] of strm_pool. Returns `Nothing` if there is none after it.
 #[unsafe(no_mangle)]
@@ -90,6 +124,22 @@ pub extern "C" fn strm_c_queued_after(pool: &mut StrmReader, head: u32, after: &
     };
     let answer = view.named().pool().queued_after(head);
     put(coded_any_refusal(answer), after)
+}
+
+/// Stores the number of the first block of the message before the one that begins with a block, on the same queue, in
+/// `before`. As [`Pool::queued_before`] of strm_pool. Returns `Nothing` if there is none before it.
+#[unsafe(no_mangle)]
+pub extern "C" fn strm_c_queued_before(pool: &mut StrmReader, head: u32, before: &mut u32) -> i32
+    ensures answer { Asks (λ v. answer_of_refusable any_or_nothing (looks.queued_before head (queued_blocks_of v.pool)))
+        pool.old.at.named pool.new.at.named result before.old before.new }
+    ensures same { pool.new ≡ pool.old }
+{
+    let Some(view) = pool.view() else {
+        return Code::NotOpen.number();
+    };
+    let pool = view.named().pool();
+    let answer = pool.queues().queued_before(pool.blocks(), head);
+    put(coded_any_refusal(answer), before)
 }
 
 /// Stores the configuration of a queue in `spec`. As [`Pool::queue_spec`] of strm_pool.
