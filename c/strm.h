@@ -4,8 +4,8 @@
  *
  * A pool has message blocks, data blocks in size classes, and queues. Only strm_open allocates
  * memory. A message is a chain of one or more message blocks; the caller holds it by a name, or it
- * is on a queue. Bytes are copied in and out, or read where they are (strm_bytes, strm_iov).
- * Queues, and places of blocks, messages and bytes, are numbered from 0.
+ * is on a queue. Bytes are copied in and out, or read and written where they are (strm_iov,
+ * strm_room). Queues, and places of blocks, messages and bytes, are numbered from 0.
  *
  *     strm_allocb(&pool, 4, &msg);
  *     strm_write(&pool, msg, 0, "lion", 4);
@@ -129,10 +129,13 @@
  *     pools may be used at the same time.
  *   - Nothing is written through a pointer that strm_bytes or strm_iov returns. Nothing is read
  *     through it from the beginning of the next call with that pool that is no look; a look leaves
- *     it good. So a thread that shares the pool holds its lock from before the call until it has
- *     read there, without a gap; a read lock is enough. The pointer is passed to no call with the
- *     same pool, such as strm_write: copy the bytes by strm_read first. A call with another pool
- *     may get it.
+ *     it good, and so does strm_room or strm_edit. So a thread that shares the pool holds its lock
+ *     from before the call until it has read there, without a gap; a read lock is enough. The
+ *     pointer is passed to no call with the same pool, such as strm_write: copy the bytes by
+ *     strm_read first. A call with another pool may get it.
+ *   - The same is true of a pointer that strm_room or strm_edit returns, but bytes may be written
+ *     there too, as many as the call counted. They are then the bytes that the data block has.
+ *     While a thread writes there, it holds the lock as for a call that is no look.
  *   - No call is made from a signal handler. An interrupt handler makes calls only while no other
  *     call runs.
  *   - Calls use SSE registers. Code that may not, as in most kernels, saves these before a call and
@@ -623,7 +626,7 @@ int strm_name_at(const struct strm_pool *pool, uint32_t head, struct strm_msg *m
  * *bytes is still not null. Read them there, until the next call with this pool that is no look;
  * write nothing.
  * Refused as STRM_NO_SUCH_BLOCK.
- * STREAMS: b_rptr and b_wptr; here the caller may not write.
+ * STREAMS: b_rptr and b_wptr; to write there, call strm_edit.
  */
 int strm_bytes(const struct strm_pool *pool, struct strm_msg msg, uint32_t place, const uint8_t **bytes, size_t *length);
 
@@ -649,6 +652,26 @@ int strm_iov(const struct strm_pool *pool, struct strm_msg msg, uint32_t from, s
  * STREAMS: db_base, db_lim, b_rptr and b_wptr, as numbers.
  */
 int strm_place(const struct strm_pool *pool, struct strm_msg msg, uint32_t place, struct strm_block_place *where);
+
+/*
+ * Sets *at to the address of the room of the block numbered `place`, and *length to its number of
+ * bytes. If there is no room, *at is still not null. Write there, for instance by recv, until the
+ * next call with this pool that is neither a look nor strm_room or strm_edit. Then call
+ * strm_advance, which moves the write place past what you wrote. This call itself changes nothing.
+ * Since 0.4.0.
+ * Refused as STRM_NO_SUCH_BLOCK, STRM_SHARED.
+ * STREAMS: b_wptr and db_lim.
+ */
+int strm_room(struct strm_pool *pool, struct strm_msg msg, uint32_t place, uint8_t **at, size_t *length);
+
+/*
+ * Sets *at to the address of the first byte of the block numbered `place`, and *length to the
+ * number of its bytes, as strm_bytes does. Change them there, for as long as at strm_room.
+ * Since 0.4.0.
+ * Refused as STRM_NO_SUCH_BLOCK, STRM_SHARED.
+ * STREAMS: b_rptr and b_wptr; the kernel does not check db_ref.
+ */
+int strm_edit(struct strm_pool *pool, struct strm_msg msg, uint32_t place, uint8_t **at, size_t *length);
 
 /*
  * Writes `length` bytes over those of a message, beginning with the byte numbered `at`, counted

@@ -27,6 +27,10 @@ struct strm_reader {
 	CALL(freemsg, (struct strm_pool *pool, struct strm_msg msg), (pool, msg), 1) \
 	CALL(settype, (struct strm_pool *pool, struct strm_msg msg, uint32_t place, uint32_t type), (pool, msg, place, type), 1) \
 	CALL(setband, (struct strm_pool *pool, struct strm_msg msg, uint32_t band), (pool, msg, band), 1) \
+	CALL(room, (struct strm_pool *pool, struct strm_msg msg, uint32_t place, uint8_t **at, size_t *length), \
+		(pool, msg, place, at, length), at != NULL && length != NULL && (void *)at != (void *)length) \
+	CALL(edit, (struct strm_pool *pool, struct strm_msg msg, uint32_t place, uint8_t **at, size_t *length), \
+		(pool, msg, place, at, length), at != NULL && length != NULL && (void *)at != (void *)length) \
 	CALL(reserve, (struct strm_pool *pool, struct strm_msg msg, uint32_t place, uint32_t count), (pool, msg, place, count), 1) \
 	CALL(advance, (struct strm_pool *pool, struct strm_msg msg, uint32_t place, uint32_t count), (pool, msg, place, count), 1) \
 	CALL(linkb, (struct strm_pool *pool, struct strm_msg msg, struct strm_msg tail), (pool, msg, tail), 1) \

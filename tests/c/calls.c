@@ -71,6 +71,11 @@ int has_argument(int verb, const char *text)
 	return strstr(forms[verb].arguments, text) != NULL;
 }
 
+int gives_address(int verb)
+{
+	return has_argument(verb, "uint8_t *)");
+}
+
 void store_in(struct arguments *a, struct results *results)
 {
 	memset(results, UNTOUCHED, sizeof *results);
@@ -160,7 +165,7 @@ void print_call(FILE *to, const struct call *call)
 		case 'f': fprintf(to, " %s", call->flush == STRM_FLUSHALL ? "all" : "data"); break;
 		case 'h': fprintf(to, " %lu", (unsigned long)call->hiwat); break;
 		case 'l': fprintf(to, " %lu", (unsigned long)call->lowat); break;
-		case 'o': print_octets(to, call->octets, call->length); break;
+		case 'o': case 'u': print_octets(to, call->octets, call->length); break;
 		default: fprintf(to, " %lu", (unsigned long)call->number); break;
 		}
 	fprintf(to, "\n");

@@ -27,8 +27,8 @@
  * x, X and Z are registers that it takes from, X and Z if their messages are handed over, and v is one whose name need not be valid. y is a
  * register that it puts into, w one of the other pool. g are registers that it takes from, p some that it puts into, as many as an array has
  * items. i is the number of items. q is a queue, k a place, b a band, s a signed number, t a type, f a flush, o octets. h and l are water
- * marks. Other letters are for a number: r of bytes to move by, d for the id of a wish, n for any other. m and e are for the first block of a
- * held and of a queued message.
+ * marks. u are octets that are written where the call found room for them. Other letters are for a number: r of bytes to move by, d for the id
+ * of a wish, n for any other. m and e are for the first block of a held and of a queued message.
  *
  * The calls that the program strm has, too, in the order of the table of strm_pool: */
 #define WORDS(CALL, LOOK) \
@@ -92,6 +92,10 @@
 	CALL(PREPEND, prepend, "xo", (pool, a->x, a->octets, a->length), 6, IS(DONE) | IS(EMPTY) | NOT(STRM_SHARED) | NOT(STRM_NO_ROOM)) \
 	CALL(ADVANCE, advance, "xkr", (pool, a->x, c->place, c->number), 5, \
 		IS(DONE) | IS(EMPTY) | NOT(STRM_NO_SUCH_BLOCK) | NOT(STRM_SHARED) | NOT(STRM_NO_ROOM)) \
+	CALL(ROOM, room, "xku", (pool, a->x, c->place, TO(uint8_t *), a->done), 4, \
+		IS(TOLD_BYTES) | IS(EMPTY) | NOT(STRM_NO_SUCH_BLOCK) | NOT(STRM_SHARED)) \
+	CALL(EDIT, edit, "xku", (pool, a->x, c->place, TO(uint8_t *), a->done), 4, \
+		IS(TOLD_BYTES) | IS(EMPTY) | NOT(STRM_NO_SUCH_BLOCK) | NOT(STRM_SHARED)) \
 	CALL(TRANSFER, transfer, "Xw", (pool, other, a->x, a->y), 6, \
 		IS(DONE) | IS(EMPTY) | NOT(STRM_TOO_LARGE) | NOT(STRM_NO_MBLK) | NOT(STRM_NO_DATA)) \
 	LOOK(QUEUED_AT, queued_at, "qk", (pool, c->queue, c->place, TO(struct strm_queued)), 2, \
@@ -130,9 +134,10 @@ struct form {
 };
 extern const struct form forms[VERBS];
 
-/* Whether the call of a verb names something of these letters, and whether its arguments have this text. */
+/* Whether the call of a verb names something of these letters, whether its arguments have this text, and whether it stores an address. */
 int names(int verb, const char *letters);
 int has_argument(int verb, const char *text);
+int gives_address(int verb);
 
 struct call {
 	enum verb verb;
@@ -187,6 +192,7 @@ struct results {
 		uint32_t numbers[5 * (MOST_ITEMS + 1)];
 		struct strm_iov iov[MOST_ITEMS + 1];
 		const uint8_t *bytes;
+		uint8_t *room;
 		uint8_t octets[MOST_OCTETS + 1];
 	} out;
 	size_t done;

@@ -646,6 +646,84 @@ static void test_place(void)
 	ANSWERS(strm_close(&pool), STRM_OK);
 }
 
+/* Where a call finds room, what is written there is in the message, and a refused call stores no address. */
+static void test_writable(void)
+{
+	struct strm_pool pool = opened(6);
+	struct strm_msg a, copy;
+	uint8_t *room = NULL, *bytes = NULL, *kept;
+	const uint8_t *lent;
+	size_t length = 9;
+
+	ANSWERS(strm_allocb(&pool, 16, &a), STRM_OK);
+	ANSWERS(strm_reserve(&pool, a, 0, 4), STRM_OK);
+	ANSWERS(strm_room(&pool, a, 0, &room, &length), STRM_OK);
+	CHECK(length == 12);
+	memcpy(room, "lions", 5);
+	CHECK(has_bytes(&pool, a, ""));
+	ANSWERS(strm_advance(&pool, a, 0, 4), STRM_OK);
+	CHECK(has_bytes(&pool, a, "lion"));
+	ANSWERS(strm_edit(&pool, a, 0, &bytes, &length), STRM_OK);
+	CHECK(length == 4 && bytes == room);
+	ANSWERS(strm_room(&pool, a, 0, &room, &length), STRM_OK);
+	CHECK(length == 8 && room == bytes + 4 && *room == 's');
+	ANSWERS(strm_bytes(&pool, a, 0, &lent, &length), STRM_OK);
+	CHECK(lent == bytes && length == 4);
+	/* none of these ends an address */
+	bytes[0] = 'L';
+	CHECK(lent[0] == 'L' && has_bytes(&pool, a, "Lion"));
+	ANSWERS(strm_advance(&pool, a, 0, 1), STRM_OK);
+	ANSWERS(strm_prepend(&pool, a, "the ", 4), STRM_OK);
+	CHECK(has_bytes(&pool, a, "the Lions"));
+	/* refused, even for no bytes */
+	kept = room;
+	length = 9;
+	ANSWERS(strm_room(&pool, a, 1, &room, &length), STRM_NO_SUCH_BLOCK);
+	ANSWERS(strm_edit(&pool, a, 1, &room, &length), STRM_NO_SUCH_BLOCK);
+	ANSWERS(strm_edit(&pool, a, 0xFFFFFFFFu, &room, &length), STRM_NO_SUCH_BLOCK);
+	ANSWERS(strm_dupb(&pool, a, &copy), STRM_OK);
+	ANSWERS(strm_room(&pool, a, 1, &room, &length), STRM_NO_SUCH_BLOCK);
+	ANSWERS(strm_room(&pool, a, 0, &room, &length), STRM_SHARED);
+	ANSWERS(strm_edit(&pool, copy, 0, &room, &length), STRM_SHARED);
+	CHECK(room == kept && length == 9);
+	ANSWERS(strm_freemsg(&pool, copy), STRM_OK);
+	/* no room, and no bytes */
+	ANSWERS(strm_advance(&pool, a, 0, 7), STRM_OK);
+	room = NULL;
+	ANSWERS(strm_room(&pool, a, 0, &room, &length), STRM_OK);
+	CHECK(length == 0 && room != NULL);
+	ANSWERS(strm_adjmsg(&pool, a, 16), STRM_OK);
+	bytes = NULL;
+	ANSWERS(strm_edit(&pool, a, 0, &bytes, &length), STRM_OK);
+	CHECK(length == 0 && bytes != NULL);
+	ANSWERS(strm_close(&pool), STRM_OK);
+}
+
+/* The room of two messages is filled by one call of readv. */
+static void test_readv(void)
+{
+	struct strm_pool pool = opened(6);
+	struct strm_msg msgs[2];
+	struct iovec into[2];
+	uint8_t *room = NULL;
+	size_t i, length;
+	int ends[2];
+
+	for (i = 0; i < 2; i++) {
+		ANSWERS(strm_allocb(&pool, 16, &msgs[i]), STRM_OK);
+		ANSWERS(strm_room(&pool, msgs[i], 0, &room, &length), STRM_OK);
+		into[i].iov_base = room;
+		into[i].iov_len = length;
+	}
+	CHECK(pipe(ends) == 0 && write(ends[1], "0123456789abcdefwolf", 20) == 20);
+	CHECK(readv(ends[0], into, 2) == 20);
+	ANSWERS(strm_advance(&pool, msgs[0], 0, 16), STRM_OK);
+	ANSWERS(strm_advance(&pool, msgs[1], 0, 4), STRM_OK);
+	CHECK(has_bytes(&pool, msgs[0], "0123456789abcdef") && has_bytes(&pool, msgs[1], "wolf"));
+	CHECK(close(ends[0]) == 0 && close(ends[1]) == 0);
+	ANSWERS(strm_close(&pool), STRM_OK);
+}
+
 static void test_overwrite(void)
 {
 	static const char many[100] = "";
@@ -1559,6 +1637,8 @@ int main(void)
 	test_writev();
 	test_pointers();
 	test_place();
+	test_writable();
+	test_readv();
 	test_overwrite();
 	test_headroom();
 	test_advance();

@@ -56,7 +56,7 @@ static size_t stored_in_out(const struct call *call, size_t count)
 
 	switch (kind) {
 	case YES: return sizeof(uint32_t);
-	case TOLD_BYTES: return call->verb == BYTES ? sizeof(const uint8_t *) : count;
+	case TOLD_BYTES: return gives_address(call->verb) ? sizeof(const uint8_t *) : count;
 	case TOLD_BLOCKS: return count * sizeof(struct strm_block_info);
 	case TOLD_IOV: return count * sizeof(struct strm_iov);
 	default: return (size_t)numbers_of[kind] * sizeof(uint32_t);
@@ -68,7 +68,7 @@ static size_t counted(struct face *face, const struct call *call, int is_done, c
 {
 	if (!is_done || !has_argument(call->verb, "->done"))
 		return 0;
-	if (call->verb == BYTES || *a->done <= a->length)
+	if (gives_address(call->verb) || *a->done <= a->length)
 		return *a->done;
 	face->broken = 1;
 	return 0;
@@ -110,11 +110,14 @@ static void hand_over(struct face *face, struct face *other, const struct call *
 		given(names(verb, "w") ? other : face, call->y, &results->y);
 }
 
+/* The first bytes that a call gave, after octets were written there if it finds where to write. */
 static struct reply bytes_told(const struct call *call, size_t count, const struct results *results)
 {
 	struct reply reply = told(TOLD_BYTES, (uint32_t)count, 0);
 
-	memcpy(reply.octets, call->verb == BYTES ? results->out.bytes : results->out.octets, count < MOST_OCTETS ? count : MOST_OCTETS);
+	if (names(call->verb, "u"))
+		memcpy(results->out.room, call->octets, count < call->length ? count : call->length);
+	memcpy(reply.octets, gives_address(call->verb) ? results->out.bytes : results->out.octets, count < MOST_OCTETS ? count : MOST_OCTETS);
 	return reply;
 }
 

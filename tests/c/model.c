@@ -674,6 +674,24 @@ static struct reply advanced(struct model *v, const struct call *call)
 	return reply_of(DONE);
 }
 
+/* Writes octets where a call found room for them, as many as fit, and tells the bytes there. */
+static struct reply found(struct model *v, const struct call *call)
+{
+	struct cell *cell = cell_at(v->registers[call->x], call->place);
+	int why = why_not_own(v, cell);
+	struct reply reply = reply_of(TOLD_BYTES);
+	uint32_t from, count;
+
+	if (why != 0)
+		return refused(why);
+	from = call->verb == ROOM ? cell->write : cell->read;
+	count = (call->verb == ROOM ? capacity(v, cell->datum) : cell->write) - from;
+	memcpy(cell->datum->bytes + from, call->octets, count < call->length ? count : call->length);
+	memcpy(reply.octets, cell->datum->bytes + from, count < MOST_OCTETS ? count : MOST_OCTETS);
+	reply.numbers[0] = count;
+	return reply;
+}
+
 static struct reply typed(struct model *v, const struct call *call)
 {
 	struct cell *cell = cell_at(v->registers[call->x], call->place);
@@ -929,6 +947,8 @@ static struct reply act_on_messages(struct model *v, const struct call *call)
 		return reserved(v, call);
 	case PREPEND:
 		return prepended(v, call);
+	case ROOM: case EDIT:
+		return found(v, call);
 	case ADVANCE:
 		return advanced(v, call);
 	case FREEB:

@@ -11,3 +11,4 @@ pub mod Serial
 pub mod Measuring
 pub mod Loans
 pub mod Readers
+pub mod Finding

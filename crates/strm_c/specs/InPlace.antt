@@ -1,5 +1,5 @@
 -- Bytes that C reads where they are, and arrays with an item for each block of a message.
-use Rattle.std.specs.Prelude.{◌≡◌, ℕ, ◌-◌, min, List, [], drop, length, map, take, None, Some, Result, Ok, Err, if◌then◌else◌}
+use Rattle.std.specs.Prelude.{◌≡◌, ℕ, ◌-◌, min, List, [], drop, length, map, take, None, Some, Result, Ok, Err, IfOk, if◌then◌else◌}
 use Rattle.std.specs.List.{All}
 use denote.RawPtr.{InBlock, Ptr}
 use Rattle.strm_mblk.specs.Arena.{message_at}
@@ -33,6 +33,13 @@ StoresAddress (Err code) was is = is ≡ was
 abbrev pub AsksAddress : {Z : Type 0} → (NamedValue → Answer Z) → Held → Ptr → Ptr → Type 0
 AsksAddress answer None was is = is ≡ was
 AsksAddress answer (Some v) was is = StoresAddress (answer v) was is
+
+-- A call that finds where these bytes of a message are, for C to write there, or why it may not: an address and their number. The pool
+-- stays as it was.
+pub record Finds (lent : Result (List ℕ) Fault) (old new : NamedValue) (result : Result (Ptr × ℕ) Fault) : Type 0 where
+  pub number : answer_of_result (λ found. Ok found.1) result ≡ number_lent lent
+  pub address : IfOk result (λ found. IsAddress found.0)
+  pub same : new ≡ old
 
 -- ---- arrays of blocks
 

@@ -34,6 +34,7 @@ mod transferring;
 mod view;
 mod view_pointer;
 mod wishes;
+mod writable;
 
 pub use code::Code;
 pub use handle::StrmPool;
