@@ -1,7 +1,11 @@
 //! The pool with names: what it is made of, and what it says of names, queues and blocks.
-ghost use Rattle.std.specs.Prelude.{◌≡◌, ◌&&◌, IfOk, length, not, ◌==◌};
+ghost use Rattle.std.specs.Prelude.{◌≡◌, ◌&&◌, IfOk, Ok, length, not, ◌==◌};
+ghost use Rattle.strm_mblk.specs.Arena.{with_least_reset};
+ghost use Rattle.strm_mblk.specs.Given.{given_nothing};
+ghost use Rattle.strm_named.specs.NamedCalls.{LeavesNames};
 ghost use Rattle.strm_named.specs.NamedValue.{HasNoNames, OpensNamed, is_valid, name_at};
 ghost use Rattle.strm_pool.specs.Lawful.{IsLawful};
+ghost use Rattle.strm_pool.specs.PoolValue.{on_arena};
 
 mod blocks;
 mod in_place;
@@ -67,6 +71,15 @@ impl NamedPool {
         ensures { result.now ≡ self.now.pool }
     {
         &self.pool
+    }
+
+    /// Makes the message blocks and data blocks that are free now the fewest that were free. Changes no name. As
+    /// [`Pool::reset_least`] of strm_pool.
+    pub fn reset_least(&mut self)
+        ensures { LeavesNames (on_arena self.old.pool (given_nothing (with_least_reset self.old.pool.arena)))
+            self.old self.new (Ok tt) }
+    {
+        self.pool.reset_least();
     }
 
     /// Says whether a name is valid: it has this pool's id, a message is held at its head, and its stamp is the last one of

@@ -2,10 +2,10 @@
 ghost use Rattle.std.specs.Prelude.{◌≡◌, true, IfOk, IsTrue, None, slice_get};
 ghost use Rattle.std.specs.Option.{option_map_or};
 ghost use Rattle.strm_data.specs.DataStore.{class_infos};
-ghost use Rattle.strm_mblk.specs.Arena.{census_of, has};
+ghost use Rattle.strm_mblk.specs.Arena.{census_of, has, with_least_reset};
 ghost use Rattle.strm_pool.specs.Config.{fault_of};
 ghost use Rattle.strm_pool.specs.Lawful.{IsLawful};
-ghost use Rattle.strm_pool.specs.PoolValue.{Opens, has_queue, opening_pool, owns};
+ghost use Rattle.strm_pool.specs.PoolValue.{Opens, has_queue, opening_pool, owns, with_arena};
 ghost use Rattle.strm_pool.specs.Registers.{CarryId, AreOfHeld, entries_of};
 ghost use Rattle.strm_queue.specs.QueuedBlocks.{Agrees};
 
@@ -150,6 +150,14 @@ impl Pool {
         ensures { result ≡ slice_get (class_infos self.now.arena.store) class }
     {
         self.blocks.class_info(class)
+    }
+
+    /// Makes the message blocks and data blocks that are free now the fewest that were free, which
+    /// [`Blocks::least_free_blocks`] and [`Blocks::least_free`] of strm_mblk return. As [`Blocks::reset_least`] of it.
+    pub fn reset_least(&mut self)
+        ensures { self.new ≡ with_arena self.old (with_least_reset self.old.arena) }
+    {
+        self.blocks.reset_least();
     }
 
     /// Counts message blocks: free, queued and held. As [`Blocks::census`] of strm_mblk.
