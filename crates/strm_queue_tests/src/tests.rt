@@ -11,6 +11,7 @@ use strm_mblk::{Blocks, MOST_MESSAGE_BLOCKS, Rejected, Token};
 use strm_queue::{BANDS, QueueSpec, Queues};
 
 mod bench;
+mod noted;
 mod reading;
 mod rows;
 

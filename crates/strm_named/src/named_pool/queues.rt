@@ -2,6 +2,7 @@
 ghost use Rattle.std.specs.Prelude.{Ok, [], ◌∷◌};
 ghost use Rattle.strm_named.specs.NamedCalls.{Does, LeavesNames, any_message, on_name, one_message, outcome_of, no_message};
 ghost use Rattle.strm_pool.specs.PoolValue.{on_queues, queued_blocks_of};
+ghost use Rattle.strm_queue.specs.HeadCalls as by_head;
 ghost use Rattle.strm_queue.specs.QueueCalls as queues;
 
 use super::NamedPool;
@@ -55,6 +56,21 @@ impl NamedPool {
         self.places.spend(put)
     }
 
+    /// Puts a message on a queue before the queued one with this head, or last if none is given, and spends its name. Refused
+    /// as `Invalid`, `NoSuchQueue`, `NoSuchPlace`, then `BadOrder`. As [`Queues::insq_before`] of strm_queue.
+    pub fn insq_before(&mut self, queue: u8, before: Option<u32>, name: Name) -> Result<(), Fault>
+        ensures { Does no_message (on_name self.old name (on_queues self.old.pool
+            (by_head.insq_before queue before name.head (queued_blocks_of self.old.pool)))) (name.head ∷ [])
+            self.old self.new result }
+    {
+        if !self.has(name) {
+            return Err(Fault::Invalid);
+        }
+        let token = taken(&self.pool, &mut self.places, name);
+        let put = self.pool.insq_before(queue, before, token);
+        self.places.spend(put)
+    }
+
     /// Removes the first message of a queue, if any, and returns its new name. Refused as `NoSuchQueue`. As [`Queues::getq`] of
     /// strm_queue.
     pub fn getq(&mut self, queue: u8) -> Result<Option<Name>, Fault>
@@ -73,6 +89,16 @@ impl NamedPool {
             (queues.rmvq queue place (queued_blocks_of self.old.pool)))) [] self.old self.new result }
     {
         let given = self.pool.rmvq(queue, place);
+        self.places.answer(given)
+    }
+
+    /// Removes the queued message with this head from its queue, and returns its new name. Refused as `NoSuchPlace`. As
+    /// [`Queues::rmvq_head`] of strm_queue.
+    pub fn rmvq_head(&mut self, head: u32) -> Result<Name, Fault>
+        ensures { Does one_message (outcome_of (on_queues self.old.pool
+            (by_head.rmvq_head head (queued_blocks_of self.old.pool)))) [] self.old self.new result }
+    {
+        let given = self.pool.rmvq_head(head);
         self.places.answer(given)
     }
 }

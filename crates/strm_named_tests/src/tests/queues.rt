@@ -66,6 +66,27 @@ fn puts_and_gets(rt: HostRuntime) {
     assert_census(&rt, &pool, (5, 1, 2));
 }
 
+// Messages are inserted and removed by their heads: queue 0 has 1, 0 and 2, and then 1, 3, 0 and 2.
+#[test]
+fn inserts_and_removes_by_head(rt: HostRuntime) {
+    let mut pool = opened(&rt, rt.alloc(), 1);
+    filled(&rt, &mut pool);
+    let fourth = message(&rt, &mut pool, b"four");
+    let missing = Err(Fault::Refused(Refusal::NoSuchPlace));
+    assert_is(&rt, pool.insq_before(0, Some(3), fourth), missing);
+    assert_is(&rt, pool.insq_before(0, Some(0), fourth), Ok(()));
+    assert_invalid(&rt, &mut pool, fourth);
+    assert_is(&rt, pool.rmvq_head(0), Ok(name(0, 2)));
+    let missing = Err(Fault::Refused(Refusal::NoSuchPlace));
+    assert_is(&rt, pool.rmvq_head(0), missing);
+    assert_is(&rt, pool.insq_before(0, None, name(0, 2)), Ok(()));
+    assert_got(&rt, &mut pool, Some(name(1, 2)));
+    assert_got(&rt, &mut pool, Some(name(3, 2)));
+    assert_got(&rt, &mut pool, Some(name(2, 2)));
+    assert_got(&rt, &mut pool, Some(name(0, 3)));
+    assert_census(&rt, &pool, (4, 0, 4));
+}
+
 #[test]
 fn records_wishes(rt: HostRuntime) {
     let mut pool = opened(&rt, rt.alloc(), 1);

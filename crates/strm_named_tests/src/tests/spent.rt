@@ -50,6 +50,7 @@ fn assert_not_put(rt: &impl Abort, pool: &mut NamedPool, name: Name) {
     assert_is(rt, pool.putq(0, name), Err(Fault::Invalid));
     assert_is(rt, pool.putbq(0, name), Err(Fault::Invalid));
     assert_is(rt, pool.insq(0, 0, name), Err(Fault::Invalid));
+    assert_is(rt, pool.insq_before(0, None, name), Err(Fault::Invalid));
 }
 
 // Each call refuses this name as `Invalid`.

@@ -2,6 +2,7 @@
 ghost use Rattle.strm_queue.specs.QueuedBlocks.{Agrees};
 
 use super::Bench;
+use crate::tests::noted::Noted;
 use crate::tests::{Draft, assert_put, drafted, duplicated, linked, rank_of};
 use std::process::Abort;
 use strm_data::Refusal;
@@ -286,6 +287,38 @@ impl Bench {
                 panic!(rt; "a message was there");
             }
             Err(why) => assert!(rt; why == Refusal::NoSuchPlace),
+        }
+    }
+
+    // `take_flushed`, of at most this number, or `take_flushed_band` if a band is given, takes messages with these heads. They
+    // stay held.
+    pub(in crate::tests) fn take_flushed(
+        &mut self,
+        rt: &impl Abort,
+        at: (u8, Option<u8>),
+        how: (Flush, u32),
+        wanted: Result<&[u32], Refusal>,
+    )
+        requires { Agrees self.old.queues self.old.blocks }
+        ensures { Agrees self.new.queues self.new.blocks }
+    {
+        let mut noted = Noted::none();
+        let (flush, most) = how;
+        let answer = match at.1 {
+            Some(band) => self
+                .queues
+                .take_flushed_band(&mut self.blocks, at.0, band, flush, most, &mut noted),
+            None => self
+                .queues
+                .take_flushed(&mut self.blocks, at.0, flush, most, &mut noted),
+        };
+        match (answer, wanted) {
+            (Ok(count), Ok(heads)) => {
+                assert!(rt; count as usize == heads.len() && noted.are(heads));
+            }
+            (Err(why), Err(refusal)) => assert!(rt; why == refusal && noted.are(&[])),
+            (Ok(_), Err(_)) => panic!(rt; "it was not refused"),
+            (Err(_), Ok(_)) => panic!(rt; "it was refused"),
         }
     }
 

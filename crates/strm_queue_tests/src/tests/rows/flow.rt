@@ -191,6 +191,16 @@ fn settled_by_its_head(rt: HostRuntime) {
     bench.assert_waiting(&rt, &[0]);
 }
 
+// `take_flushed_band` settles the queue, once its messages are taken.
+#[test]
+fn settled_by_what_is_taken(rt: HostRuntime) {
+    let mut bench = chained(&rt, rt.alloc());
+    bench.bcanput(&rt, (1, 3), Ok(false));
+    bench.take_flushed(&rt, (3, Some(3)), (Flush::All, 1), Ok(&[1]));
+    bench.assert_band(&rt, (3, 3), 4, (false, false));
+    bench.assert_waiting(&rt, &[0]);
+}
+
 // A queue with a service procedure is its own target, even if it has a next queue. With no queue behind it, it has no waker.
 #[test]
 fn own_target(rt: HostRuntime) {

@@ -2,7 +2,7 @@
 use super::{CLASSES, chained, of_band};
 use crate::tests::bench::Bench;
 use crate::tests::{Draft, QUEUE};
-use strm_data::{ClassSpec, MsgType};
+use strm_data::{ClassSpec, MsgType, Refusal};
 use strm_queue::{Flush, QueueSpec};
 
 const ONE_BLOCK: [ClassSpec; 1] = [ClassSpec { size: 8, count: 1 }];
@@ -42,6 +42,30 @@ fn data_or_all_of_a_queue_or_a_band(rt: HostRuntime) {
     bench.assert_heads(&rt, 0, &[2]);
     bench.flushq(&rt, 0, Flush::All, Ok(()));
     bench.assert_heads(&rt, 0, &[]);
+}
+
+// `take_flushed` takes messages that a flush frees, in order and at most the given number.
+#[test]
+fn takes_what_a_flush_frees(rt: HostRuntime) {
+    let mut bench = Bench::opened(&rt, rt.alloc(), &CLASSES, &QUEUES);
+    bench.put_new(&rt, 0, message(MsgType::MCtl, 0));
+    bench.put_new(&rt, 0, message(MsgType::MDelay, 0));
+    bench.put_new(&rt, 0, message(MsgType::MPcproto, 0));
+    bench.put_new(&rt, 0, message(MsgType::MData, 5));
+    bench.put_new(&rt, 0, message(MsgType::MData, 0));
+    bench.assert_heads(&rt, 0, &[2, 3, 0, 1, 4]);
+    bench.take_flushed(&rt, (0, None), (Flush::Data, 2), Ok(&[2, 3]));
+    bench.take_flushed(&rt, (0, None), (Flush::Data, 0), Ok(&[]));
+    bench.assert_heads(&rt, 0, &[0, 1, 4]);
+    bench.put_new(&rt, 0, message(MsgType::MData, 5));
+    bench.take_flushed(&rt, (0, Some(0)), (Flush::Data, 9), Ok(&[1, 4]));
+    bench.assert_heads(&rt, 0, &[5, 0]);
+    bench.take_flushed(&rt, (0, Some(5)), (Flush::All, 1), Ok(&[5]));
+    bench.take_flushed(&rt, (0, None), (Flush::All, 9), Ok(&[0]));
+    bench.assert_heads(&rt, 0, &[]);
+    let missing = Err(Refusal::NoSuchQueue);
+    bench.take_flushed(&rt, (2, None), (Flush::All, 9), missing);
+    bench.take_flushed(&rt, (2, Some(0)), (Flush::All, 9), missing);
 }
 
 // Data that two messages reference is free once both are flushed.
