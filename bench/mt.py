@@ -1,7 +1,7 @@
 #!/usr/bin/env python3
 """Measures how fast messages go from producers to consumers: over strm_mt.h, over a mutex and two condition variables with GLib's GQueue, over
 DPDK's rte_ring with spinning, over a pipe, and over a channel of Go, where Debian's packages are installed. Then it prints what sending and
-receiving costs where nobody waits, and draws build/waiting.svg: how long senders in four bands wait at a slow consumer.
+receiving costs where nobody waits, and how long messages in four bands wait at a slow consumer, which build/waiting.svg shows.
 
     bench/mt.py [--turns N] LIBRARY
 """
@@ -87,9 +87,11 @@ def main():
             print(f"| {work[0]} | {work[1]} | {work[2]} | " + " | ".join(f"{fast:,.0f} | {late / 1000:.0f}" for fast, late in rows) + " |")
         ours = programs["strm_mt.h"][0]
         print("\nWhere nobody waits, ns: " + ", ".join(out_of([ours, "uncontended"]).splitlines()))
+        lines = out_of([ours, "bands"]).splitlines()
+        print("98 % of messages in bands 0 to 3 wait at most, ms: " + ", ".join(f"{int(line.split()[-1]) / 1e6:.0f}" for line in lines))
         os.makedirs(os.path.join(TOP, "build"), exist_ok=True)
         with open(os.path.join(TOP, "build", "waiting.svg"), "w", encoding="utf-8") as file:
-            file.write(drawn(out_of([ours, "bands"]).splitlines()))
+            file.write(drawn(lines))
 
 
 main()
