@@ -3,7 +3,7 @@
  * loop reads sockets while their queues have room; the other takes messages while sockets take bytes. So a slow reader holds back a fast
  * writer, and not the other direction. The far ends of both sockets are in this program too, and send each other numbers.
  *
- *     cc relay.c $(pkg-config --cflags --libs strm) -lstrm_mt -pthread -o relay
+ *     cc sockets.c $(pkg-config --cflags --libs strm) -lstrm_mt -pthread -o sockets
  */
 #define _GNU_SOURCE
 #include <strm_mt.h>
@@ -32,7 +32,7 @@ static void must(int holds, const char *what)
 {
 	if (holds)
 		return;
-	fprintf(stderr, "relay: no %s\n", what);
+	fprintf(stderr, "sockets: no %s\n", what);
 	exit(EXIT_FAILURE);
 }
 
