@@ -2,7 +2,7 @@
 FROM debian:bookworm
 RUN apt-get update && apt-get install -y --no-install-recommends binutils clang cmake dpkg g++ gcc gcc-aarch64-linux-gnu gdb git libc6-dev \
     libc6-dev-arm64-cross libgcc-12-dev make mandoc meson mypy nodejs pkgconf pyflakes3 python3 python3-hypothesis python3-pip qemu-user \
-    shellcheck valgrind zsh && rm -rf /var/lib/apt/lists/*
+    shellcheck spin valgrind zsh && rm -rf /var/lib/apt/lists/*
 # Whoever runs it need not own the clone.
 RUN git config --system --add safe.directory '*'
 WORKDIR /strm
