@@ -97,8 +97,8 @@
  *
  * A name has its pool's id, the number of the message's first block, and a stamp. It is valid from
  * the call that returns it until the message is handed over. These calls hand over: strm_freemsg,
- * strm_freeb, strm_rmvb, strm_transfer, strm_putq, strm_putbq, strm_insq, the _n calls that free or
- * put, strm_linkb its tail, and strm_close all.
+ * strm_freeb, strm_rmvb, strm_transfer, strm_putq, strm_putbq, strm_insq, strm_insq_at, the _n calls
+ * that free or put, strm_linkb its tail, and strm_close all.
  *
  * A pool never gives a name a second time: a message that comes off a queue, or is parted from
  * another, has a new one. Only strm_name_at returns a name that was given before. So a caller that
@@ -317,6 +317,9 @@ struct strm_queue_spec {
 	uint32_t next;			/* the next queue, numbered above this one and next of no other; or STRM_NO_QUEUE */
 };
 #define STRM_NO_QUEUE 0xFFFFFFFFu
+
+/* The number of no block: strm_insq_at puts a message last. Since 0.4.0. */
+#define STRM_NO_HEAD 0xFFFFFFFFu
 
 /* What strm_open opens. */
 struct strm_config {
@@ -810,6 +813,14 @@ int strm_putbq(struct strm_pool *pool, uint32_t queue, struct strm_msg msg);
 int strm_insq(struct strm_pool *pool, uint32_t queue, uint32_t place, struct strm_msg msg);
 
 /*
+ * Puts a message on a queue as strm_insq does, before the message there whose first block is
+ * `before`, or last if that is STRM_NO_HEAD. Takes constant time. Since 0.4.0.
+ * Refused as STRM_NO_SUCH_PLACE if no message on this queue begins with that block; STRM_BAD_ORDER.
+ * STREAMS: insq; a number replaces the pointer.
+ */
+int strm_insq_at(struct strm_pool *pool, uint32_t queue, uint32_t before, struct strm_msg msg);
+
+/*
  * Takes the first message off a queue, clears the want-to-read mark (QWANTR), and settles the
  * queue. If the queue is empty, sets the want-to-read mark and returns STRM_NONE.
  * Differs from STREAMS: a band settles at its low water mark, not only below.
@@ -822,6 +833,14 @@ int strm_getq(struct strm_pool *pool, uint32_t queue, struct strm_msg *msg);
  * Differs from STREAMS: you pass a place, and settling differs as at strm_getq.
  */
 int strm_rmvq(struct strm_pool *pool, uint32_t queue, uint32_t place, struct strm_msg *msg);
+
+/*
+ * Takes the message whose first block is `head` off its queue, and settles the queue. Takes
+ * constant time. Since 0.4.0.
+ * Refused as STRM_NO_SUCH_PLACE if no message on a queue begins with that block.
+ * STREAMS: rmvq, whose caller also passes the queue; settling differs as at strm_getq.
+ */
+int strm_rmvq_msg(struct strm_pool *pool, uint32_t head, struct strm_msg *msg);
 
 /* Counts the messages on a queue. As in STREAMS. */
 int strm_qsize(const struct strm_pool *pool, uint32_t queue, uint32_t *msgs);

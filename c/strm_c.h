@@ -41,9 +41,11 @@ struct strm_reader {
 	CALL(putq, (struct strm_pool *pool, uint32_t queue, struct strm_msg msg), (pool, queue, msg), 1) \
 	CALL(putbq, (struct strm_pool *pool, uint32_t queue, struct strm_msg msg), (pool, queue, msg), 1) \
 	CALL(insq, (struct strm_pool *pool, uint32_t queue, uint32_t place, struct strm_msg msg), (pool, queue, place, msg), 1) \
+	CALL(insq_at, (struct strm_pool *pool, uint32_t queue, uint32_t before, struct strm_msg msg), (pool, queue, before, msg), 1) \
 	CALL(getq, (struct strm_pool *pool, uint32_t queue, struct strm_msg *msg), (pool, queue, msg), msg != NULL) \
 	CALL(rmvq, (struct strm_pool *pool, uint32_t queue, uint32_t place, struct strm_msg *msg), \
 		(pool, queue, place, msg), msg != NULL) \
+	CALL(rmvq_msg, (struct strm_pool *pool, uint32_t head, struct strm_msg *msg), (pool, head, msg), msg != NULL) \
 	CALL(flushq, (struct strm_pool *pool, uint32_t queue, uint32_t flush), (pool, queue, flush), 1) \
 	CALL(flushband, (struct strm_pool *pool, uint32_t queue, uint32_t band, uint32_t flush), (pool, queue, band, flush), 1) \
 	CALL(bcanput, (struct strm_pool *pool, uint32_t queue, uint32_t band, uint32_t *yes), \

@@ -531,7 +531,7 @@ static inline union value of_pointer(const void *at)
 
 #define KIND(x) _Generic((x), struct strm_pool *: CALLED, const struct strm_pool *: SEEN, struct strm_msg: MSG, uint32_t: NUMBER, \
 	int32_t: SIGNED, size_t: LENGTH, const void *: IN_BYTES, const struct strm_msg *: IN_MSGS, void *: OUT_BYTES, \
-	struct strm_msg *: OUT_MSG, size_t *: OUT_LENGTH, const uint8_t **: OUT_ADDRESS, \
+	struct strm_msg *: OUT_MSG, size_t *: OUT_LENGTH, const uint8_t **: OUT_ADDRESS, uint8_t **: OUT_ADDRESS, \
 	struct strm_iov *: OUT_IOV, default: OUT_FIELDS)
 #define NAMES(x) _Generic((x), struct strm_block_info *: "type length band room names", \
 	struct strm_block_place *: "data at length capacity", struct strm_queued *: "head type band bytes blocks", \
@@ -556,7 +556,7 @@ static inline union value of_pointer(const void *at)
 #define VALUES(...) EACH(VALUE, __VA_ARGS__)
 
 /* Whether a message that a call returns is new, or one of its parts, and no message of a queue or a name that was there. */
-#define IS_NEW(call) (strncmp(#call, "getq", 4) != 0 && strcmp(#call, "rmvq") != 0 && strcmp(#call, "name_at") != 0)
+#define IS_NEW(call) (strncmp(#call, "getq", 4) != 0 && strncmp(#call, "rmvq", 4) != 0 && strcmp(#call, "name_at") != 0)
 
 /* Defines the call of a row. */
 #define DEFINE(call, parameters, arguments, fits) \

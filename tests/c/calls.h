@@ -107,6 +107,9 @@
 	LOOK(QUEUED_AFTER, queued_after, "e", (pool, c->number, TO(uint32_t)), 3, IS(TOLD_HEAD) | IS(NOTHING) | NOT(STRM_NO_SUCH_PLACE)) \
 	LOOK(QUEUED_BEFORE, queued_before, "e", (pool, c->number, TO(uint32_t)), 3, IS(TOLD_HEAD) | IS(NOTHING) | NOT(STRM_NO_SUCH_PLACE)) \
 	LOOK(QUEUE_OF, queue_of, "e", (pool, c->number, TO(uint32_t)), 2, IS(TOLD_QUEUE) | NOT(STRM_NO_SUCH_PLACE)) \
+	CALL(INSQ_AT, insq_at, "qeX", (pool, c->queue, c->number, a->x), 6, \
+		IS(DONE) | IS(EMPTY) | NOT(STRM_NO_SUCH_QUEUE) | NOT(STRM_NO_SUCH_PLACE) | NOT(STRM_BAD_ORDER)) \
+	CALL(RMVQ_MSG, rmvq_msg, "ey", (pool, c->number, a->y), 3, IS(DONE) | NOT(STRM_NO_SUCH_PLACE)) \
 	LOOK(QUEUE_SPEC, queue_spec, "q", (pool, c->queue, TO(struct strm_queue_spec)), 1, IS(TOLD_SPEC) | NOT(STRM_NO_SUCH_QUEUE)) \
 	LOOK(RUN_AT, run_at, "k", (pool, c->place, TO(uint32_t)), 1, IS(TOLD_QUEUE) | IS(NOTHING)) \
 	LOOK(WISH_AT, wish_at, "k", (pool, c->place, TO(struct strm_wish)), 1, IS(TOLD_READY) | IS(NOTHING)) \

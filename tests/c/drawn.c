@@ -156,6 +156,8 @@ static struct call drawn_call(const struct model *model, const struct model *oth
 		draw_many(model, &call, names(call.verb, "g"));
 	if (names(call.verb, "r") && below(4) > 0)
 		call.number = below(8);
+	if (names(call.verb, "e") && below(16) == 0)
+		call.number = STRM_NO_HEAD;
 	if (names(call.verb, "ou"))
 		for (i = 0; i < call.length; i++)
 			call.octets[i] = (uint8_t)below(256);

@@ -1069,6 +1069,52 @@ static void test_order(void)
 	ANSWERS(strm_close(&pool), STRM_OK);
 }
 
+/* Messages are put before a queued one, and taken, by their first blocks. */
+static void test_order_by_heads(void)
+{
+	struct strm_pool pool = opened(8);
+	struct strm_msg a = message(&pool, "a"), b = message(&pool, "b"), c = message(&pool, "c"), d = message(&pool, "d"), tail = message(&pool, "e");
+	struct strm_msg out, kept = STRM_NO_MSG, gone = a;
+	uint32_t head;
+
+	ANSWERS(strm_linkb(&pool, b, tail), STRM_OK);
+	ANSWERS(strm_setband(&pool, b, 2), STRM_OK);
+	ANSWERS(strm_setband(&pool, d, 2), STRM_OK);
+	ANSWERS(strm_insq_at(&pool, 3, STRM_NO_HEAD, a), STRM_NO_SUCH_QUEUE);
+	ANSWERS(strm_insq_at(&pool, 3, 99, a), STRM_NO_SUCH_QUEUE);
+	ANSWERS(strm_insq_at(&pool, 2, STRM_NO_HEAD, a), STRM_OK);
+	ANSWERS(strm_insq_at(&pool, 2, STRM_NO_HEAD, gone), STRM_INVALID);
+	ANSWERS(strm_insq_at(&pool, 2, STRM_NO_HEAD, b), STRM_BAD_ORDER);
+	/* itself, on another queue, free, and not there */
+	ANSWERS(strm_insq_at(&pool, 2, b.head, b), STRM_NO_SUCH_PLACE);
+	ANSWERS(strm_insq_at(&pool, 1, a.head, b), STRM_NO_SUCH_PLACE);
+	ANSWERS(strm_insq_at(&pool, 2, 7, b), STRM_NO_SUCH_PLACE);
+	ANSWERS(strm_insq_at(&pool, 2, 8, b), STRM_NO_SUCH_PLACE);
+	ANSWERS(strm_insq_at(&pool, 2, 0xFFFFFFFEu, b), STRM_NO_SUCH_PLACE);
+	ANSWERS(strm_insq_at(&pool, 2, a.head, b), STRM_OK);
+	ANSWERS(strm_insq_at(&pool, 2, tail.head, c), STRM_NO_SUCH_PLACE);
+	ANSWERS(strm_insq_at(&pool, 2, b.head, c), STRM_BAD_ORDER);
+	ANSWERS(strm_insq_at(&pool, 2, a.head, c), STRM_OK);
+	ANSWERS(strm_insq_at(&pool, 2, b.head, d), STRM_OK);
+	ANSWERS(strm_rmvq_msg(&pool, tail.head, &kept), STRM_NO_SUCH_PLACE);
+	ANSWERS(strm_rmvq_msg(&pool, 7, &kept), STRM_NO_SUCH_PLACE);
+	ANSWERS(strm_rmvq_msg(&pool, STRM_NO_HEAD, &kept), STRM_NO_SUCH_PLACE);
+	CHECK(strm_is_no_msg(kept));
+	ANSWERS(strm_rmvq_msg(&pool, c.head, &out), STRM_OK);
+	CHECK(has_bytes(&pool, out, "c") && out.head == c.head && out.stamp == c.stamp + 1);
+	ANSWERS(strm_rmvq_msg(&pool, c.head, &kept), STRM_NO_SUCH_PLACE);
+	ANSWERS(strm_rmvq_msg(&pool, d.head, &out), STRM_OK);
+	CHECK(has_bytes(&pool, out, "d"));
+	ANSWERS(strm_rmvq_msg(&pool, a.head, &out), STRM_OK);
+	CHECK(has_bytes(&pool, out, "a"));
+	ANSWERS(strm_first_queued(&pool, 2, &head), STRM_OK);
+	CHECK(head == b.head);
+	ANSWERS(strm_rmvq_msg(&pool, head, &out), STRM_OK);
+	CHECK(has_bytes(&pool, out, "be"));
+	CENSUS(&pool, 3, 0, 5);
+	ANSWERS(strm_close(&pool), STRM_OK);
+}
+
 /* The report of the scene that its first line says, as much of it as fits. */
 static void test_report(void)
 {
@@ -1647,6 +1693,7 @@ int main(void)
 	test_transfer();
 	test_transfer_refused();
 	test_order();
+	test_order_by_heads();
 	test_looks_at_queues();
 	test_report();
 	test_several();

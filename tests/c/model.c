@@ -1011,6 +1011,39 @@ static struct reply got(struct model *v, const struct call *call)
 	return reply_of(DONE);
 }
 
+/* The place on a queue of the message whose first block has this number; without one, that behind the last. */
+static uint32_t place_of(const struct model *v, uint32_t q, uint32_t head)
+{
+	const struct item *item = v->queues[q].items;
+	uint32_t place = 0;
+
+	for (; item != NULL && item->message->number != head; item = item->next)
+		place++;
+	return place;
+}
+
+static struct reply inserted_at(struct model *v, const struct call *call)
+{
+	struct call placed = *call;
+
+	placed.place = place_of(v, call->queue, call->number);
+	if (*link_at(v, call->queue, placed.place) == NULL && call->number != STRM_NO_HEAD)
+		return refused(STRM_NO_SUCH_PLACE);
+	return inserted(v, &placed);
+}
+
+static struct reply got_by_head(struct model *v, const struct call *call)
+{
+	struct call placed = *call;
+
+	for (placed.queue = 0; placed.queue < v->queue_count; placed.queue++) {
+		placed.place = place_of(v, placed.queue, call->number);
+		if (*link_at(v, placed.queue, placed.place) != NULL)
+			return got(v, &placed);
+	}
+	return refused(STRM_NO_SUCH_PLACE);
+}
+
 static struct reply flushed(struct model *v, const struct call *call)
 {
 	struct item **at = &v->queues[call->queue].items;
@@ -1107,6 +1140,8 @@ static struct reply act_on_queue(struct model *v, const struct call *call)
 		return put(v, call);
 	case INSQ:
 		return inserted(v, call);
+	case INSQ_AT:
+		return inserted_at(v, call);
 	case GETQ: case RMVQ:
 		return got(v, call);
 	case FLUSHQ: case FLUSHBAND:
@@ -1276,6 +1311,8 @@ static struct reply act_on_pool(struct model *v, const struct call *call)
 		return name_told(v, call->number);
 	case QUEUED_AFTER: case QUEUED_BEFORE: case QUEUE_OF:
 		return neighbour_told(v, call);
+	case RMVQ_MSG:
+		return got_by_head(v, call);
 	default:
 		return told_from(TOLD_CENSUS, &census);
 	}
@@ -1346,7 +1383,7 @@ struct reply model_apply(struct model *v, struct model *other, const struct call
 		return other->registers[call->y] != NULL ? reply_of(TAKEN) : transferred(v, other, call);
 	if (names(verb, "q"))
 		return act_on_queue(v, call);
-	if (names(verb, "xXy"))
+	if (names(verb, "xXy") && !names(verb, "e"))
 		return act_on_messages(v, call);
 	return act_on_pool(v, call);
 }

@@ -34,6 +34,10 @@ use Rattle.strm_c.specs.declared.layout.StrmWish.{StrmWish}
 abbrev pub capped_number : ℕ → ℕ
 capped_number n = if nat_lt n 255 then n else 255
 
+-- the number of the first block of the message before which another is put; 2^32 - 1 means none, as no block has that number
+abbrev pub head_before : ℕ → Option ℕ
+head_before n = if n == 4294967295 then None else Some n
+
 -- the number of a band
 abbrev pub band_of : ℕ → Option ℕ
 band_of n = if nat_lt n 256 then Some n else None

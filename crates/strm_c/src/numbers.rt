@@ -1,6 +1,6 @@
 //! What numbers from C mean as queues, bands, types and flushes.
 ghost use Rattle.std.specs.Prelude.{◌≡◌, slice_get};
-ghost use Rattle.strm_c.specs.InC.{band_of, capped_number, flush_of, next_in_c, type_of};
+ghost use Rattle.strm_c.specs.InC.{band_of, capped_number, flush_of, head_before, next_in_c, type_of};
 ghost use Rattle.strm_c.specs.Opening.{next_of};
 
 use strm_pool::{Flush, MsgType};
@@ -30,6 +30,17 @@ pub(crate) fn number_of_next(next: Option<u8>) -> u32
     match next {
         Some(queue) => u32::from(queue),
         None => u32::MAX,
+    }
+}
+
+// The number of the first block of the message before which another is put; 2^32 - 1 means none.
+pub(crate) fn head_before(number: u32) -> Option<u32>
+    ensures { result ≡ head_before number }
+{
+    if number == u32::MAX {
+        None
+    } else {
+        Some(number)
     }
 }
 

@@ -1,17 +1,18 @@
 //! Calls that put messages on queues, take them off, count them and flush them.
 ghost use Rattle.std.specs.Prelude.{◌≡◌, [], ◌∷◌, Ok};
 ghost use Rattle.strm_mblk.specs.Given.{answer_of};
+ghost use Rattle.strm_queue.specs.HeadCalls as by_head;
 ghost use Rattle.strm_queue.specs.QueueCalls as queues;
 ghost use Rattle.strm_pool.specs.PoolValue.{on_queues, queued_blocks_of};
 ghost use Rattle.strm_named.specs.NamedCalls.{any_message, on_name, one_message, outcome_of, no_message};
 ghost use Rattle.strm_c.specs.Codes.{any_or_nothing, answer_of_refusable};
 ghost use Rattle.strm_c.specs.Exports.{Asks, CallsNamed, DoesOnPool, Ranged};
-ghost use Rattle.strm_c.specs.InC.{band_of, flush_of, capped_number};
+ghost use Rattle.strm_c.specs.InC.{band_of, flush_of, capped_number, head_before};
 
 use crate::answer::{coded, coded_any, coded_refusal, number, put};
 use crate::code::Code;
 use crate::handle::StrmPool;
-use crate::numbers::{band_of, capped_number, flush_of};
+use crate::numbers::{band_of, capped_number, flush_of, head_before};
 use crate::reader::StrmReader;
 use strm_named::Name;
 
@@ -57,6 +58,21 @@ pub extern "C" fn strm_c_insq(pool: &mut StrmPool, queue: u32, place: u32, msg: 
     number(coded(answer))
 }
 
+/// Puts a message on a queue before the one that begins with block `before`, or last. As [`NamedPool::insq_before`] of
+/// strm_named.
+#[unsafe(no_mangle)]
+pub extern "C" fn strm_c_insq_at(pool: &mut StrmPool, queue: u32, before: u32, msg: Name) -> i32
+    ensures { CallsNamed no_message Ok (λ v. on_name v msg (on_queues v.pool
+        (by_head.insq_before (capped_number queue) (head_before before) msg.head (queued_blocks_of v.pool))))
+        (msg.head ∷ []) pool.old.at.named pool.new.at.named result tt tt }
+{
+    let Some(named) = pool.named_mut() else {
+        return Code::NotOpen.number();
+    };
+    let answer = named.insq_before(capped_number(queue), head_before(before), msg);
+    number(coded(answer))
+}
+
 /// Takes the first message of a queue, and stores its name in `msg`. As [`NamedPool::getq`] of strm_named. Returns `Nothing` if
 /// the queue is empty.
 #[unsafe(no_mangle)]
@@ -83,6 +99,21 @@ pub extern "C" fn strm_c_rmvq(pool: &mut StrmPool, queue: u32, place: u32, msg: 
         return Code::NotOpen.number();
     };
     let answer = named.rmvq(capped_number(queue), place);
+    put(coded(answer), msg)
+}
+
+/// Takes the message that begins with block `head` off its queue, and stores its name in `msg`. As [`NamedPool::rmvq_head`] of
+/// strm_named.
+#[unsafe(no_mangle)]
+pub extern "C" fn strm_c_rmvq_msg(pool: &mut StrmPool, head: u32, msg: &mut Name) -> i32
+    ensures { CallsNamed one_message Ok
+        (λ v. outcome_of (on_queues v.pool (by_head.rmvq_head head (queued_blocks_of v.pool)))) []
+        pool.old.at.named pool.new.at.named result msg.old msg.new }
+{
+    let Some(named) = pool.named_mut() else {
+        return Code::NotOpen.number();
+    };
+    let answer = named.rmvq_head(head);
     put(coded(answer), msg)
 }
 
