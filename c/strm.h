@@ -129,13 +129,13 @@
  *     pools may be used at the same time.
  *   - Nothing is written through a pointer that strm_bytes or strm_iov returns. Nothing is read
  *     through it from the beginning of the next call with that pool that is no look; a look leaves
- *     it good, and so does strm_room or strm_edit. So a thread that shares the pool holds its lock
- *     from before the call until it has read there, without a gap; a read lock is enough. The
- *     pointer is passed to no call with the same pool, such as strm_write: copy the bytes by
- *     strm_read first. A call with another pool may get it.
- *   - The same is true of a pointer that strm_room or strm_edit returns, but bytes may be written
- *     there too, as many as the call counted. They are then the bytes that the data block has.
- *     While a thread writes there, it holds the lock as for a call that is no look.
+ *     it good, and so does strm_room, strm_edit or strm_window. So a thread that shares the pool
+ *     holds its lock from before the call until it has read there, without a gap; a read lock is
+ *     enough. The pointer is passed to no call with the same pool, such as strm_write: copy the
+ *     bytes by strm_read first. A call with another pool may get it.
+ *   - The same is true of a pointer that strm_room, strm_edit or strm_window returns, but bytes may
+ *     be written there too, as many as the call counted. They are then the bytes that the data
+ *     block has. While a thread writes there, it holds the lock as for a call that is no look.
  *   - No call is made from a signal handler. An interrupt handler makes calls only while no other
  *     call runs.
  *   - Calls use SSE registers. Code that may not, as in most kernels, saves these before a call and
@@ -659,9 +659,9 @@ int strm_place(const struct strm_pool *pool, struct strm_msg msg, uint32_t place
 /*
  * Sets *at to the address of the room of the block numbered `place`, and *length to its number of
  * bytes. If there is no room, *at is still not null. Write there, for instance by recv, until the
- * next call with this pool that is neither a look nor strm_room or strm_edit. Then call
- * strm_advance, which moves the write place past what you wrote. This call itself changes nothing.
- * Since 0.4.0.
+ * next call with this pool that is neither a look nor strm_room, strm_edit or strm_window. Then
+ * call strm_advance, which moves the write place past what you wrote. This call itself changes
+ * nothing. Since 0.4.0.
  * Refused as STRM_NO_SUCH_BLOCK, STRM_SHARED.
  * STREAMS: b_wptr and db_lim.
  */
@@ -675,6 +675,15 @@ int strm_room(struct strm_pool *pool, struct strm_msg msg, uint32_t place, uint8
  * STREAMS: b_rptr and b_wptr; the kernel does not check db_ref.
  */
 int strm_edit(struct strm_pool *pool, struct strm_msg msg, uint32_t place, uint8_t **at, size_t *length);
+
+/*
+ * Sets *base to the address of the first byte of the data block of the block numbered `place`, and
+ * *capacity to the number of all its bytes. This is for code that keeps places of its own: write
+ * there for as long as at strm_room, and call strm_shape then. Since 0.4.0.
+ * Refused as STRM_NO_SUCH_BLOCK, STRM_SHARED.
+ * STREAMS: db_base and db_lim.
+ */
+int strm_window(struct strm_pool *pool, struct strm_msg msg, uint32_t place, uint8_t **base, size_t *capacity);
 
 /*
  * Writes `length` bytes over those of a message, beginning with the byte numbered `at`, counted
@@ -713,6 +722,17 @@ int strm_prepend(struct strm_pool *pool, struct strm_msg msg, const void *bytes,
  * STREAMS: adding to b_wptr.
  */
 int strm_advance(struct strm_pool *pool, struct strm_msg msg, uint32_t place, uint32_t count);
+
+/*
+ * Sets the read place of the block numbered `place` to `at`, and its write place to `at` +
+ * `length`, counted from the beginning of its data block. It writes no byte, so it is allowed on
+ * shared data too. The block then shows what its data block has there: see strm_advance.
+ * Since 0.4.0.
+ * Refused as STRM_NO_SUCH_BLOCK; STRM_NO_ROOM if the data block has fewer than `at` + `length`
+ * bytes.
+ * STREAMS: setting b_rptr and b_wptr.
+ */
+int strm_shape(struct strm_pool *pool, struct strm_msg msg, uint32_t place, uint32_t at, uint32_t length);
 
 /* ---- names compared: strm_same_msg(3) */
 

@@ -31,8 +31,12 @@ struct strm_reader {
 		(pool, msg, place, at, length), at != NULL && length != NULL && (void *)at != (void *)length) \
 	CALL(edit, (struct strm_pool *pool, struct strm_msg msg, uint32_t place, uint8_t **at, size_t *length), \
 		(pool, msg, place, at, length), at != NULL && length != NULL && (void *)at != (void *)length) \
+	CALL(window, (struct strm_pool *pool, struct strm_msg msg, uint32_t place, uint8_t **base, size_t *capacity), \
+		(pool, msg, place, base, capacity), base != NULL && capacity != NULL && (void *)base != (void *)capacity) \
 	CALL(reserve, (struct strm_pool *pool, struct strm_msg msg, uint32_t place, uint32_t count), (pool, msg, place, count), 1) \
 	CALL(advance, (struct strm_pool *pool, struct strm_msg msg, uint32_t place, uint32_t count), (pool, msg, place, count), 1) \
+	CALL(shape, (struct strm_pool *pool, struct strm_msg msg, uint32_t place, uint32_t at, uint32_t length), \
+		(pool, msg, place, at, length), 1) \
 	CALL(linkb, (struct strm_pool *pool, struct strm_msg msg, struct strm_msg tail), (pool, msg, tail), 1) \
 	CALL(rmvb, (struct strm_pool *pool, struct strm_msg msg, uint32_t place, struct strm_msg *block, struct strm_msg *rest), \
 		(pool, msg, place, block, rest), block != NULL && rest != NULL && block != rest) \

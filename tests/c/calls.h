@@ -96,6 +96,10 @@
 		IS(TOLD_BYTES) | IS(EMPTY) | NOT(STRM_NO_SUCH_BLOCK) | NOT(STRM_SHARED)) \
 	CALL(EDIT, edit, "xku", (pool, a->x, c->place, TO(uint8_t *), a->done), 4, \
 		IS(TOLD_BYTES) | IS(EMPTY) | NOT(STRM_NO_SUCH_BLOCK) | NOT(STRM_SHARED)) \
+	CALL(WINDOW, window, "xku", (pool, a->x, c->place, TO(uint8_t *), a->done), 3, \
+		IS(TOLD_BYTES) | IS(EMPTY) | NOT(STRM_NO_SUCH_BLOCK) | NOT(STRM_SHARED)) \
+	CALL(SHAPE, shape, "xkrl", (pool, a->x, c->place, c->number, c->lowat), 5, \
+		IS(DONE) | IS(EMPTY) | NOT(STRM_NO_SUCH_BLOCK) | NOT(STRM_NO_ROOM)) \
 	CALL(TRANSFER, transfer, "Xw", (pool, other, a->x, a->y), 6, \
 		IS(DONE) | IS(EMPTY) | NOT(STRM_TOO_LARGE) | NOT(STRM_NO_MBLK) | NOT(STRM_NO_DATA)) \
 	LOOK(QUEUED_AT, queued_at, "qk", (pool, c->queue, c->place, TO(struct strm_queued)), 2, \

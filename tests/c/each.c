@@ -651,9 +651,9 @@ static void test_writable(void)
 {
 	struct strm_pool pool = opened(6);
 	struct strm_msg a, copy;
-	uint8_t *room = NULL, *bytes = NULL, *kept;
+	uint8_t *room = NULL, *bytes = NULL, *base = NULL, *kept;
 	const uint8_t *lent;
-	size_t length = 9;
+	size_t length = 9, capacity = 9;
 
 	ANSWERS(strm_allocb(&pool, 16, &a), STRM_OK);
 	ANSWERS(strm_reserve(&pool, a, 0, 4), STRM_OK);
@@ -665,26 +665,30 @@ static void test_writable(void)
 	CHECK(has_bytes(&pool, a, "lion"));
 	ANSWERS(strm_edit(&pool, a, 0, &bytes, &length), STRM_OK);
 	CHECK(length == 4 && bytes == room);
+	ANSWERS(strm_window(&pool, a, 0, &base, &capacity), STRM_OK);
+	CHECK(capacity == 16 && base + 4 == bytes);
 	ANSWERS(strm_room(&pool, a, 0, &room, &length), STRM_OK);
 	CHECK(length == 8 && room == bytes + 4 && *room == 's');
 	ANSWERS(strm_bytes(&pool, a, 0, &lent, &length), STRM_OK);
 	CHECK(lent == bytes && length == 4);
 	/* none of these ends an address */
 	bytes[0] = 'L';
+	memcpy(base, "the ", 4);
 	CHECK(lent[0] == 'L' && has_bytes(&pool, a, "Lion"));
-	ANSWERS(strm_advance(&pool, a, 0, 1), STRM_OK);
-	ANSWERS(strm_prepend(&pool, a, "the ", 4), STRM_OK);
+	ANSWERS(strm_prepend(&pool, a, NULL, 0), STRM_OK);
+	ANSWERS(strm_shape(&pool, a, 0, 0, 9), STRM_OK);
 	CHECK(has_bytes(&pool, a, "the Lions"));
 	/* refused, even for no bytes */
 	kept = room;
 	length = 9;
 	ANSWERS(strm_room(&pool, a, 1, &room, &length), STRM_NO_SUCH_BLOCK);
 	ANSWERS(strm_edit(&pool, a, 1, &room, &length), STRM_NO_SUCH_BLOCK);
-	ANSWERS(strm_edit(&pool, a, 0xFFFFFFFFu, &room, &length), STRM_NO_SUCH_BLOCK);
+	ANSWERS(strm_window(&pool, a, 0xFFFFFFFFu, &room, &length), STRM_NO_SUCH_BLOCK);
 	ANSWERS(strm_dupb(&pool, a, &copy), STRM_OK);
 	ANSWERS(strm_room(&pool, a, 1, &room, &length), STRM_NO_SUCH_BLOCK);
 	ANSWERS(strm_room(&pool, a, 0, &room, &length), STRM_SHARED);
 	ANSWERS(strm_edit(&pool, copy, 0, &room, &length), STRM_SHARED);
+	ANSWERS(strm_window(&pool, a, 0, &room, &length), STRM_SHARED);
 	CHECK(room == kept && length == 9);
 	ANSWERS(strm_freemsg(&pool, copy), STRM_OK);
 	/* no room, and no bytes */
@@ -721,6 +725,31 @@ static void test_readv(void)
 	ANSWERS(strm_advance(&pool, msgs[1], 0, 4), STRM_OK);
 	CHECK(has_bytes(&pool, msgs[0], "0123456789abcdef") && has_bytes(&pool, msgs[1], "wolf"));
 	CHECK(close(ends[0]) == 0 && close(ends[1]) == 0);
+	ANSWERS(strm_close(&pool), STRM_OK);
+}
+
+/* The places of a block move, also where its data block is shared, and its other block's places stay. */
+static void test_shape(void)
+{
+	struct strm_pool pool = opened(6);
+	struct strm_msg a = message(&pool, "abcdef"), copy;
+	struct strm_block_place where;
+
+	ANSWERS(strm_shape(&pool, a, 1, 0, 0), STRM_NO_SUCH_BLOCK);
+	ANSWERS(strm_shape(&pool, a, 0, 0, 17), STRM_NO_ROOM);
+	ANSWERS(strm_shape(&pool, a, 0, 17, 0), STRM_NO_ROOM);
+	ANSWERS(strm_shape(&pool, a, 0, 8, 9), STRM_NO_ROOM);
+	ANSWERS(strm_shape(&pool, a, 0, 0xFFFFFFFFu, 2), STRM_NO_ROOM);
+	ANSWERS(strm_shape(&pool, a, 0, 2, 0xFFFFFFFFu), STRM_NO_ROOM);
+	CHECK(has_bytes(&pool, a, "abcdef"));
+	ANSWERS(strm_dupb(&pool, a, &copy), STRM_OK);
+	ANSWERS(strm_shape(&pool, copy, 0, 2, 3), STRM_OK);
+	CHECK(has_bytes(&pool, copy, "cde") && has_bytes(&pool, a, "abcdef"));
+	ANSWERS(strm_shape(&pool, copy, 0, 16, 0), STRM_OK);
+	ANSWERS(strm_place(&pool, copy, 0, &where), STRM_OK);
+	CHECK(where.at == 16 && where.length == 0);
+	ANSWERS(strm_shape(&pool, copy, 0, 0, 6), STRM_OK);
+	CHECK(has_bytes(&pool, copy, "abcdef"));
 	ANSWERS(strm_close(&pool), STRM_OK);
 }
 
@@ -1685,6 +1714,7 @@ int main(void)
 	test_place();
 	test_writable();
 	test_readv();
+	test_shape();
 	test_overwrite();
 	test_headroom();
 	test_advance();

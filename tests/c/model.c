@@ -684,12 +684,25 @@ static struct reply found(struct model *v, const struct call *call)
 
 	if (why != 0)
 		return refused(why);
-	from = call->verb == ROOM ? cell->write : cell->read;
-	count = (call->verb == ROOM ? capacity(v, cell->datum) : cell->write) - from;
+	from = call->verb == ROOM ? cell->write : call->verb == EDIT ? cell->read : 0;
+	count = (call->verb == EDIT ? cell->write : capacity(v, cell->datum)) - from;
 	memcpy(cell->datum->bytes + from, call->octets, count < call->length ? count : call->length);
 	memcpy(reply.octets, cell->datum->bytes + from, count < MOST_OCTETS ? count : MOST_OCTETS);
 	reply.numbers[0] = count;
 	return reply;
+}
+
+static struct reply shaped(struct model *v, const struct call *call)
+{
+	struct cell *cell = cell_at(v->registers[call->x], call->place);
+
+	if (cell == NULL)
+		return refused(STRM_NO_SUCH_BLOCK);
+	if (call->number + call->lowat > capacity(v, cell->datum))
+		return refused(STRM_NO_ROOM);
+	cell->read = call->number;
+	cell->write = call->number + call->lowat;
+	return reply_of(DONE);
 }
 
 static struct reply typed(struct model *v, const struct call *call)
@@ -947,10 +960,12 @@ static struct reply act_on_messages(struct model *v, const struct call *call)
 		return reserved(v, call);
 	case PREPEND:
 		return prepended(v, call);
-	case ROOM: case EDIT:
+	case ROOM: case EDIT: case WINDOW:
 		return found(v, call);
 	case ADVANCE:
 		return advanced(v, call);
+	case SHAPE:
+		return shaped(v, call);
 	case FREEB:
 		v->registers[call->x] = m->next;
 		m->next = NULL;

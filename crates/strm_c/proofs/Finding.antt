@@ -25,6 +25,10 @@ use Rattle.strm_c.specs.InPlace.{Finds, IsAddress, StoresAddress, number_lent}
 
 -- ---- bytes written over themselves
 
+all_again : (xs : List ℕ) → xs ++ drop (length xs) xs ≡ xs
+all_again [] = refl
+all_again (x ∷ xs) = ap (λ ys. x ∷ ys) (all_again xs)
+
 some_again : (n : ℕ) (xs : List ℕ) → take n xs ++ drop (length (take n xs)) xs ≡ xs
 some_again zero xs = refl
 some_again (suc n) [] = refl
@@ -106,6 +110,15 @@ module _ (closure : List ℕ → Ptr × ℕ → List ℕ → Type 0) (place : (b
   pub edit_finds : (n : Name) (k : ℕ) → LendsNamed closure (asked v n (in_place.bytes_to_edit n.head k v.pool.arena)) (λ r left. on_name v n (on_arena v.pool (in_place.edit n.head k r left v.pool.arena))) v w answer
       → Finds (asked v n (in_place.bytes_to_edit n.head k v.pool.arena)) v w answer
   edit_finds n k lends = found (asked v n (in_place.bytes_to_edit n.head k v.pool.arena)) (edit_lent closure (λ bytes r left called. (place bytes r left called).same) v w answer n k lends)
+
+  pub window_finds : (n : Name) (k : ℕ)
+      → LendsNamed closure (asked v n (in_place.bytes_of_window n.head k v.pool.arena)) (λ r left. on_name v n (on_arena v.pool (in_place.window n.head k r left v.pool.arena))) v w answer
+      → Finds (asked v n (in_place.bytes_of_window n.head k v.pool.arena)) v w answer
+  window_finds n k lends =
+      let a = v.pool.arena in
+      found (asked v n (in_place.bytes_of_window n.head k a))
+      (lent_by closure (λ r left. r) (λ r left b. with_bytes b.data_number 0 left a) (λ b. (data_block_at a.store b.data_number).bytes) v w answer (λ bytes r left called. (place bytes r left called).same)
+      (is_valid v n) (own_block n.head k a) (λ b r is called. written_same b.data_number 0 (data_block_at a.store b.data_number).bytes a (all_again (data_block_at a.store b.data_number).bytes)) lends)
 
 -- ---- where the room is
 

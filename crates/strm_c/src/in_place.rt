@@ -93,6 +93,26 @@ pub extern "C" fn strm_c_reserve(pool: &mut StrmPool, msg: Name, place: u32, cou
     number(coded(answer))
 }
 
+/// Gives a block the `length` bytes of its data block from byte `at` on. As [`NamedPool::shape`] of strm_named.
+#[unsafe(no_mangle)]
+pub extern "C" fn strm_c_shape(
+    pool: &mut StrmPool,
+    msg: Name,
+    place: u32,
+    at: u32,
+    length: u32,
+) -> i32
+    ensures { CallsNamed no_message Ok (λ v. on_name v msg
+        (on_arena v.pool (in_place.shape msg.head place at length v.pool.arena)))
+        [] pool.old.at.named pool.new.at.named result tt tt }
+{
+    let Some(named) = pool.named_mut() else {
+        return Code::NotOpen.number();
+    };
+    let answer = named.shape(msg, place, at, length);
+    number(coded(answer))
+}
+
 /// Puts bytes before those of a message's first block. As [`NamedPool::prepend`] of strm_named.
 #[unsafe(no_mangle)]
 pub extern "C" fn strm_c_prepend(pool: &mut StrmPool, msg: Name, bytes: &[u8]) -> i32

@@ -90,9 +90,7 @@ pub extern "C" fn strm_c_last_queued(pool: &mut StrmReader, queue: u32, head: &m
         return Code::NotOpen.number();
     };
     let pool = view.named().pool();
-    let answer = pool
-        .queues()
-        .last_queued(pool.blocks(), capped_number(queue));
+    let answer = pool.last_queued(capped_number(queue));
     put(coded_any_refusal(answer), head)
 }
 
@@ -107,7 +105,7 @@ pub extern "C" fn strm_c_queue_of(pool: &mut StrmReader, head: u32, queue: &mut 
         return Code::NotOpen.number();
     };
     let pool = view.named().pool();
-    let answer = pool.queues().queue_of(pool.blocks(), head).map(u32::from);
+    let answer = pool.queue_of(head).map(u32::from);
     put(coded_refusal(answer), queue)
 }
 
@@ -138,7 +136,7 @@ pub extern "C" fn strm_c_queued_before(pool: &mut StrmReader, head: u32, before:
         return Code::NotOpen.number();
     };
     let pool = view.named().pool();
-    let answer = pool.queues().queued_before(pool.blocks(), head);
+    let answer = pool.queued_before(head);
     put(coded_any_refusal(answer), before)
 }
 

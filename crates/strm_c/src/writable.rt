@@ -57,6 +57,14 @@ fn bytes(named: &mut NamedPool, msg: Name, place: u32) -> Result<(*mut u8, usize
     named.edit(msg, place, place_of)
 }
 
+// Where the bytes of a block's data block are.
+fn window(named: &mut NamedPool, msg: Name, place: u32) -> Result<(*mut u8, usize), Fault>
+    ensures { Finds (asked named.old msg (in_place.bytes_of_window msg.head place named.old.pool.arena))
+        named.old named.new result }
+{
+    named.window(msg, place, place_of)
+}
+
 // Stores through pointers of C where bytes are, and their number, and returns 0; or returns the code and stores nothing.
 fn put_place(found: Result<(*mut u8, usize), Fault>, at: &mut *mut u8, length: &mut usize) -> i32
     ensures number { result ≡ number_returned (answer_of_result (λ f. Ok f.1) found) }
@@ -115,4 +123,26 @@ pub extern "C" fn strm_c_edit(
     };
     let found = bytes(named, msg, place);
     put_place(found, at, length)
+}
+
+/// Stores the address of the bytes of a block's data block in `base`, and their number in `capacity`. As [`NamedPool::window`]
+/// of strm_named with a closure that changes nothing.
+#[unsafe(no_mangle)]
+pub extern "C" fn strm_c_window(
+    pool: &mut StrmPool,
+    msg: Name,
+    place: u32,
+    base: &mut *mut u8,
+    capacity: &mut usize,
+) -> i32
+    ensures capacity { Asks (λ v. number_lent (asked v msg (in_place.bytes_of_window msg.head place v.pool.arena)))
+        pool.old.at.named pool.new.at.named result capacity.old capacity.new }
+    ensures base { AsksAddress (λ v. number_lent (asked v msg (in_place.bytes_of_window msg.head place v.pool.arena)))
+        pool.old.at.named base.old base.new }
+{
+    let Some(named) = pool.named_mut() else {
+        return Code::NotOpen.number();
+    };
+    let found = window(named, msg, place);
+    put_place(found, base, capacity)
 }

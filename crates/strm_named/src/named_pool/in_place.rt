@@ -99,6 +99,28 @@ impl NamedPool {
         answered(self.pool.fill(token, place, write))
     }
 
+    /// Lends all bytes of the data block of a message's block `place`, counted from 0, to `change`, which may change them, and
+    /// returns what `change` returns. Refused as `Invalid`, `NoSuchBlock`, then `Shared`. As [`Blocks::window`] of strm_mblk.
+    pub fn window<R, F: FnOnce(&mut [u8]) -> R>(
+        &mut self,
+        name: Name,
+        place: u32,
+        change: F,
+    ) -> Result<R, Fault>
+        requires { IfOk (asked self.old name (in_place.bytes_of_window name.head place self.old.pool.arena))
+            (FnOnceTakesAtMut F.FnOnce change) }
+        ensures { LendsNamed (FnOnceReturnsAtMut F.FnOnce change)
+            (asked self.old name (in_place.bytes_of_window name.head place self.old.pool.arena))
+            (λ r left. on_name self.old name (on_arena self.old.pool
+            (in_place.window name.head place r left self.old.pool.arena))) self.old self.new result }
+    {
+        if !self.has(name) {
+            return Err(Fault::Invalid);
+        }
+        let token = lent(&self.pool, &self.places, name);
+        answered(self.pool.window(token, place, change))
+    }
+
     /// Moves the write place of a message's block `place`, counted from 0, over `count` bytes behind it. Refused as `Invalid`,
     /// `NoSuchBlock`, `Shared`, then `NoRoom`. As [`Blocks::advance`] of strm_mblk.
     pub fn advance(&mut self, name: Name, place: u32, count: u32) -> Result<(), Fault>
@@ -123,6 +145,19 @@ impl NamedPool {
         }
         let token = lent(&self.pool, &self.places, name);
         answered(self.pool.reserve(token, place, count))
+    }
+
+    /// Gives a message's block `place`, counted from 0, the `len` bytes of its data block from byte `at` on, also where other
+    /// blocks use that. Refused as `Invalid`, `NoSuchBlock`, then `NoRoom`. As [`Blocks::shape`] of strm_mblk.
+    pub fn shape(&mut self, name: Name, place: u32, at: u32, len: u32) -> Result<(), Fault>
+        ensures { Does no_message (on_name self.old name (on_arena self.old.pool
+            (in_place.shape name.head place at len self.old.pool.arena))) [] self.old self.new result }
+    {
+        if !self.has(name) {
+            return Err(Fault::Invalid);
+        }
+        let token = lent(&self.pool, &self.places, name);
+        answered(self.pool.shape(token, place, at, len))
     }
 
     /// Puts bytes before those of a message's first block. Refused as `Invalid`, `Shared`, then `NoRoom`. As

@@ -80,6 +80,25 @@ impl Pool {
         self.blocks.fill(token, place, write)
     }
 
+    /// Lends all bytes of the data block of a message's block `place`, counted from 0, to `change`, which may change them, and
+    /// returns what `change` returns. Refused as `NoSuchBlock`, then `Shared`. As [`Blocks::window`] of strm_mblk.
+    pub fn window<R, F: FnOnce(&mut [u8]) -> R>(
+        &mut self,
+        token: &Token,
+        place: u32,
+        change: F,
+    ) -> Result<R, Refusal>
+        requires had { IsTrue (has self.old.arena token.now) }
+        requires callable { IfOk (in_place.bytes_of_window token.now.head place self.old.arena)
+            (FnOnceTakesAtMut F.FnOnce change) }
+        ensures { Lends arena token.now (FnOnceReturnsAtMut F.FnOnce change)
+            (in_place.bytes_of_window token.now.head place self.old.arena)
+            (λ r left. on_arena self.old (in_place.window token.now.head place r left self.old.arena))
+            self.old self.new result }
+    {
+        self.blocks.window(token, place, change)
+    }
+
     /// Moves the write place of a message's block `place`, counted from 0, over `count` bytes behind it. Refused as
     /// `NoSuchBlock`, `Shared`, then `NoRoom`. As [`Blocks::advance`] of strm_mblk.
     pub fn advance(&mut self, token: &Token, place: u32, count: u32) -> Result<(), Refusal>
@@ -98,6 +117,16 @@ impl Pool {
             (in_place.reserve token.now.head place count self.old.arena)) self.old self.new result }
     {
         self.blocks.reserve(token, place, count)
+    }
+
+    /// Gives a message's block `place`, counted from 0, the `len` bytes of its data block from byte `at` on, also where other
+    /// blocks use that. Refused as `NoSuchBlock`, then `NoRoom`. As [`Blocks::shape`] of strm_mblk.
+    pub fn shape(&mut self, token: &Token, place: u32, at: u32, len: u32) -> Result<(), Refusal>
+        requires { IsTrue (has self.old.arena token.now) }
+        ensures { Alters arena token.now token.now (on_arena self.old
+            (in_place.shape token.now.head place at len self.old.arena)) self.old self.new result }
+    {
+        self.blocks.shape(token, place, at, len)
     }
 
     /// Puts bytes before those of a message's first block. Refused as `Shared`, then `NoRoom`. As [`Blocks::prepend`] of

@@ -26,12 +26,35 @@ impl Pool {
         self.queues.first_queued(&self.blocks, queue)
     }
 
+    /// Returns the head of the last message on a queue, or none. Refused as `NoSuchQueue`. As [`Queues::last_queued`] of
+    /// strm_queue.
+    pub fn last_queued(&self, queue: u8) -> Result<Option<u32>, Refusal>
+        ensures { result ≡ looks.last_queued queue (queued_blocks_of self.now) }
+    {
+        self.queues.last_queued(&self.blocks, queue)
+    }
+
+    /// Returns the queue that has the message with this head. Refused as `NoSuchPlace`. As [`Queues::queue_of`] of strm_queue.
+    pub fn queue_of(&self, head: u32) -> Result<u8, Refusal>
+        ensures { result ≡ looks.queue_of head (queued_blocks_of self.now) }
+    {
+        self.queues.queue_of(&self.blocks, head)
+    }
+
     /// Returns the head of the message after the one with this head on its queue, or none. Refused as `NoSuchPlace`. As
     /// [`Queues::queued_after`] of strm_queue.
     pub fn queued_after(&self, head: u32) -> Result<Option<u32>, Refusal>
         ensures { result ≡ looks.queued_after head (queued_blocks_of self.now) }
     {
         self.queues.queued_after(&self.blocks, head)
+    }
+
+    /// Returns the head of the message before the one with this head on its queue, or none. Refused as `NoSuchPlace`. As
+    /// [`Queues::queued_before`] of strm_queue.
+    pub fn queued_before(&self, head: u32) -> Result<Option<u32>, Refusal>
+        ensures { result ≡ looks.queued_before head (queued_blocks_of self.now) }
+    {
+        self.queues.queued_before(&self.blocks, head)
     }
 
     /// Returns what the message at `place` of a queue is like, counted from 0. Refused as `NoSuchQueue`, then
