@@ -50,7 +50,8 @@
  *     strm_place, strm_has, strm_name_at, strm_qsize, strm_queued_at, strm_read_queued,
  *     strm_first_queued, strm_last_queued, strm_queued_after, strm_queued_before, strm_queue_of,
  *     strm_queue_spec, strm_strqget, strm_run_at, strm_wish_at, strm_census, strm_class_info,
- *     strm_queue_info, strm_band_info, strm_report and strm_is_open.
+ *     strm_least_free_blocks, strm_least_free, strm_queue_info, strm_band_info, strm_report and
+ *     strm_is_open.
  *
  *
  * Results
@@ -1070,6 +1071,28 @@ int strm_census(const struct strm_pool *pool, struct strm_census *census);
  * Not in STREAMS.
  */
 int strm_class_info(const struct strm_pool *pool, uint32_t place, struct strm_class_info *info);
+
+/*
+ * Returns the fewest message blocks that were free since the pool was opened, or since
+ * strm_reset_least. So a pool with this number fewer would have done. Each call that takes blocks
+ * lowers it when it takes them, also if it frees others before it returns. Since 0.4.0.
+ * Not in STREAMS.
+ */
+int strm_least_free_blocks(const struct strm_pool *pool, uint32_t *fewest);
+
+/*
+ * Returns the same for the data blocks of the size class at `place`, or STRM_NONE if there is none.
+ * Since 0.4.0.
+ * Not in STREAMS.
+ */
+int strm_least_free(const struct strm_pool *pool, uint32_t place, uint32_t *fewest);
+
+/*
+ * Makes the message blocks, and of each class the data blocks, that are free now the fewest that
+ * were free. Since 0.4.0.
+ * Not in STREAMS.
+ */
+int strm_reset_least(struct strm_pool *pool);
 
 /*
  * Returns the state of a queue.

@@ -62,7 +62,8 @@ struct strm_reader {
 	CALL(next_service, (struct strm_pool *pool, uint32_t *queue), (pool, queue), queue != NULL) \
 	CALL(bufcall, (struct strm_pool *pool, uint32_t size, uint32_t *id), (pool, size, id), id != NULL) \
 	CALL(unbufcall, (struct strm_pool *pool, uint32_t id), (pool, id), 1) \
-	CALL(take_ready, (struct strm_pool *pool, struct strm_wish *wish), (pool, wish), wish != NULL)
+	CALL(take_ready, (struct strm_pool *pool, struct strm_wish *wish), (pool, wish), wish != NULL) \
+	CALL(reset_least, (struct strm_pool *pool), (pool), 1)
 
 /*
  * The looks that pass their arguments on unchanged, likewise. POOL is the first parameter: in strm.h a handle, which is only read,
@@ -95,6 +96,8 @@ struct strm_reader {
 	LOOK(queue_spec, (POOL, uint32_t queue, struct strm_queue_spec *spec), (&reader, queue, spec), spec != NULL) \
 	LOOK(census, (POOL, struct strm_census *census), (&reader, census), census != NULL) \
 	LOOK(class_info, (POOL, uint32_t place, struct strm_class_info *info), (&reader, place, info), info != NULL) \
+	LOOK(least_free_blocks, (POOL, uint32_t *fewest), (&reader, fewest), fewest != NULL) \
+	LOOK(least_free, (POOL, uint32_t place, uint32_t *fewest), (&reader, place, fewest), fewest != NULL) \
 	LOOK(queue_info, (POOL, uint32_t queue, struct strm_queue_info *info), (&reader, queue, info), info != NULL) \
 	LOOK(band_info, (POOL, uint32_t queue, uint32_t band, struct strm_band_info *info), \
 		(&reader, queue, band, info), info != NULL)

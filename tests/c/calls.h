@@ -118,6 +118,9 @@
 	LOOK(RUN_AT, run_at, "k", (pool, c->place, TO(uint32_t)), 1, IS(TOLD_QUEUE) | IS(NOTHING)) \
 	LOOK(WISH_AT, wish_at, "k", (pool, c->place, TO(struct strm_wish)), 1, IS(TOLD_READY) | IS(NOTHING)) \
 	LOOK(CLASS_INFO, class_info, "k", (pool, c->place, TO(struct strm_class_info)), 1, IS(TOLD_CLASS) | IS(NOTHING)) \
+	LOOK(LEAST_FREE_BLOCKS, least_free_blocks, "", (pool, TO(uint32_t)), 2, IS(TOLD_SIZE)) \
+	LOOK(LEAST_FREE, least_free, "k", (pool, c->place, TO(uint32_t)), 2, IS(TOLD_SIZE) | IS(NOTHING)) \
+	CALL(RESET_LEAST, reset_least, "", (pool), 1, IS(DONE)) \
 	LOOK(QUEUE_INFO, queue_info, "q", (pool, c->queue, TO(struct strm_queue_info)), 1, IS(TOLD_STATE) | NOT(STRM_NO_SUCH_QUEUE)) \
 	LOOK(BAND_INFO, band_info, "qb", (pool, c->queue, c->band, TO(struct strm_band_info)), 1, IS(TOLD_BAND) | NOT(STRM_NO_SUCH_QUEUE)) \
 	CALL(ALLOCB_N, allocb_n, "np", (pool, c->number, a->msgs, a->length, a->done), 3, \

@@ -1144,6 +1144,47 @@ static void test_order_by_heads(void)
 	ANSWERS(strm_close(&pool), STRM_OK);
 }
 
+/* Checks the fewest free message blocks, and data blocks of both classes. */
+#define LEAST(pool, blocks, of_first, of_second) \
+	do { \
+		ANSWERS(strm_least_free_blocks(pool, &fewest), STRM_OK); \
+		CHECK(fewest == (blocks)); \
+		ANSWERS(strm_least_free(pool, 0, &fewest), STRM_OK); \
+		CHECK(fewest == (of_first)); \
+		ANSWERS(strm_least_free(pool, 1, &fewest), STRM_OK); \
+		CHECK(fewest == (of_second)); \
+	} while (0)
+
+static void test_least(void)
+{
+	struct strm_pool pool = opened(6);
+	struct strm_msg a, b, kept = STRM_NO_MSG;
+	uint32_t fewest = 99;
+
+	ANSWERS(strm_least_free(&pool, 2, &fewest), STRM_NONE);
+	ANSWERS(strm_least_free(&pool, 0xFFFFFFFFu, &fewest), STRM_NONE);
+	CHECK(fewest == 99);
+	LEAST(&pool, 6, 6, 2);
+	ANSWERS(strm_allocb(&pool, 16, &a), STRM_OK);
+	ANSWERS(strm_allocb(&pool, 64, &b), STRM_OK);
+	ANSWERS(strm_freemsg(&pool, a), STRM_OK);
+	ANSWERS(strm_freemsg(&pool, b), STRM_OK);
+	ANSWERS(strm_allocb(&pool, 65, &kept), STRM_TOO_LARGE);
+	LEAST(&pool, 4, 5, 1);
+	ANSWERS(strm_reset_least(&pool), STRM_OK);
+	LEAST(&pool, 6, 6, 2);
+	a = message(&pool, "abc");
+	ANSWERS(strm_linkb(&pool, a, message(&pool, "def")), STRM_OK);
+	LEAST(&pool, 4, 4, 2);
+	/* a data block is taken before others are freed */
+	ANSWERS(strm_pullupmsg(&pool, a, -1), STRM_OK);
+	CENSUS(&pool, 5, 0, 1);
+	LEAST(&pool, 4, 3, 2);
+	ANSWERS(strm_reset_least(&pool), STRM_OK);
+	LEAST(&pool, 5, 5, 2);
+	ANSWERS(strm_close(&pool), STRM_OK);
+}
+
 /* The report of the scene that its first line says, as much of it as fits. */
 static void test_report(void)
 {
@@ -1724,6 +1765,7 @@ int main(void)
 	test_transfer_refused();
 	test_order();
 	test_order_by_heads();
+	test_least();
 	test_looks_at_queues();
 	test_report();
 	test_several();

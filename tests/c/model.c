@@ -30,6 +30,11 @@ struct line {
 	int wants_to_read, enabling_is_off, wanted[STRM_BANDS];
 };
 
+/* The fewest message blocks that were free, and of each class the fewest data blocks. */
+struct least {
+	uint32_t cells, data[STRM_MOST_CLASSES];
+};
+
 struct model {
 	struct strm_class_spec classes[STRM_MOST_CLASSES];
 	uint32_t class_count, queue_count, mblks, bufcalls;
@@ -42,6 +47,7 @@ struct model {
 	struct cell *registers[REGISTERS];
 	uint32_t run[STRM_MOST_QUEUES], run_count, wish_count;
 	struct strm_wish wishes[STRM_MOST_WISHES];
+	struct least least;
 };
 
 /* ---- lists */
@@ -114,6 +120,39 @@ static int is_too_large(const struct model *v, uint32_t size)
 	return size > v->classes[v->class_count - 1].size;
 }
 
+static uint32_t free_data_of(const struct model *v, uint32_t c)
+{
+	const struct datum *d;
+	uint32_t count = 0;
+
+	for (d = v->free_data[c]; d != NULL; d = d->next)
+		count++;
+	return count;
+}
+
+static void least_reset(struct model *v)
+{
+	uint32_t c;
+
+	v->least.cells = length_of(v->free_cells);
+	for (c = 0; c < v->class_count; c++)
+		v->least.data[c] = free_data_of(v, c);
+}
+
+/* Blocks were taken. */
+static void least_noted(struct model *v)
+{
+	struct least before = v->least;
+	uint32_t c;
+
+	least_reset(v);
+	if (v->least.cells > before.cells)
+		v->least.cells = before.cells;
+	for (c = 0; c < v->class_count; c++)
+		if (v->least.data[c] > before.data[c])
+			v->least.data[c] = before.data[c];
+}
+
 static struct datum *datum_taken(struct model *v, uint32_t size, uint32_t type)
 {
 	struct datum **from = free_for(v, size), *d;
@@ -123,6 +162,7 @@ static struct datum *datum_taken(struct model *v, uint32_t size, uint32_t type)
 	d = *from;
 	*from = d->next;
 	d->type = type;
+	least_noted(v);
 	return d;
 }
 
@@ -152,6 +192,7 @@ static struct cell *cell_taken(struct model *v, struct datum *d, uint32_t read, 
 	struct cell *cell = v->free_cells;
 
 	v->free_cells = cell->next;
+	least_noted(v);
 	cell->next = NULL;
 	cell->datum = d;
 	cell->read = read;
@@ -240,6 +281,7 @@ struct model *model_open(const struct strm_config *config)
 	open_data(v);
 	open_cells(v);
 	open_queues(v, config->queues);
+	least_reset(v);
 	return v;
 }
 
@@ -339,13 +381,11 @@ struct strm_census model_census(const struct model *v)
 
 struct strm_class_info model_class(const struct model *v, uint32_t place)
 {
-	const struct datum *d;
-	struct strm_class_info info = { 0, 0, 0 };
+	struct strm_class_info info;
 
 	info.size = v->classes[place].size;
+	info.free = free_data_of(v, place);
 	info.total = v->classes[place].count;
-	for (d = v->free_data[place]; d != NULL; d = d->next)
-		info.free++;
 	return info;
 }
 
@@ -1316,6 +1356,13 @@ static struct reply act_on_pool(struct model *v, const struct call *call)
 			return reply_of(NOTHING);
 		info = model_class(v, call->place);
 		return told_from(TOLD_CLASS, &info);
+	case LEAST_FREE_BLOCKS:
+		return told(TOLD_SIZE, v->least.cells, 0);
+	case LEAST_FREE:
+		return call->place < v->class_count ? told(TOLD_SIZE, v->least.data[call->place], 0) : reply_of(NOTHING);
+	case RESET_LEAST:
+		least_reset(v);
+		return reply_of(DONE);
 	case SERVICE:
 		return served_next(v);
 	case BUFCALL:
@@ -1380,7 +1427,7 @@ static struct reply done_one_by_one(struct model *v, const struct call *call)
 	return told(TOLD_COUNT, count, 0);
 }
 
-struct reply model_apply(struct model *v, struct model *other, const struct call *call)
+static struct reply applied(struct model *v, struct model *other, const struct call *call)
 {
 	int verb = call->verb;
 
@@ -1401,4 +1448,17 @@ struct reply model_apply(struct model *v, struct model *other, const struct call
 	if (names(verb, "xXy") && !names(verb, "e"))
 		return act_on_messages(v, call);
 	return act_on_pool(v, call);
+}
+
+/* A refused call leaves everything as it was, also if it took blocks before it found too few. */
+struct reply model_apply(struct model *v, struct model *other, const struct call *call)
+{
+	struct least before = v->least, of_other = other->least;
+	struct reply reply = applied(v, other, call);
+
+	if (reply.kind == REFUSED) {
+		v->least = before;
+		other->least = of_other;
+	}
+	return reply;
 }

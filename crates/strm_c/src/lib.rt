@@ -28,6 +28,7 @@ mod queues;
 mod reader;
 mod sending;
 mod several;
+mod sizing;
 mod telling;
 mod texts;
 mod transferring;
