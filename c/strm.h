@@ -47,11 +47,11 @@
  *     returns the wish, not the blocks.
  *   - look: a call that changes nothing in the pool. Its handle is `const`. Looks are strm_testb,
  *     strm_read, strm_size, strm_msgdsize, strm_block, strm_blocks, strm_bytes, strm_iov,
- *     strm_place, strm_has, strm_name_at, strm_qsize, strm_queued_at, strm_read_queued,
- *     strm_first_queued, strm_last_queued, strm_queued_after, strm_queued_before, strm_queue_of,
- *     strm_queue_spec, strm_strqget, strm_run_at, strm_wish_at, strm_census, strm_class_info,
- *     strm_least_free_blocks, strm_least_free, strm_queue_info, strm_band_info, strm_report and
- *     strm_is_open.
+ *     strm_place, strm_region, strm_has, strm_name_at, strm_qsize, strm_queued_at,
+ *     strm_read_queued, strm_first_queued, strm_last_queued, strm_queued_after, strm_queued_before,
+ *     strm_queue_of, strm_queue_spec, strm_strqget, strm_run_at, strm_wish_at, strm_census,
+ *     strm_class_info, strm_least_free_blocks, strm_least_free, strm_queue_info, strm_band_info,
+ *     strm_report and strm_is_open.
  *
  *
  * Results
@@ -98,8 +98,8 @@
  *
  * A name has its pool's id, the number of the message's first block, and a stamp. It is valid from
  * the call that returns it until the message is handed over. These calls hand over: strm_freemsg,
- * strm_freeb, strm_rmvb, strm_transfer, strm_putq, strm_putbq, strm_insq, strm_insq_at, the _n calls
- * that free or put, strm_linkb its tail, and strm_close all.
+ * strm_freeb, strm_rmvb, strm_transfer, strm_putq, strm_putbq, strm_insq, strm_insq_at, the _n
+ * calls that free or put, strm_linkb its tail, and strm_close all.
  *
  * A pool never gives a name a second time: a message that comes off a queue, or is parted from
  * another, has a new one. Only strm_name_at returns a name that was given before. So a caller that
@@ -128,12 +128,12 @@
  *     it, calls that meet often end the program by SIGILL, or they damage the pool unnoticed.
  *     ThreadSanitizer seldom reports them, since the library has no instrumentation. Different
  *     pools may be used at the same time.
- *   - Nothing is written through a pointer that strm_bytes or strm_iov returns. Nothing is read
- *     through it from the beginning of the next call with that pool that is no look; a look leaves
- *     it good, and so does strm_room, strm_edit or strm_window. So a thread that shares the pool
- *     holds its lock from before the call until it has read there, without a gap; a read lock is
- *     enough. The pointer is passed to no call with the same pool, such as strm_write: copy the
- *     bytes by strm_read first. A call with another pool may get it.
+ *   - Nothing is written through a pointer that strm_bytes, strm_iov or strm_region returns.
+ *     Nothing is read through it from the beginning of the next call with that pool that is no
+ *     look; a look leaves it good, and so does strm_room, strm_edit or strm_window. So a thread
+ *     that shares the pool holds its lock from before the call until it has read there, without a
+ *     gap; a read lock is enough. The pointer is passed to no call with the same pool, such as
+ *     strm_write: copy the bytes by strm_read first. A call with another pool may get it.
  *   - The same is true of a pointer that strm_room, strm_edit or strm_window returns, but bytes may
  *     be written there too, as many as the call counted. They are then the bytes that the data
  *     block has. While a thread writes there, it holds the lock as for a call that is no look.
@@ -656,6 +656,15 @@ int strm_iov(const struct strm_pool *pool, struct strm_msg msg, uint32_t from, s
  * STREAMS: db_base, db_lim, b_rptr and b_wptr, as numbers.
  */
 int strm_place(const struct strm_pool *pool, struct strm_msg msg, uint32_t place, struct strm_block_place *where);
+
+/*
+ * Sets *base to the address of the bytes of all data blocks of the size class at `place`, *size to
+ * their number, and *stride to the number of those of one data block: these follow one another. The
+ * bytes stay there while the pool is open, so tell a device or io_uring of them once. Within them
+ * strm_room says where to write. Returns STRM_NONE if there is no such class. Since 0.4.0.
+ * Not in STREAMS.
+ */
+int strm_region(const struct strm_pool *pool, uint32_t place, const uint8_t **base, size_t *size, size_t *stride);
 
 /*
  * Sets *at to the address of the room of the block numbered `place`, and *length to its number of

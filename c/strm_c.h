@@ -81,6 +81,9 @@ struct strm_reader {
 		(&reader, msg, place, bytes, length), bytes != NULL && length != NULL && (void *)bytes != (void *)length) \
 	LOOK(place, (POOL, struct strm_msg msg, uint32_t place, struct strm_block_place *where), \
 		(&reader, msg, place, where), where != NULL) \
+	LOOK(region, (POOL, uint32_t place, const uint8_t **base, size_t *size, size_t *stride), (&reader, place, base, size, stride), \
+		base != NULL && size != NULL && stride != NULL && size != stride && (void *)base != (void *)size \
+		&& (void *)base != (void *)stride) \
 	LOOK(qsize, (POOL, uint32_t queue, uint32_t *msgs), (&reader, queue, msgs), msgs != NULL) \
 	LOOK(queued_at, (POOL, uint32_t queue, uint32_t place, struct strm_queued *queued), \
 		(&reader, queue, place, queued), queued != NULL) \

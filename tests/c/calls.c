@@ -84,6 +84,7 @@ void store_in(struct arguments *a, struct results *results)
 	a->msgs = results->msgs;
 	a->out = &results->out;
 	a->done = &results->done;
+	a->stride = &results->stride;
 }
 
 /* Each row makes its call, or none. */

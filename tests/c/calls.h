@@ -85,6 +85,7 @@
 	LOOK(BYTES, bytes, "xk", (pool, a->x, c->place, TO(const uint8_t *), a->done), 3, IS(TOLD_BYTES) | IS(EMPTY) | NOT(STRM_NO_SUCH_BLOCK)) \
 	LOOK(IOV, iov, "xki", (pool, a->x, c->place, TO(struct strm_iov), a->length, a->done), 3, IS(TOLD_IOV) | IS(EMPTY)) \
 	LOOK(PLACE, place, "xk", (pool, a->x, c->place, TO(struct strm_block_place)), 3, IS(TOLD_PLACE) | IS(EMPTY) | NOT(STRM_NO_SUCH_BLOCK)) \
+	LOOK(REGION, region, "k", (pool, c->place, TO(const uint8_t *), a->done, a->stride), 2, IS(TOLD_BYTES) | IS(NOTHING)) \
 	CALL(OVERWRITE, overwrite, "xko", (pool, a->x, c->place, a->octets, a->length), 6, \
 		IS(DONE) | IS(EMPTY) | NOT(STRM_SHORT) | NOT(STRM_SHARED)) \
 	CALL(RESERVE, reserve, "xkr", (pool, a->x, c->place, c->number), 6, \
@@ -192,7 +193,7 @@ struct arguments {
 	struct strm_msg x, z, *msgs, *y, *rest;
 	const void *octets;
 	void *out;
-	size_t length, *done;
+	size_t length, *done, *stride;
 };
 
 /* Room for what a call stores, and one item more. */
@@ -205,7 +206,7 @@ struct results {
 		uint8_t *room;
 		uint8_t octets[MOST_OCTETS + 1];
 	} out;
-	size_t done;
+	size_t done, stride;
 };
 
 /* Has a call store there, where each byte is UNTOUCHED before. */

@@ -753,6 +753,35 @@ static void test_shape(void)
 	ANSWERS(strm_close(&pool), STRM_OK);
 }
 
+/* The bytes of each class are where its data blocks have them, and stay there. */
+static void test_region(void)
+{
+	struct strm_pool pool = opened(6);
+	struct strm_msg a = message(&pool, "lion"), b;
+	struct strm_block_place where;
+	const uint8_t *base = NULL, *of_second = NULL, *bytes;
+	size_t size = 9, stride = 9, length;
+
+	ANSWERS(strm_region(&pool, 2, &base, &size, &stride), STRM_NONE);
+	ANSWERS(strm_region(&pool, 0xFFFFFFFFu, &base, &size, &stride), STRM_NONE);
+	CHECK(base == NULL && size == 9 && stride == 9);
+	ANSWERS(strm_region(&pool, 1, &of_second, &size, &stride), STRM_OK);
+	CHECK((size_t)of_second % 64 == 0 && size == 128 && stride == 64);
+	ANSWERS(strm_region(&pool, 0, &base, &size, &stride), STRM_OK);
+	CHECK((size_t)base % 64 == 0 && size == 96 && stride == 16);
+	ANSWERS(strm_place(&pool, a, 0, &where), STRM_OK);
+	ANSWERS(strm_bytes(&pool, a, 0, &bytes, &length), STRM_OK);
+	CHECK(bytes == base + where.data * stride + where.at && memcmp(bytes, "lion", 4) == 0);
+	ANSWERS(strm_allocb(&pool, 64, &b), STRM_OK);
+	ANSWERS(strm_place(&pool, b, 0, &where), STRM_OK);
+	ANSWERS(strm_bytes(&pool, b, 0, &bytes, &length), STRM_OK);
+	CHECK(bytes == of_second + (where.data - 6) * 64);
+	ANSWERS(strm_freemsg(&pool, a), STRM_OK);
+	ANSWERS(strm_region(&pool, 0, &bytes, &size, &stride), STRM_OK);
+	CHECK(bytes == base && size == 96 && stride == 16);
+	ANSWERS(strm_close(&pool), STRM_OK);
+}
+
 static void test_overwrite(void)
 {
 	static const char many[100] = "";
@@ -1756,6 +1785,7 @@ int main(void)
 	test_writable();
 	test_readv();
 	test_shape();
+	test_region();
 	test_overwrite();
 	test_headroom();
 	test_advance();

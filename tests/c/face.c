@@ -88,6 +88,7 @@ static void look(struct face *face, const struct call *call, int is_done, int ha
 		left(face, results->msgs, names(verb, "p") ? count * sizeof results->msgs[0] : 0, sizeof results->msgs);
 	left(face, &results->out, is_done ? stored_in_out(call, count) : 0, sizeof results->out);
 	left(face, &results->done, is_counted ? sizeof results->done : 0, sizeof results->done);
+	left(face, &results->stride, is_done && has_argument(verb, "->stride") ? sizeof results->stride : 0, sizeof results->stride);
 }
 
 /* Registers hand over messages, and get others. */
@@ -115,6 +116,8 @@ static struct reply bytes_told(const struct call *call, size_t count, const stru
 {
 	struct reply reply = told(TOLD_BYTES, (uint32_t)count, 0);
 
+	if (has_argument(call->verb, "->stride"))
+		reply.numbers[1] = (uint32_t)results->stride;
 	if (names(call->verb, "u"))
 		memcpy(results->out.room, call->octets, count < call->length ? count : call->length);
 	memcpy(reply.octets, gives_address(call->verb) ? results->out.bytes : results->out.octets, count < MOST_OCTETS ? count : MOST_OCTETS);

@@ -286,7 +286,8 @@ static const struct {
 } pointers[] = {
 	{ "->y", offsetof(struct arguments, y) }, { "->rest", offsetof(struct arguments, rest) },
 	{ "->msgs", offsetof(struct arguments, msgs) }, { "->octets", offsetof(struct arguments, octets) },
-	{ "TO(", offsetof(struct arguments, out) }, { "->done", offsetof(struct arguments, done) }
+	{ "TO(", offsetof(struct arguments, out) }, { "->done", offsetof(struct arguments, done) },
+	{ "->stride", offsetof(struct arguments, stride) }
 };
 #define POINTERS ((int)(sizeof pointers / sizeof pointers[0]))
 

@@ -1293,6 +1293,23 @@ static struct reply wish_taken(struct model *v, const struct call *call)
 	return call->verb == UNBUFCALL ? refused(STRM_NOT_PENDING) : reply_of(NOTHING);
 }
 
+/* The bytes of all data blocks of a class, and those of one. */
+static struct reply region_told(const struct model *v, uint32_t place)
+{
+	struct reply reply = reply_of(TOLD_BYTES);
+	const uint8_t *bytes = v->all_bytes;
+	uint32_t c, size = 0;
+
+	if (place >= v->class_count)
+		return reply_of(NOTHING);
+	for (c = 0; c <= place; c++, bytes += size)
+		size = v->classes[c].size * v->classes[c].count;
+	memcpy(reply.octets, bytes - size, size < MOST_OCTETS ? size : MOST_OCTETS);
+	reply.numbers[0] = size;
+	reply.numbers[1] = v->classes[place].size;
+	return reply;
+}
+
 /* The register that holds a message whose first block has this number. */
 static struct reply name_told(const struct model *v, uint32_t head)
 {
@@ -1356,6 +1373,8 @@ static struct reply act_on_pool(struct model *v, const struct call *call)
 			return reply_of(NOTHING);
 		info = model_class(v, call->place);
 		return told_from(TOLD_CLASS, &info);
+	case REGION:
+		return region_told(v, call->place);
 	case LEAST_FREE_BLOCKS:
 		return told(TOLD_SIZE, v->least.cells, 0);
 	case LEAST_FREE:

@@ -1,6 +1,8 @@
 -- Numbers and structs of strm.h, and what they mean.
 use Rattle.std.specs.Prelude.{ℕ, Bool, true, false, ◌==◌, nat_lt, Option, None, Some, Ok, if◌then◌else◌, slice_get, unwrap_or}
+use Rattle.std.specs.Option.{option_map_or}
 use Rattle.strm_data.specs.declared.class_info.ClassInfo.{ClassInfo}
+use Rattle.strm_data.specs.DataStore.{DataStore, class_infos}
 use Rattle.strm_data.specs.MsgType.{all_types}
 use Rattle.strm_data.specs.declared.msg_type.MsgType.{MsgType}
 use Rattle.strm_data.specs.declared.msg_type.MsgType.TheVariants.{MData, MProto, MBreak, MPassfp, MSig, MDelay, MCtl, MIoctl, MSetopts, MIocack, MIocnak, MPcproto, MPcsig, MRead, MFlush, MStop, MStart, MHangup, MError, MCopyin, MCopyout, MIocdata}
@@ -115,6 +117,10 @@ census_in_c c = record { free = c.free; queued = c.queued; held = c.held }
 
 abbrev pub class_in_c : ClassInfo → StrmClassInfo
 class_in_c c = record { size = c.size; free = c.free; total = c.total }
+
+-- the number of bytes of each data block of a class
+abbrev pub stride_of : ℕ → DataStore → ℕ
+stride_of c s = option_map_or 0 (λ k. k.size) (slice_get (class_infos s) c)
 
 -- the name of no message
 abbrev pub no_name : Name

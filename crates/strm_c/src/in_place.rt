@@ -1,11 +1,13 @@
-//! Calls on the bytes of a message where they are, and on the places of its blocks.
-ghost use Rattle.std.specs.Prelude.{◌≡◌, [], Ok};
+//! Calls on bytes where they are, and on the places of a message's blocks.
+ghost use Rattle.std.specs.Prelude.{◌≡◌, [], Ok, length, option_map};
+ghost use Rattle.std.specs.Option.{option_map_or};
+ghost use Rattle.strm_data.specs.DataStore.{class_region};
 ghost use Rattle.strm_mblk.specs.InPlace as in_place;
 ghost use Rattle.strm_pool.specs.PoolValue.{on_arena};
 ghost use Rattle.strm_named.specs.NamedCalls.{asked, no_message, on_name};
-ghost use Rattle.strm_c.specs.Codes.{answer_of_result};
+ghost use Rattle.strm_c.specs.Codes.{answer_of_result, any_or_nothing};
 ghost use Rattle.strm_c.specs.Exports.{Asks, CallsNamed};
-ghost use Rattle.strm_c.specs.InC.{place_in_c};
+ghost use Rattle.strm_c.specs.InC.{capped_number, place_in_c, stride_of};
 ghost use Rattle.strm_c.specs.InPlace.{AsksAddress, number_lent};
 
 use crate::address::address_of;
@@ -13,8 +15,20 @@ use crate::answer::{coded, number, put};
 use crate::code::Code;
 use crate::handle::StrmPool;
 use crate::layout::StrmBlockPlace;
+use crate::numbers::capped_number;
 use crate::reader::StrmReader;
 use strm_named::Name;
+use strm_pool::ClassInfo;
+
+// The number of bytes of each data block of a class, if there is such a class.
+fn stride_of(class: Option<ClassInfo>) -> usize
+    ensures { result ≡ option_map_or 0 (λ c. c.size) class }
+{
+    match class {
+        Some(info) => info.size as usize,
+        None => 0,
+    }
+}
 
 /// Stores the address of a block's bytes in `bytes`, and their number in `length`. As [`NamedPool::bytes`] of strm_named. The
 /// bytes stay there until the next call that is no look (strm.h).
@@ -42,6 +56,43 @@ pub extern "C" fn strm_c_bytes(
             0
         }
         Err(fault) => Code::of(fault).number(),
+    }
+}
+
+/// Stores the address of the bytes of all data blocks of a size class in `base`, their number in `size`, and the number of
+/// those of a data block in `stride`. As [`Blocks::region`] of strm_mblk. Returns `Nothing` if there is no such class.
+#[unsafe(no_mangle)]
+pub extern "C" fn strm_c_region(
+    pool: &mut StrmReader,
+    place: u32,
+    base: &mut *const u8,
+    size: &mut usize,
+    stride: &mut usize,
+) -> i32
+    ensures size { Asks (λ v. any_or_nothing (option_map (λ bytes. length bytes)
+        (class_region (capped_number place) v.pool.arena.store)))
+        pool.old.at.named pool.new.at.named result size.old size.new }
+    ensures stride { Asks (λ v. any_or_nothing (option_map (λ bytes. stride_of (capped_number place) v.pool.arena.store)
+        (class_region (capped_number place) v.pool.arena.store)))
+        pool.old.at.named pool.new.at.named result stride.old stride.new }
+    ensures base { AsksAddress (λ v. any_or_nothing (class_region (capped_number place) v.pool.arena.store))
+        pool.old.at.named base.old base.new }
+    ensures same { pool.new ≡ pool.old }
+{
+    let Some(view) = pool.view() else {
+        return Code::NotOpen.number();
+    };
+    let class = capped_number(place);
+    let blocks = view.named().pool().blocks();
+    let info = blocks.class_info(class);
+    match blocks.region(class) {
+        Some(bytes) => {
+            *base = address_of(bytes);
+            *size = bytes.len();
+            *stride = stride_of(info);
+            0
+        }
+        None => Code::Nothing.number(),
     }
 }
 
