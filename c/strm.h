@@ -658,10 +658,10 @@ int strm_iov(const struct strm_pool *pool, struct strm_msg msg, uint32_t from, s
 int strm_place(const struct strm_pool *pool, struct strm_msg msg, uint32_t place, struct strm_block_place *where);
 
 /*
- * Sets *base to the address of the bytes of all data blocks of the size class at `place`, *size to
- * their number, and *stride to the number of those of one data block: these follow one another. The
- * bytes stay there while the pool is open, so tell a device or io_uring of them once. Within them
- * strm_room says where to write. Returns STRM_NONE if there is no such class. Since 0.4.0.
+ * Sets *base to the address of the bytes of all data blocks of the size class at `place`, and *size
+ * to their number. Data blocks follow one another, each of *stride bytes. They stay there while the
+ * pool is open, so register them once, with a device or io_uring. Within them strm_room says where
+ * to write. Returns STRM_NONE if there is no such class. Since 0.4.0.
  * Not in STREAMS.
  */
 int strm_region(const struct strm_pool *pool, uint32_t place, const uint8_t **base, size_t *size, size_t *stride);
