@@ -196,8 +196,8 @@ extern "C" {
 #endif
 
 /* The version of this header, as a text and as a number. */
-#define STRM_VERSION "0.3.0"
-#define STRM_VERSION_NUMBER 3000
+#define STRM_VERSION "0.4.0"
+#define STRM_VERSION_NUMBER 4000
 
 enum {
 	STRM_OK = 0,			/* done */
@@ -292,7 +292,7 @@ struct strm_msg {
 	uint64_t stamp;			/* how many names with that block were given, this one included */
 };
 
-/* The name of no message: an initialiser, also of static variables. Since 0.3.0. */
+/* The name of no message: an initialiser, also of static variables. Since 0.4.0. */
 #define STRM_NO_MSG_INIT { 0, 0, 0 }
 
 /* The same as a value, for assignments, arguments and other variables; in C89 an initialiser. */
