@@ -322,8 +322,8 @@ FORCE:
 # Where the library is installed.
 LIB := $(DESTDIR)$(PREFIX)/lib
 
-# Installs the libraries for C, their headers and manuals, gdb's commands, the crate for Rust and the wheel for Python. With them is what pkg-config and CMake
-# find them by. Then it prints the lines that let pkg-config and the loader find them, unless they are to be moved from DESTDIR.
+# Installs the libraries for C, their headers and manuals, the crate for Rust and the wheel for Python. With them is what pkg-config, CMake, gdb
+# and strm-trace take. Then it prints the lines that let pkg-config and the loader find them, unless they are to be moved from DESTDIR.
 install-lib: $(ARCHIVE) $(SHARED) $(ARCHIVE_MT) $(SHARED_MT) $(TRACE)
 	install -D -m 644 $(ARCHIVE) $(LIB)/libstrm.a
 	install -m 644 $(SHARED) $(LIB)/libstrm.so.$(VERSION)

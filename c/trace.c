@@ -18,7 +18,6 @@
 #include <stdlib.h>
 #include <string.h>
 #include <sys/mman.h>
-#include <sys/single_threaded.h>
 #include <sys/stat.h>
 #include <sys/syscall.h>
 #include <time.h>
@@ -26,15 +25,20 @@
 
 /* How much of a file is in memory, and how much of an array and of bytes is shown. */
 #define WINDOW ((size_t)1 << 20)
-#define PAGE 4096
+/* A multiple of the size of a page, which may be 64 KB on ARM. */
+#define PAGE 65536
+#ifndef MADV_POPULATE_WRITE
+#define MADV_POPULATE_WRITE 23
+#endif
 #define MOST_ITEMS 16
 #define MOST_BYTES 32
 
-static enum { UNKNOWN, OFF, TEXT, SCRIPT } mode;
+static _Atomic enum { UNKNOWN, OFF, TEXT, SCRIPT } mode;
 static struct output text_out;
 /* The open pools, and the one that was called last. */
 static struct traced *pools, *last;
 static unsigned pool_count;
+static int has_labels;
 static struct timespec started;
 static atomic_flag is_taken = ATOMIC_FLAG_INIT;
 static __thread unsigned thread __attribute__((tls_model("initial-exec")));
@@ -69,9 +73,12 @@ static int move_window(struct output *out)
 	out->from += out->used / PAGE * PAGE;
 	out->used %= PAGE;
 	errno = posix_fallocate(out->fd, (off_t)out->from, WINDOW);
-	out->window = errno ? MAP_FAILED : mmap(NULL, WINDOW, PROT_READ | PROT_WRITE, MAP_SHARED | MAP_POPULATE, out->fd, (off_t)out->from);
-	if (out->window != MAP_FAILED)
+	out->window = errno ? MAP_FAILED : mmap(NULL, WINDOW, PROT_READ | PROT_WRITE, MAP_SHARED, out->fd, (off_t)out->from);
+	if (out->window != MAP_FAILED) {
+		/* much faster than page by page; older kernels refuse it */
+		madvise(out->window, WINDOW, MADV_POPULATE_WRITE);
 		return 1;
+	}
 	out->window = NULL;
 	give_up("the file of the trace");
 	return 0;
@@ -81,7 +88,7 @@ static int move_window(struct output *out)
 static int open_output(struct output *out, unsigned number)
 {
 	const char *to = getenv("STRM_TRACE_TO");
-	char path[PAGE];
+	char path[4096];
 	struct stat is;
 
 	if (!to || !*to || to[strspn(to, "0123456789")] == 0) {
@@ -232,6 +239,10 @@ static void remove_pool(struct traced *traced)
 		at = &(*at)->after;
 	*at = traced->after;
 	last = NULL;
+}
+
+static void free_pool(struct traced *traced)
+{
 	free(traced->labels);
 	free(traced->first);
 	free(traced->next);
@@ -271,6 +282,10 @@ static char *add_number(char *at, uint64_t number)
 	char digits[20];
 	int count = 0;
 
+	if (number < 10) {
+		*at = (char)('0' + number);
+		return at + 1;
+	}
 	do
 		digits[count++] = (char)('0' + number % 10);
 	while ((number /= 10) != 0);
@@ -468,7 +483,8 @@ static void tell(const struct traced_call *call, const union value *values, int 
 		}
 	memcpy(at, ") = ", 4);
 	at = add_code(at + 4, code);
-	traced = pool_of_results(call, values);
+	if (call->forms[1].kind == CALLED)
+		traced = pool_of_results(call, values);
 	for (place = 0, form = call->forms; code == STRM_OK && place < call->count; place++, form++)
 		if (form->kind >= OUT_BYTES) {
 			*at++ = ' ';
@@ -498,19 +514,16 @@ static void unlabel(const struct traced_call *call, const union value *values)
 
 static void told(const struct traced_call *call, const union value *values, int code)
 {
-	int has_lock = !__libc_single_threaded;
 	struct traced *traced;
 
-	if (has_lock)
-		take_lock();
-	if (call->is_new && code == STRM_OK)
+	take_lock();
+	if (has_labels && call->is_new && code == STRM_OK)
 		unlabel(call, values);
 	if (mode == TEXT)
 		tell(call, values, code);
 	else if (mode == SCRIPT && (traced = strm_traced(values[0].at)) != NULL)
 		strm_script_call(traced, call, values, code);
-	if (has_lock)
-		leave_lock();
+	leave_lock();
 }
 
 /* What each argument is, by its type. */
@@ -637,13 +650,19 @@ int strm_close(struct strm_pool *pool)
 
 	take_lock();
 	traced = strm_traced(pool);
-	if (traced != NULL && mode == SCRIPT)
-		end_script(traced);
-	code = strm_untraced_close(pool);
-	tell_pool("strm_close", traced, NULL, code);
-	if (traced != NULL)
+	if (traced != NULL) {
+		if (mode == SCRIPT)
+			end_script(traced);
 		remove_pool(traced);
+	}
 	leave_lock();
+	/* without the lock, since it calls an allocator of the caller's */
+	code = strm_untraced_close(pool);
+	take_lock();
+	tell_pool("strm_close", traced, NULL, code);
+	leave_lock();
+	if (traced != NULL)
+		free_pool(traced);
 	return code;
 }
 
@@ -662,6 +681,7 @@ void strm_trace_label(const struct strm_pool *pool, uint32_t queue, struct strm_
 	struct traced *traced;
 
 	take_lock();
+	has_labels = 1;
 	traced = strm_traced(pool);
 	if (traced != NULL && queue < traced->queues)
 		copy_label(traced->queue_labels[queue], label);
