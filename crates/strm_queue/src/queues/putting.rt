@@ -156,7 +156,8 @@ impl Queues {
     ) -> Result<(), Rejected>
         requires agrees { Agrees self.old blocks.old }
         requires had { IsTrue (has blocks.old token) }
-        ensures does { Puts arena token (by_head.insq_before queue before token.head (queued_blocks self.old blocks.old))
+        ensures does { Puts arena token
+            (by_head.insq_before queue before token.head (queued_blocks self.old blocks.old))
             (queued_blocks self.old blocks.old) (queued_blocks self.new blocks.new) result }
         ensures agrees { Agrees self.new blocks.new }
     {
