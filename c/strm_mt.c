@@ -31,7 +31,7 @@ enum { BEGUN, STANDING, SERVED, POSTED };		/* how far they are */
 
 #define NOTHING 0xFFFFFFFFu
 
-/* What calls do not need where nobody waits. It is called, so that their code has no more than they need. */
+/* Marks what a call does only where others wait. It stays out of line, so that the rest takes fewer instructions. */
 #define SELDOM __attribute__((noinline))
 
 struct call {
