@@ -338,9 +338,9 @@ install-lib: $(ARCHIVE) $(SHARED) $(ARCHIVE_MT) $(SHARED_MT) $(TRACE)
 	$(FORM) c/strm-config-version.cmake.in | install -m 644 /dev/stdin $(LIB)/cmake/strm/strm-config-version.cmake
 	install -m 644 $(TRACE) $(LIB)/libstrm_trace.so
 	install -m 644 c/strm_gdb.py $(LIB)/libstrm.so.$(VERSION)-gdb.py
-	install -D -m 644 -t $(DESTDIR)$(PREFIX)/include c/strm.h c/strm_mt.h c/strm_trace.h bindings/cpp/strm.hpp
+	install -D -m 644 -t $(DESTDIR)$(PREFIX)/include c/strm.h c/strm_mt.h c/strm_trace.h bindings/cpp/strm.hpp bindings/cpp/strm_channel.hpp
 	rm -rf $(SHARE)/strm/bindings
-	for file in Cargo.toml build.rs src/lib.rs src/raw.rs; do install -D -m 644 bindings/rust/$$file $(SHARE)/strm/bindings/rust/$$file || exit; done
+	for file in Cargo.toml build.rs src/channel.rs src/lib.rs src/raw.rs; do install -D -m 644 bindings/rust/$$file $(SHARE)/strm/bindings/rust/$$file || exit; done
 	@python3 bindings/python/make_wheel.py $(SHARE)/strm/bindings $(SHARED)
 	tools/man_pages 3 $(SHARE)/man/man3
 	@$(if $(DESTDIR),,echo 'export PKG_CONFIG_PATH=$(PREFIX)/lib/pkgconfig$${PKG_CONFIG_PATH:+:$$PKG_CONFIG_PATH}')

@@ -28,6 +28,9 @@ fn main() {
         panic!("there is no libstrm: set STRM_LIB_DIR to the folder that has libstrm.a or libstrm.so");
     };
     println!("cargo:rustc-link-search=native={}", folder.display());
+    if env::var_os("CARGO_FEATURE_CHANNEL").is_some() {
+        println!("cargo:rustc-link-lib={kind}=strm_mt");
+    }
     println!("cargo:rustc-link-lib={kind}=strm");
     println!("cargo:rerun-if-changed={}", folder.display());
 }

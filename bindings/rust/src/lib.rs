@@ -36,8 +36,12 @@ use core::ffi::c_int;
 use core::fmt;
 use core::mem;
 
+#[cfg(feature = "channel")]
+mod channel;
 mod raw;
 
+#[cfg(feature = "channel")]
+pub use channel::Channel;
 pub use raw::{Allocator, Handle, Iov};
 
 /// The next queue of a queue that has none, and the name of no message.

@@ -190,7 +190,7 @@ unsafe extern "C" {
 }
 
 /// Has a call read a configuration.
-fn with_config(config: &Config, call: impl FnOnce(&RawConfig) -> c_int) -> c_int {
+pub(crate) fn with_config(config: &Config, call: impl FnOnce(&RawConfig) -> c_int) -> c_int {
     let mut queues = [QueueSpec::default(); 16];
     for (into, from) in queues.iter_mut().zip(config.queues) {
         *into = (*from).into();
