@@ -120,7 +120,7 @@ class_in_c c = record { size = c.size; free = c.free; total = c.total }
 
 -- the number of bytes of each data block of a class
 abbrev pub stride_of : ℕ → DataStore → ℕ
-stride_of c s = option_map_or 0 (λ k. k.size) (slice_get (class_infos s) c)
+stride_of c s = option_map_or (λ k. k.size) (slice_get (class_infos s) c) 0
 
 -- the name of no message
 abbrev pub no_name : Name

@@ -22,7 +22,7 @@ use strm_pool::ClassInfo;
 
 // The number of bytes of each data block of a class, if there is such a class.
 fn stride_of(class: Option<ClassInfo>) -> usize
-    ensures { result ≡ option_map_or 0 (λ c. c.size) class }
+    ensures { result ≡ option_map_or (λ c. c.size) class 0 }
 {
     match class {
         Some(info) => info.size as usize,
