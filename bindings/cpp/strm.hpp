@@ -22,7 +22,8 @@
  *
  *   - Functions that are `const` are looks. Any other runs alone on its pool: threads that share a pool hold a lock. To free a
  *     message is such a call, also where it goes out of scope or is assigned to. To move it into an empty one is no call.
- *   - Bytes in place (message::bytes, iov, blocks) are good until the next call with the pool that is no look.
+ *   - Bytes in place (message::bytes, iov, blocks, room, edit) are good until the next call with the pool that is no look, room
+ *     or edit. Those of room and edit may be written.
  *   - A queue is used only while its pool is there.
  */
 #ifndef STRM_HPP
@@ -51,6 +52,7 @@
 #endif
 
 namespace strm {
+using std::optional;
 
 /* ---- refusals */
 enum class refusal {
@@ -73,15 +75,15 @@ inline const std::error_category& category() noexcept {
 }
 inline std::error_code make_error_code(refusal why) noexcept { return { static_cast<int>(why), category() }; }
 
+/* The text that a call copies. */
+template <class Call, class... Args> std::string text_by(Call call, Args... args) {
+    std::string text(call(args..., nullptr, 0), '\0');
+    call(args..., text.data(), text.size() + 1);
+    return text;
+}
 /* The name of a code, as "STRM_TOO_LARGE" (strm_name), and the version of the library (strm_version). */
-inline std::string name_of(refusal why) {
-    char text[32];
-    return { text, strm_name(static_cast<int>(why), text, sizeof text) };
-}
-inline std::string version() {
-    char text[32];
-    return { text, strm_version(text, sizeof text) };
-}
+inline std::string name_of(refusal why) { return text_by(strm_name, static_cast<int>(why)); }
+inline std::string version() { return text_by(strm_version); }
 
 /* How a call reports a refusal: by an exception, or in a std::error_code. It is made of the call's last argument. */
 class report {
@@ -185,9 +187,9 @@ template <class T, class Call, class... Args> T stored(report to, Call call, Arg
 }
 
 /* The result that a call stores, or none if there is nothing to give. */
-template <class T, class Call, class... Args> std::optional<T> found(report to, Call call, Args... args) {
+template <class T, class Call, class... Args> optional<T> found(report to, Call call, Args... args) {
     T result{};
-    return to(call(args..., &result)) ? std::optional<T>(result) : std::nullopt;
+    return to(call(args..., &result)) ? optional<T>(result) : std::nullopt;
 }
 }  // namespace detail
 
@@ -222,15 +224,12 @@ public:
     size_t blocks(uint32_t from, span<strm_block_info> into, STRM_REPORT) const { return filled(to, strm_blocks, from, into); }
     /* All blocks with their bytes: for (auto block : msg.blocks()). Of an empty message there are none. */
     strm::blocks blocks() const noexcept;
-    strm::bytes bytes(uint32_t place, STRM_REPORT) const {
-        const uint8_t* first;
-        size_t length;
-        const bool is_there = to(call(strm_bytes, place, &first, &length));
-        return is_there ? strm::bytes(reinterpret_cast<const std::byte*>(first), length) : strm::bytes();
-    }
+    strm::bytes bytes(uint32_t place, STRM_REPORT) const { return in_place<const std::byte>(to, strm_bytes, place); }
     size_t iov(uint32_t from, span<strm_iov> into, STRM_REPORT) const { return filled(to, strm_iov_, from, into); }
     strm_block_place place(uint32_t place, STRM_REPORT) const { return stored<strm_block_place>(to, strm_place, place); }
 
+    buffer room(uint32_t place, STRM_REPORT) { return in_place<std::byte>(to, strm_room, place); }
+    buffer edit(uint32_t place, STRM_REPORT) { return in_place<std::byte>(to, strm_edit, place); }
     void write(uint32_t place, strm::bytes from, STRM_REPORT) { to(call(strm_write, place, from.data(), from.size())); }
     void overwrite(uint32_t at, strm::bytes from, STRM_REPORT) { to(call(strm_overwrite, at, from.data(), from.size())); }
     void prepend(strm::bytes from, STRM_REPORT) { to(call(strm_prepend, from.data(), from.size())); }
@@ -288,6 +287,11 @@ private:
     template <class Call, class Array> size_t filled(report to, Call call, uint32_t from, Array into) const {
         return stored<size_t>(to, call, from, into.data(), into.size());
     }
+    template <class Byte, class Call> span<Byte> in_place(report to, Call call, uint32_t place) const {
+        std::conditional_t<std::is_const_v<Byte>, const uint8_t, uint8_t>* first;
+        size_t length;
+        return to(this->call(call, place, &first, &length)) ? span<Byte>(reinterpret_cast<Byte*>(first), length) : span<Byte>();
+    }
     template <class Call> message made(report to, Call call) {
         return at_ ? given(to, at_.get(), call, name()) : (to(STRM_BAD_ARGUMENT), message());
     }
@@ -343,11 +347,7 @@ public:
     std::nullptr_t end() const noexcept { return nullptr; }
     bool operator!=(std::nullptr_t) const noexcept { return is_there_; }
     const block& operator*() const noexcept { return block_; }
-    blocks& operator++() noexcept {
-        place_++;
-        look();
-        return *this;
-    }
+    blocks& operator++() noexcept { return place_++, look(), *this; }
 
 private:
     void look() noexcept {
@@ -355,7 +355,6 @@ private:
         block_ = { of_->block(place_, code), of_->bytes(place_, code) };
         is_there_ = !code;
     }
-
     const message* of_;
     uint32_t place_ = 0;
     block block_;
@@ -374,9 +373,8 @@ public:
     size_t read_queued(uint32_t place, uint32_t at, buffer into, STRM_REPORT) const {
         return look<size_t>(to, strm_read_queued, place, at, into.data(), into.size());
     }
-    std::optional<uint32_t> first_queued(STRM_REPORT) const {
-        return detail::found<uint32_t>(to, strm_first_queued, handle(), number_);
-    }
+    optional<uint32_t> first_queued(STRM_REPORT) const { return head(to, strm_first_queued); }
+    optional<uint32_t> last_queued(STRM_REPORT) const { return head(to, strm_last_queued); }
     strm_marks strqget(uint32_t band, STRM_REPORT) const { return look<strm_marks>(to, strm_strqget, band); }
     strm_queue_spec spec(STRM_REPORT) const { return look<strm_queue_spec>(to, strm_queue_spec_); }
     strm_queue_info info(STRM_REPORT) const { return look<strm_queue_info>(to, strm_queue_info_); }
@@ -386,7 +384,8 @@ protected:
     strm_pool* handle() const noexcept { return detail::handle_of(at_); }
     template <class T, class Call, class... Args>
     T look(report to, Call call, Args... args) const { return detail::stored<T>(to, call, handle(), number_, args...); }
-
+    template <class Call>
+    optional<uint32_t> head(report to, Call call) const { return detail::found<uint32_t>(to, call, handle(), number_); }
     detail::shared* at_;
     uint32_t number_;
 };
@@ -401,9 +400,9 @@ public:
     void put(message&& msg, STRM_REPORT) { msg.hand_over(to, at_, strm_putq, number_); }
     void put_back(message&& msg, STRM_REPORT) { msg.hand_over(to, at_, strm_putbq, number_); }
     void insert(uint32_t place, message&& msg, STRM_REPORT) { msg.hand_over(to, at_, strm_insq, number_, place); }
-    std::optional<message> get(STRM_REPORT) {
+    optional<message> get(STRM_REPORT) {
         message first = message::given(to, at_, strm_getq, number_);
-        return first ? std::optional<message>(std::move(first)) : std::nullopt;
+        return first ? optional<message>(std::move(first)) : std::nullopt;
     }
     message remove(uint32_t place, STRM_REPORT) { return message::given(to, at_, strm_rmvq, number_, place); }
     size_t put_n(span<message> from, STRM_REPORT) { return message::series<false>(to, at_, from, strm_putq_n, number_); }
@@ -452,18 +451,22 @@ public:
         return message::series<true>(to, at_.get(), into, strm_allocb_n, size);
     }
     size_t freemsg_n(span<message> from, STRM_REPORT) { return message::series<false>(to, at_.get(), from, strm_freemsg_n); }
-    std::optional<strm_msg> name_at(uint32_t head, STRM_REPORT) const { return found<strm_msg>(to, strm_name_at, head); }
-    std::optional<uint32_t> queued_after(uint32_t head, STRM_REPORT) const { return found<uint32_t>(to, strm_queued_after, head); }
-    std::optional<uint32_t> next_service(STRM_REPORT) { return found<uint32_t>(to, strm_next_service); }
-    std::optional<uint32_t> run_at(uint32_t place, STRM_REPORT) const { return found<uint32_t>(to, strm_run_at, place); }
+    optional<strm_msg> name_at(uint32_t head, STRM_REPORT) const { return found<strm_msg>(to, strm_name_at, head); }
+    optional<uint32_t> queued_after(uint32_t head, STRM_REPORT) const { return found<uint32_t>(to, strm_queued_after, head); }
+    optional<uint32_t> queued_before(uint32_t head, STRM_REPORT) const { return found<uint32_t>(to, strm_queued_before, head); }
+    uint32_t queue_of(uint32_t head, STRM_REPORT) const { return stored<uint32_t>(to, strm_queue_of, head); }
+    optional<uint32_t> next_service(STRM_REPORT) { return found<uint32_t>(to, strm_next_service); }
+    optional<uint32_t> run_at(uint32_t place, STRM_REPORT) const { return found<uint32_t>(to, strm_run_at, place); }
     uint32_t bufcall(uint32_t size, STRM_REPORT) { return stored<uint32_t>(to, strm_bufcall, size); }
     void unbufcall(uint32_t id, STRM_REPORT) { to(strm_unbufcall(handle(), id)); }
-    std::optional<strm_wish> take_ready(STRM_REPORT) { return found<strm_wish>(to, strm_take_ready); }
-    std::optional<strm_wish> wish_at(uint32_t place, STRM_REPORT) const { return found<strm_wish>(to, strm_wish_at, place); }
+    optional<strm_wish> take_ready(STRM_REPORT) { return found<strm_wish>(to, strm_take_ready); }
+    optional<strm_wish> wish_at(uint32_t place, STRM_REPORT) const { return found<strm_wish>(to, strm_wish_at, place); }
     strm_census census(STRM_REPORT) const { return stored<strm_census>(to, strm_census_); }
-    std::optional<strm_class_info> class_info(uint32_t place, STRM_REPORT) const {
+    optional<strm_class_info> class_info(uint32_t place, STRM_REPORT) const {
         return found<strm_class_info>(to, strm_class_info_, place);
     }
+    /* Empty if the pool is not open. */
+    std::string report() const { return text_by(strm_report, handle()); }
 
 private:
     friend class message;
@@ -473,13 +476,11 @@ private:
             detail::leave(at);
         }
     };
-
     strm_pool* handle() const noexcept { return detail::handle_of(at_.get()); }
     template <class T, class Call, class... Args>
-    T stored(report to, Call call, Args... args) const { return detail::stored<T>(to, call, handle(), args...); }
+    T stored(strm::report to, Call call, Args... args) const { return detail::stored<T>(to, call, handle(), args...); }
     template <class T, class Call, class... Args>
-    std::optional<T> found(report to, Call call, Args... args) const { return detail::found<T>(to, call, handle(), args...); }
-
+    optional<T> found(strm::report to, Call call, Args... args) const { return detail::found<T>(to, call, handle(), args...); }
     std::unique_ptr<detail::shared, closer> at_;
 };
 
@@ -494,7 +495,5 @@ inline message message::transfer(pool& other, report to) {
 }  // namespace strm
 
 template <> struct std::is_error_code_enum<strm::refusal> : std::true_type {};
-
 #undef STRM_REPORT
-
 #endif

@@ -206,6 +206,38 @@ void blocks_and_looks() {
     CHECK(pool.queue(0).get(code) && !pool.queue(0).get(code) && !code);
 }
 
+void bytes_in_place() {
+    strm::pool pool(config(1), code);
+    strm::message msg = filled(pool, "lion"), other = filled(pool, "wolf");
+    const strm::bytes read = msg.bytes(0, code);
+    const strm::buffer room = msg.room(0, code), bytes = msg.edit(0, code);
+    CHECK(!code && bytes.data() == read.data() && bytes.size() == 4 && room.data() == bytes.data() + 4 && room.size() == 4);
+    other.edit(0, code)[3] = std::byte('v');
+    bytes[0] = std::byte('L');
+    room[0] = std::byte('s');
+    CHECK(strm::text_of(read) == "Lion" && text_of(msg) == "Lion" && text_of(other) == "wolv");
+    msg.advance(0, 1, code);
+    CHECK(text_of(msg) == "Lions" && msg.room(0, code).size() == 3);
+    msg.advance(0, 3, code);
+    CHECK(msg.room(0, code).size() == 0 && !code);
+    const strm::message copy = msg.dupb(code);
+    CHECK(msg.edit(0, code).size() == 0);
+    REFUSED(shared);
+    CHECK(other.room(1, code).size() == 0);
+    REFUSED(no_such_block);
+    CHECK(strm::message().edit(0, code).data() == nullptr);
+    REFUSED(bad_argument);
+}
+
+void reports() {
+    strm::pool pool(config(1), code), small(config(2, 8), code);
+    CHECK(small.report() == "blocks free=8 queued=0 held=0 total=8\ndata size=8 free=8 total=8\n"
+                            "queue 0 msgs=0 bytes=0 read=1 noenable=0 enabled=0\nqueue 1 msgs=0 bytes=0 read=1 noenable=0 enabled=0\n"
+                            "run -\nwishes -\n");
+    small.close(code);
+    CHECK(small.report().empty());
+}
+
 void series() {
     strm::pool pool(config(1), code);
     std::vector<strm::message> messages(100);
@@ -263,6 +295,8 @@ int main() {
     pools_that_move_and_end();
     memory_of_ones_own();
     blocks_and_looks();
+    bytes_in_place();
+    reports();
     series();
     refusals();
     return summary();

@@ -1,7 +1,7 @@
 #!/usr/bin/env python3
 """Tests bindings/python over the library that STRM_LIBRARY names. With files of tests/c/drawn.c, the pool does the calls of SCRIPT, and must give the
-replies of TEXT. Without, it tests what the binding adds to the calls of strm.h, and if Debian's hypothesis is there, drawn lines beside the plain model
-of the tools. The last line is 'N passed, M failed'.
+replies of TEXT and its report. Without, it tests what the binding adds to the calls of strm.h, and if Debian's hypothesis is there, drawn lines beside
+the plain model of the tools. The last line is 'N passed, M failed'.
 
     tests/bindings/each.py [SCRIPT TEXT]
 """
@@ -54,7 +54,7 @@ def play(script_text, text):
         part = range(start, min(start + 1000, len(section)))
         wrong = [k for k in part if player.answer(*section[k][1:]) != replies[k]]
         check(not wrong, f"the reply of strm to call {wrong[:1]}, {[section[k] for k in wrong[:1]]}: {[replies[k] for k in wrong[:1]]}")
-    check(len(replies) == len(section) > 0, "a reply to each line")
+    check(len(section) > 0 and replies[len(section) :] == player.report(), "the report after the last line")
 
 
 # ---- what the binding adds
@@ -80,7 +80,9 @@ def messages():
         pool.queues[0].put(msg)
         check(repr(msg) == "<Message, spent>" and repr(pool.queues[0]) == "<Queue 0: msgs=1 bytes=4 read=1 noenable=0 enabled=1>", "the text of a queue")
         check([it.bytes for it in pool.queues[0]] == [4] and pool.queues[0].read_queued(0) == b"lion", "the messages on a queue")
-        check(pool.queued_after(pool.queues[0].first_queued()) is None and pool.run_at(0) == 0, "one message on a queue")
+        first, last = pool.queues[0].first_queued(), pool.queues[0].last_queued()
+        check(pool.queued_after(first) is pool.queued_before(last) is None and pool.run_at(0) == 0, "one message on a queue")
+        check(first == last and pool.queue_of(first) is pool.queues[0] and pool.queues[1].last_queued() is None, "the queue of a message")
         for call in (msg.freemsg, msg.size, msg.dupb, msg.unlinkb, msg.freeb):
             refused(strm.Code.INVALID, call)
         refused(strm.Code.INVALID, pool.queues[0].put, msg)
@@ -105,7 +107,10 @@ def messages():
         check([bytes(part) for part in first.iov()] == [b"aB", b"Cd"] and [it.length for it in first.blocks()] == [2, 2], "the bytes of blocks")
         check(first.place(1).capacity == 8 and first.rmvb(0).read() == b"aB" and first.read() == b"Cd", "a block that is taken out")
         check(first.unlinkb() is None and first.freeb() is None and not first.has(), "the last block")
+        refused(strm.Code.NO_SUCH_PLACE, pool.queue_of, 39)
+        check(pool.report().splitlines()[:2] == ["blocks free=37 queued=1 held=2 total=40", "data size=8 free=37 total=40"], f"a report: {pool.report()}")
     refused(strm.Code.NOT_OPEN, pool.allocb, 1)
+    check(pool.report() == "", "no report after the end")
     check("closed" in repr(pool) and "closed" in repr(pool.queues[0]) and repr(name and moved) == "<Message, spent>", "texts after the end")
 
 
@@ -123,6 +128,24 @@ def bytes_in_place():
         held = memoryview(view).__class__(view)
         del held
         check(len(msg.bytes(0)) == 4 and not msg.rmvb(0).size() != 4, "bytes twice")
+        msg = filled(pool, b"lion")
+        view, room, own = msg.bytes(0), msg.room(0), msg.edit(0)
+        own[0], room[:2] = ord("L"), b"s!"
+        check(view.readonly and bytes(view) == b"Lion" == msg.read() and len(room) == 4, "bytes that are changed in place")
+        msg.advance(0, 1)
+        check(msg.read() == b"Lions" and len(msg.room(0)) == 3, "room that was written")
+        for view in (room, own):
+            try:
+                view[0] = 0
+                check(False, "no byte written after a change")
+            except ValueError:
+                check(True, "")
+        msg.advance(0, 3)
+        check(len(msg.room(0)) == 0, "no room")
+        copy = msg.dupb()
+        refused(strm.Code.SHARED, msg.edit, 0)
+        refused(strm.Code.NO_SUCH_BLOCK, copy.room, 1)
+        check(msg.read() == b"Lions!\0\0", "bytes after refused calls")
 
 
 def series():

@@ -4,6 +4,7 @@
 
 #include "strm.hpp"
 
+#include <algorithm>
 #include <cstring>
 #include <vector>
 
@@ -107,6 +108,12 @@ reply block_bytes_told(strm::bytes bytes) {
     for (size_t i = 0; i < bytes.size() && i < MOST_OCTETS; i++)
         reply.octets[i] = static_cast<uint8_t>(bytes[i]);
     return reply;
+}
+
+// Bytes in place, once octets were written there.
+reply written_told(strm::buffer found, strm::bytes octets) {
+    std::copy_n(octets.data(), std::min(octets.size(), found.size()), found.data());
+    return block_bytes_told({ found.data(), found.size() });
 }
 
 reply blocks_told(const strm::message& x, const call& call, strm::report to) {
@@ -232,7 +239,10 @@ reply apply_to_pool(lent& it, const call& call, strm::report to) {
     case READ_QUEUED:
         return bytes_told(it, [&](strm::buffer into) { return queue.read_queued(call.place, call.number, into, to); });
     case FIRST_QUEUED: return number(TOLD_HEAD, queue.first_queued(to));
+    case LAST_QUEUED: return number(TOLD_HEAD, queue.last_queued(to));
     case QUEUED_AFTER: return number(TOLD_HEAD, pool.queued_after(call.number, to));
+    case QUEUED_BEFORE: return number(TOLD_HEAD, pool.queued_before(call.number, to));
+    case QUEUE_OF: return told(TOLD_QUEUE, pool.queue_of(call.number, to), 0);
     case QUEUE_SPEC: return told_of(TOLD_SPEC, queue.spec(to));
     case ALLOCB_N: case GETQ_N: return gave_many(it, call, to);
     default: return took_many(it, call, to);
@@ -275,6 +285,8 @@ reply apply_to_message(lent& it, lent& other, const call& call, strm::report to)
     case RESERVE: return x.reserve(call.place, call.number, to), reply_of(DONE);
     case PREPEND: return x.prepend(octets, to), reply_of(DONE);
     case ADVANCE: return x.advance(call.place, call.number, to), reply_of(DONE);
+    case ROOM: return written_told(x.room(call.place, to), octets);
+    case EDIT: return written_told(x.edit(call.place, to), octets);
     default: return given(other, call.y, x.transfer(other.pool, to));
     }
 }

@@ -137,6 +137,13 @@ fn told_read(read: impl FnOnce(&mut [u8]) -> Result<usize, Refusal>) -> Told {
     Ok(told_bytes(&bytes[..count]))
 }
 
+/// Bytes in place, once octets were written there.
+fn told_written(found: &mut [u8], octets: &[u8]) -> Reply {
+    let length = octets.len().min(found.len());
+    found[..length].copy_from_slice(&octets[..length]);
+    told_bytes(found)
+}
+
 fn numbers_of(info: &BlockInfo) -> [u32; 5] {
     [info.r#type.0, info.length, info.band, info.room, info.names]
 }
@@ -218,7 +225,10 @@ impl Face {
             }
             "read_queued" => told_read(|into| pool.read_queued(queue, place, number, into))?,
             "first_queued" => optional(pool.first_queued(queue)?, |head| told(TOLD_HEAD, &[head])),
+            "last_queued" => optional(pool.last_queued(queue)?, |head| told(TOLD_HEAD, &[head])),
             "queued_after" => optional(pool.queued_after(number)?, |head| told(TOLD_HEAD, &[head])),
+            "queued_before" => optional(pool.queued_before(number)?, |head| told(TOLD_HEAD, &[head])),
+            "queue_of" => told(TOLD_QUEUE, &[pool.queue_of(number)?]),
             "queue_spec" => {
                 let it = pool.queue_spec(queue)?;
                 told(TOLD_SPEC, &[it.hiwat, it.lowat, it.service.into(), it.next.unwrap_or(u32::MAX)])
@@ -310,6 +320,8 @@ impl Face {
             "reserve" => done(pool.reserve(&x, place, number)?),
             "prepend" => done(pool.prepend(&x, octets)?),
             "advance" => done(pool.advance(&x, place, number)?),
+            "room" => told_written(pool.room(&x, place)?, octets),
+            "edit" => told_written(pool.edit(&x, place)?, octets),
             "transfer" => {
                 let mut into = other.lend();
                 let moved = self.spent(call.x, pool.transfer(&mut into, x));

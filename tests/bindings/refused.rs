@@ -61,6 +61,21 @@ fn case(pool: &mut Pool, msg: &Message, other: &Message) -> Result<(), Refusal> 
     Ok(())
 }
 
+// ---- room that is kept over a call: E0499
+fn case(pool: &mut Pool, msg: &Message) -> Result<(), Refusal> {
+    let room = pool.room(msg, 0)?;
+    pool.advance(msg, 0, 1)?; // refused
+    room[0] = b'!';
+    Ok(())
+}
+
+// ---- bytes that are changed while others are read: E0502
+fn case(pool: &mut Pool, msg: &Message, other: &Message) -> Result<u8, Refusal> {
+    let bytes = pool.edit(msg, 0)?;
+    bytes.copy_from_slice(pool.bytes(other, 0)?); // refused
+    Ok(bytes[0])
+}
+
 // ---- bytes of a pool that is closed: E0505
 fn case(pool: Pool, msg: &Message) -> Result<u8, Refusal> {
     let bytes = pool.bytes(msg, 0)?;

@@ -5,7 +5,7 @@ import importlib
 import itertools
 import os
 import sys
-from typing import Any, Callable, Iterator, Sequence
+from typing import Any, Sequence
 
 from strm_tools.ends import NAME, say
 from strm_tools.model import Pool, Values
@@ -29,11 +29,6 @@ def binding() -> Any:
         return found if hasattr(found, "Pool") else None
     except (ImportError, OSError, AttributeError):
         return None
-
-
-def until_none(look: Callable[[int], Any]) -> Iterator[Any]:
-    """What a look finds at the places from 0 on, up to the first where there is nothing."""
-    return itertools.takewhile(lambda found: found is not None, map(look, itertools.count()))
 
 
 class Library:
@@ -102,15 +97,7 @@ class Library:
         return " ".join([first, *map(str, result if isinstance(result, tuple) else [result])])
 
     def report(self) -> list[str]:
-        pool = self.pool
-        lines = ["blocks free={} queued={} held={} total={}".format(*pool.census(), sum(pool.census()))]
-        lines += ["data size={} free={} total={}".format(*info) for info in until_none(pool.class_info)]
-        for queue in pool.queues:
-            lines.append("queue {} msgs={} bytes={} read={} noenable={} enabled={}".format(queue.number, *queue.info()))
-            bands = ((band, queue.band(band)) for band in reversed(range(256)))
-            lines += ["band {} bytes={} full={} wanted={}".format(band, *info) for band, info in bands if info.bytes > 0]
-        lines.append(f"run {' '.join(map(str, until_none(pool.run_at))) or '-'}")
-        lines.append(f"wishes {' '.join('{}:{}'.format(*wish) for wish in until_none(pool.wish_at)) or '-'}")
+        lines: list[str] = self.pool.report().splitlines()
         return lines
 
 

@@ -12,7 +12,8 @@ A message is spent by the call that it is handed to; a later call with it is ref
 in C: `Pool.leaked` finds it. `with msg:` frees it at the end, unless it was spent.
 
 Bytes in place are memoryviews, which the next call that changes the pool releases: to use one after that raises ValueError. What was made of one,
-such as a slice, is not released, so copy it. While such an object holds the bytes (as numpy.frombuffer does), such calls raise BufferError.
+such as a slice, is not released, so copy it. While such an object holds the bytes (as numpy.frombuffer does), such calls raise BufferError. `room` and
+`edit` change nothing, and what they return may be written, also by recv_into.
 
 The interpreter's lock is held during each call, so threads may share a pool.
 """
@@ -105,63 +106,15 @@ class QueueSpec(NamedTuple):
     next: int = 0xFFFFFFFF
 
 
-class Census(NamedTuple):
-    free: int
-    queued: int
-    held: int
-
-
-class ClassInfo(NamedTuple):
-    size: int
-    free: int
-    total: int
-
-
-class BlockInfo(NamedTuple):
-    type: int
-    length: int
-    band: int
-    room: int
-    names: int
-
-
-class BlockPlace(NamedTuple):
-    data: int
-    at: int
-    length: int
-    capacity: int
-
-
-class Queued(NamedTuple):
-    head: int
-    type: int
-    band: int
-    bytes: int
-    blocks: int
-
-
-class QueueInfo(NamedTuple):
-    msgs: int
-    bytes: int
-    read: int
-    noenable: int
-    enabled: int
-
-
-class BandInfo(NamedTuple):
-    bytes: int
-    full: int
-    wanted: int
-
-
-class Marks(NamedTuple):
-    hiwat: int
-    lowat: int
-
-
-class Wish(NamedTuple):
-    id: int
-    size: int
+Census = NamedTuple("Census", [("free", int), ("queued", int), ("held", int)])
+ClassInfo = NamedTuple("ClassInfo", [("size", int), ("free", int), ("total", int)])
+BlockInfo = NamedTuple("BlockInfo", [("type", int), ("length", int), ("band", int), ("room", int), ("names", int)])
+BlockPlace = NamedTuple("BlockPlace", [("data", int), ("at", int), ("length", int), ("capacity", int)])
+Queued = NamedTuple("Queued", [("head", int), ("type", int), ("band", int), ("bytes", int), ("blocks", int)])
+QueueInfo = NamedTuple("QueueInfo", [("msgs", int), ("bytes", int), ("read", int), ("noenable", int), ("enabled", int)])
+BandInfo = NamedTuple("BandInfo", [("bytes", int), ("full", int), ("wanted", int)])
+Marks = NamedTuple("Marks", [("hiwat", int), ("lowat", int)])
+Wish = NamedTuple("Wish", [("id", int), ("size", int)])
 
 
 class Name(NamedTuple):
@@ -199,13 +152,14 @@ CALLS: Dict[str, str] = {
     "open": "P*", "memory": "**", "close": "P", "is_open": "p",
     "allocb": "Pu*", "testb": "pu*", "dupb": "Pm*", "dupmsg": "Pm*", "copyb": "Pm*", "copymsg": "Pm*", "freeb": "Pm*", "freemsg": "Pm",
     "write": "Pmubz", "read": "pmu*z*", "settype": "Pmuu", "setband": "Pmu", "size": "pm*", "msgdsize": "pm*", "block": "pmu*", "blocks": "pmu*z*",
-    "has": "pm*", "name_at": "pu*", "bytes": "pmu**", "iov": "pmu*z*", "place": "pmu*", "overwrite": "Pmubz", "reserve": "Pmuu", "prepend": "Pmbz",
-    "advance": "Pmuu", "same_msg": "mm", "is_no_msg": "m", "linkb": "Pmm", "unlinkb": "Pm*", "rmvb": "Pmu**", "adjmsg": "Pmi", "pullupmsg": "Pmi",
-    "transfer": "PPm*", "putq": "Pum", "putbq": "Pum", "insq": "Puum", "getq": "Pu*", "rmvq": "Puu*", "qsize": "pu*", "queued_at": "puu*",
-    "read_queued": "puuu*z*", "first_queued": "pu*", "queued_after": "pu*", "flushq": "Puu", "flushband": "Puuu", "allocb_n": "Pu*z*",
-    "freemsg_n": "P*z*", "putq_n": "Pu*z*", "getq_n": "Pu*z*", "bcanput": "Puu*", "strqset": "Puuuu", "strqget": "puu*", "qenable": "Pu",
-    "noenable": "Pu", "enableok": "Pu", "next_service": "P*", "run_at": "pu*", "bufcall": "Pu*", "unbufcall": "Pu", "take_ready": "P*",
-    "wish_at": "pu*", "queue_spec": "pu*", "census": "p*", "class_info": "pu*", "queue_info": "pu*", "band_info": "puu*",
+    "has": "pm*", "name_at": "pu*", "bytes": "pmu**", "iov": "pmu*z*", "place": "pmu*", "room": "Pmu**", "edit": "Pmu**", "overwrite": "Pmubz",
+    "reserve": "Pmuu", "prepend": "Pmbz", "advance": "Pmuu", "same_msg": "mm", "is_no_msg": "m", "linkb": "Pmm", "unlinkb": "Pm*", "rmvb": "Pmu**",
+    "adjmsg": "Pmi", "pullupmsg": "Pmi", "transfer": "PPm*", "putq": "Pum", "putbq": "Pum", "insq": "Puum", "getq": "Pu*", "rmvq": "Puu*",
+    "qsize": "pu*", "queued_at": "puu*", "read_queued": "puuu*z*", "first_queued": "pu*", "last_queued": "pu*", "queued_after": "pu*",
+    "queued_before": "pu*", "queue_of": "pu*", "flushq": "Puu", "flushband": "Puuu", "allocb_n": "Pu*z*", "freemsg_n": "P*z*",
+    "putq_n": "Pu*z*", "getq_n": "Pu*z*", "bcanput": "Puu*", "strqset": "Puuuu", "strqget": "puu*", "qenable": "Pu", "noenable": "Pu",
+    "enableok": "Pu", "next_service": "P*", "run_at": "pu*", "bufcall": "Pu*", "unbufcall": "Pu", "take_ready": "P*", "wish_at": "pu*",
+    "queue_spec": "pu*", "census": "p*", "class_info": "pu*", "queue_info": "pu*", "band_info": "puu*", "report": "p*z",
 }
 _KINDS: Dict[str, Any] = {
     "P": ctypes.c_void_p, "p": ctypes.c_void_p, "m": _Msg, "u": ctypes.c_uint32, "i": ctypes.c_int32, "z": ctypes.c_size_t, "b": ctypes.c_char_p,
@@ -229,6 +183,7 @@ _FUNCTIONS: Dict[str, Any] = {}
 for _name, _letters in CALLS.items():
     _FUNCTIONS[_name] = getattr(_LIBRARY, f"strm_{_name}")
     _FUNCTIONS[_name].argtypes = [_KINDS[letter] for letter in _letters]
+_FUNCTIONS["report"].restype = ctypes.c_size_t
 _TEXT = _LIBRARY.strm_error
 _TEXT.restype = ctypes.c_char_p
 
@@ -353,6 +308,12 @@ class Pool:
     def queued_after(self, head: int) -> Optional[int]:
         return self._found("queued_after", head)
 
+    def queued_before(self, head: int) -> Optional[int]:
+        return self._found("queued_before", head)
+
+    def queue_of(self, head: int) -> Queue:
+        return self.queues[self._number("queue_of", head)]
+
     def next_service(self) -> Optional[Queue]:
         """Takes the first queue off the run list."""
         number = self._found("next_service")
@@ -378,6 +339,13 @@ class Pool:
 
     def class_info(self, place: int) -> Optional[ClassInfo]:
         return self._optional(ClassInfo, "class_info", place)
+
+    def report(self) -> str:
+        """The report that the program strm prints of a pool."""
+        handle = ctypes.byref(self._handle)
+        room = ctypes.create_string_buffer(_FUNCTIONS["report"](handle, None, 0) + 1)
+        _FUNCTIONS["report"](handle, room, len(room))
+        return room.value.decode()
 
     # ---- how calls are made
 
@@ -501,9 +469,7 @@ class Message:
 
     def bytes(self, place: int) -> memoryview:
         """The bytes of a block in place."""
-        first, length = ctypes.c_void_p(), ctypes.c_size_t()
-        self.pool._look("bytes", self._msg, place, ctypes.byref(first), ctypes.byref(length))
-        return self._lend(first.value, length.value)
+        return self._in_place("bytes", place)
 
     def iov(self, start: int = 0, length: int = 32) -> List[memoryview]:
         """The bytes of blocks in place, as os.writev takes them."""
@@ -513,6 +479,14 @@ class Message:
 
     def place(self, place: int) -> BlockPlace:
         return self.pool._told(BlockPlace, "place", self._msg, place)
+
+    def room(self, place: int) -> memoryview:
+        """The room of a block in place, to write there before `advance`."""
+        return self._in_place("room", place)
+
+    def edit(self, place: int) -> memoryview:
+        """The bytes of a block in place, to change them there."""
+        return self._in_place("edit", place)
 
     def write(self, place: int, data: Buffer) -> None:
         self._put("write", data, place)
@@ -594,10 +568,16 @@ class Message:
         self.pool._change(name, *args, self._msg)
         self._msg = _NO_MSG
 
-    def _lend(self, address: Optional[int], length: int) -> memoryview:
-        view = memoryview((ctypes.c_ubyte * length).from_address(address or 0)).cast("B").toreadonly() if length else memoryview(b"")
-        self.pool._lent.append(view)
-        return view
+    def _in_place(self, name: str, place: int) -> memoryview:
+        """Bytes in place, which may be written unless the call is a look. It ends no others."""
+        first, length = ctypes.c_void_p(), ctypes.c_size_t()
+        self.pool._look(name, self._msg, place, ctypes.byref(first), ctypes.byref(length))
+        return self._lend(first.value, length.value, CALLS[name].startswith("P"))
+
+    def _lend(self, address: Optional[int], length: int, is_writable: bool = False) -> memoryview:
+        view = memoryview((ctypes.c_ubyte * length).from_address(address or 0)).cast("B") if length else memoryview(bytearray())
+        self.pool._lent.append(view if is_writable else view.toreadonly())
+        return self.pool._lent[-1]
 
 
 # ---- queues
@@ -631,6 +611,9 @@ class Queue:
 
     def first_queued(self) -> Optional[int]:
         return self.pool._found("first_queued", self.number)
+
+    def last_queued(self) -> Optional[int]:
+        return self.pool._found("last_queued", self.number)
 
     def strqget(self, band: int) -> Marks:
         return self.pool._told(Marks, "strqget", self.number, band)

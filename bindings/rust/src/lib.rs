@@ -31,6 +31,7 @@ extern crate alloc;
 #[cfg(feature = "std")]
 extern crate std;
 
+use alloc::string::String;
 use alloc::vec::Vec;
 use core::ffi::c_int;
 use core::fmt;
@@ -564,6 +565,18 @@ impl Pool {
         stored(|at| raw::strm_place(&self.handle, msg.0, place, at))
     }
 
+    /// The room of a block in place, to write there before `advance`.
+    #[inline]
+    pub fn room<'pool>(&'pool mut self, msg: &Message, place: u32) -> Result<&'pool mut [u8], Refusal> {
+        raw::room(&mut self.handle, msg.0, place).map_err(refused)
+    }
+
+    /// The bytes of a block in place, to change them there.
+    #[inline]
+    pub fn edit<'pool>(&'pool mut self, msg: &Message, place: u32) -> Result<&'pool mut [u8], Refusal> {
+        raw::edit(&mut self.handle, msg.0, place).map_err(refused)
+    }
+
     /// Writes over bytes of a message, from the byte `at` on.
     #[inline]
     pub fn overwrite(&mut self, msg: &Message, at: u32, bytes: &[u8]) -> Result<(), Refusal> {
@@ -691,10 +704,28 @@ impl Pool {
         found(|head| raw::strm_first_queued(&self.handle, queue, head))
     }
 
+    /// The same of the last message.
+    #[inline]
+    pub fn last_queued(&self, queue: u32) -> Result<Option<u32>, Refusal> {
+        found(|head| raw::strm_last_queued(&self.handle, queue, head))
+    }
+
     /// The same of the message after that whose first block is `head`.
     #[inline]
     pub fn queued_after(&self, head: u32) -> Result<Option<u32>, Refusal> {
         found(|after| raw::strm_queued_after(&self.handle, head, after))
+    }
+
+    /// The same of the message before that whose first block is `head`.
+    #[inline]
+    pub fn queued_before(&self, head: u32) -> Result<Option<u32>, Refusal> {
+        found(|before| raw::strm_queued_before(&self.handle, head, before))
+    }
+
+    /// The queue that has the message whose first block is `head`.
+    #[inline]
+    pub fn queue_of(&self, head: u32) -> Result<u32, Refusal> {
+        stored(|queue| raw::strm_queue_of(&self.handle, head, queue))
     }
 
     /// Frees messages of a queue.
@@ -831,6 +862,11 @@ impl Pool {
     pub fn band_info(&self, queue: u32, band: u32) -> Result<BandInfo, Refusal> {
         let it: raw::BandInfo = stored(|info| raw::strm_band_info(&self.handle, queue, band, info))?;
         Ok(BandInfo { bytes: it.bytes, full: it.full == 1, wanted: it.wanted == 1 })
+    }
+
+    /// The report that the program strm prints of a pool.
+    pub fn report(&self) -> String {
+        raw::report(&self.handle)
     }
 }
 

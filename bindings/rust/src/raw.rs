@@ -4,6 +4,7 @@
 //! takes `&Handle`, and any other call `&mut Handle`. Only `open` and `Pool::from_handle` make a handle that is not closed, and no handle is copied.
 #![allow(unsafe_code)]
 
+use alloc::{string::String, vec};
 use core::ffi::{c_char, c_int, c_void, CStr};
 use core::marker::PhantomData;
 use core::ops::Deref;
@@ -139,6 +140,8 @@ unsafe extern "C" {
     fn strm_bytes(pool: &Handle, msg: Name, place: u32, bytes: &mut *const u8, length: &mut usize) -> c_int;
     fn strm_iov(pool: &Handle, msg: Name, from: u32, into: *mut Iov<'_>, length: usize, count: &mut usize) -> c_int;
     pub(crate) safe fn strm_place(pool: &Handle, msg: Name, place: u32, r#where: &mut BlockPlace) -> c_int;
+    fn strm_room(pool: &mut Handle, msg: Name, place: u32, at: &mut *mut u8, length: &mut usize) -> c_int;
+    fn strm_edit(pool: &mut Handle, msg: Name, place: u32, at: &mut *mut u8, length: &mut usize) -> c_int;
     fn strm_overwrite(pool: &mut Handle, msg: Name, at: u32, bytes: *const c_void, length: usize) -> c_int;
     pub(crate) safe fn strm_reserve(pool: &mut Handle, msg: Name, place: u32, count: u32) -> c_int;
     fn strm_prepend(pool: &mut Handle, msg: Name, bytes: *const c_void, length: usize) -> c_int;
@@ -160,7 +163,10 @@ unsafe extern "C" {
     pub(crate) safe fn strm_queued_at(pool: &Handle, queue: u32, place: u32, queued: &mut Queued) -> c_int;
     fn strm_read_queued(pool: &Handle, queue: u32, place: u32, at: u32, into: *mut c_void, length: usize, count: &mut usize) -> c_int;
     pub(crate) safe fn strm_first_queued(pool: &Handle, queue: u32, head: &mut u32) -> c_int;
+    pub(crate) safe fn strm_last_queued(pool: &Handle, queue: u32, head: &mut u32) -> c_int;
     pub(crate) safe fn strm_queued_after(pool: &Handle, head: u32, after: &mut u32) -> c_int;
+    pub(crate) safe fn strm_queued_before(pool: &Handle, head: u32, before: &mut u32) -> c_int;
+    pub(crate) safe fn strm_queue_of(pool: &Handle, head: u32, queue: &mut u32) -> c_int;
     pub(crate) safe fn strm_flushq(pool: &mut Handle, queue: u32, flush: u32) -> c_int;
     pub(crate) safe fn strm_flushband(pool: &mut Handle, queue: u32, band: u32, flush: u32) -> c_int;
     fn strm_allocb_n(pool: &mut Handle, size: u32, msgs: *mut Message, length: usize, count: &mut usize) -> c_int;
@@ -184,6 +190,7 @@ unsafe extern "C" {
     pub(crate) safe fn strm_class_info(pool: &Handle, place: u32, info: &mut ClassInfo) -> c_int;
     pub(crate) safe fn strm_queue_info(pool: &Handle, queue: u32, info: &mut QueueInfo) -> c_int;
     pub(crate) safe fn strm_band_info(pool: &Handle, queue: u32, band: u32, info: &mut BandInfo) -> c_int;
+    fn strm_report(pool: &Handle, text: *mut c_char, length: usize) -> usize;
     safe fn strm_error(code: c_int) -> *const c_char;
     fn strm_name(code: c_int, text: *mut c_char, length: usize) -> usize;
     fn strm_version(text: *mut c_char, length: usize) -> usize;
@@ -271,6 +278,29 @@ pub(crate) fn bytes(pool: &Handle, msg: Name, place: u32) -> Result<&[u8], c_int
     }
 }
 
+/// What `strm_room` and the like find: bytes of the pool that are this slice's until the next call by `&Handle` or `&mut Handle`.
+#[inline]
+fn writable(pool: &mut Handle, call: impl FnOnce(&mut Handle, &mut *mut u8, &mut usize) -> c_int) -> Result<&mut [u8], c_int> {
+    let (mut first, mut length) = (core::ptr::null_mut(), 0);
+    match call(pool, &mut first, &mut length) {
+        // SAFETY: the call was done, so the pointer is not null and leads to that many bytes. No other block refers to them, and the pool is lent.
+        0 => Ok(unsafe { slice::from_raw_parts_mut(first, length) }),
+        code => Err(code),
+    }
+}
+
+#[inline]
+pub(crate) fn room(pool: &mut Handle, msg: Name, place: u32) -> Result<&mut [u8], c_int> {
+    // SAFETY: both places are variables.
+    writable(pool, |pool, first, length| unsafe { strm_room(pool, msg, place, first, length) })
+}
+
+#[inline]
+pub(crate) fn edit(pool: &mut Handle, msg: Name, place: u32) -> Result<&mut [u8], c_int> {
+    // SAFETY: as in `room`.
+    writable(pool, |pool, first, length| unsafe { strm_edit(pool, msg, place, first, length) })
+}
+
 #[inline]
 pub(crate) fn allocb_n(pool: &mut Handle, size: u32, into: &mut [Message], count: &mut usize) -> c_int {
     // SAFETY: as in `read`; a message is a name.
@@ -293,6 +323,17 @@ pub(crate) fn freemsg_n(pool: &mut Handle, from: &[Message], count: &mut usize) 
 pub(crate) fn putq_n(pool: &mut Handle, queue: u32, from: &[Message], count: &mut usize) -> c_int {
     // SAFETY: as in `write`; a message is a name.
     unsafe { strm_putq_n(pool, queue, from.as_ptr(), from.len(), count) }
+}
+
+/// The report of a pool.
+pub(crate) fn report(pool: &Handle) -> String {
+    // SAFETY: no byte is written to an array of length 0.
+    let length = unsafe { strm_report(pool, core::ptr::null_mut(), 0) };
+    let mut text = vec![0; length + 1];
+    // SAFETY: the pointer and the length are those of the vector.
+    unsafe { strm_report(pool, text.as_mut_ptr().cast(), text.len()) };
+    text.truncate(length);
+    String::from_utf8(text).unwrap_or_default()
 }
 
 /// The text of a code.
