@@ -22,8 +22,8 @@
  *
  *   - Functions that are `const` are looks. Any other runs alone on its pool: threads that share a pool hold a lock. To free a
  *     message is such a call, also where it goes out of scope or is assigned to. To move it into an empty one is no call.
- *   - Bytes in place (message::bytes, iov, blocks, room, edit) are good until the next call with the pool that is no look, room
- *     or edit. Those of room and edit may be written.
+ *   - Bytes in place (message::bytes, iov, blocks, room, edit, window) are good until the next call with the pool that is no look
+ *     and none of the last three, whose bytes may be written.
  *   - A queue is used only while its pool is there.
  */
 #ifndef STRM_HPP
@@ -43,7 +43,6 @@
 #if __cplusplus >= 202002L && __has_include(<span>)
 #include <span>
 #endif
-
 /* The last parameter of each call. */
 #ifdef __cpp_exceptions
 #define STRM_REPORT strm::report to = {}
@@ -150,7 +149,6 @@ struct queue_spec {
     bool service = false;
     uint32_t next = STRM_NO_QUEUE;
 };
-
 struct config {
     uint32_t id = 1, mblks = 0;
     std::vector<strm_class_spec> classes = {};
@@ -164,19 +162,17 @@ struct shared {
     strm_pool handle = STRM_POOL_INIT;
     size_t users = 1;
 };
-
 inline strm_pool* handle_of(shared* at) noexcept { return at != nullptr ? &at->handle : nullptr; }
-
 inline void leave(shared* at) noexcept { --at->users == 0 ? delete at : void(); }
 
 /* Has a call read a configuration. */
-template <class Call> int with_config(const config& from, Call call) {
+template <class Call, class... Args> int with_config(const config& from, Call call, Args... args) {
     std::array<strm_queue_spec, STRM_MOST_QUEUES> queues = {};
     for (size_t i = 0; i < from.queues.size() && i < queues.size(); i++)
         queues[i] = { from.queues[i].hiwat, from.queues[i].lowat, from.queues[i].service, from.queues[i].next };
     const strm_config config = { from.id, from.mblks, from.classes.data(), from.classes.size(), queues.data(),
                                  from.queues.size(), from.bufcalls, from.first_id };
-    return call(&config);
+    return call(&config, args...);
 }
 
 /* The result that a call stores. */
@@ -230,11 +226,13 @@ public:
 
     buffer room(uint32_t place, STRM_REPORT) { return in_place<std::byte>(to, strm_room, place); }
     buffer edit(uint32_t place, STRM_REPORT) { return in_place<std::byte>(to, strm_edit, place); }
+    buffer window(uint32_t place, STRM_REPORT) { return in_place<std::byte>(to, strm_window, place); }
     void write(uint32_t place, strm::bytes from, STRM_REPORT) { to(call(strm_write, place, from.data(), from.size())); }
     void overwrite(uint32_t at, strm::bytes from, STRM_REPORT) { to(call(strm_overwrite, at, from.data(), from.size())); }
     void prepend(strm::bytes from, STRM_REPORT) { to(call(strm_prepend, from.data(), from.size())); }
     void reserve(uint32_t place, uint32_t count, STRM_REPORT) { to(call(strm_reserve, place, count)); }
     void advance(uint32_t place, uint32_t count, STRM_REPORT) { to(call(strm_advance, place, count)); }
+    void shape(uint32_t place, uint32_t at, uint32_t length, STRM_REPORT) { to(call(strm_shape, place, at, length)); }
     void settype(uint32_t place, uint32_t type, STRM_REPORT) { to(call(strm_settype, place, type)); }
     void setband(uint32_t band, STRM_REPORT) { to(call(strm_setband, band)); }
     void adjmsg(int32_t count, STRM_REPORT) { to(call(strm_adjmsg, count)); }
@@ -273,10 +271,7 @@ private:
     friend class queue;
     struct freer {
         strm_msg name;
-        void operator()(detail::shared* at) const noexcept {
-            strm_freemsg(&at->handle, name);
-            detail::leave(at);
-        }
+        void operator()(detail::shared* at) const noexcept { strm_freemsg(&at->handle, name), detail::leave(at); }
     };
     message(detail::shared* at, strm_msg name) noexcept : at_(at, freer{ name }) { at->users++; }
     template <class Call, class... Args>
@@ -360,7 +355,6 @@ private:
     block block_;
     bool is_there_;
 };
-
 inline strm::blocks message::blocks() const noexcept { return strm::blocks(*this); }
 
 /* ---- queues */
@@ -400,6 +394,7 @@ public:
     void put(message&& msg, STRM_REPORT) { msg.hand_over(to, at_, strm_putq, number_); }
     void put_back(message&& msg, STRM_REPORT) { msg.hand_over(to, at_, strm_putbq, number_); }
     void insert(uint32_t place, message&& msg, STRM_REPORT) { msg.hand_over(to, at_, strm_insq, number_, place); }
+    void insq_at(uint32_t before, message&& msg, STRM_REPORT) { msg.hand_over(to, at_, strm_insq_at, number_, before); }
     optional<message> get(STRM_REPORT) {
         message first = message::given(to, at_, strm_getq, number_);
         return first ? optional<message>(std::move(first)) : std::nullopt;
@@ -429,9 +424,7 @@ public:
         to(detail::with_config(config, [&](const strm_config* from) { return strm_open_with(handle(), from, &allocator); }));
     }
     static size_t memory(const config& config, STRM_REPORT) {
-        size_t bytes = 0;
-        to(detail::with_config(config, [&bytes](const strm_config* from) { return strm_memory(from, &bytes); }));
-        return bytes;
+        return detail::stored<size_t>(to, [&](size_t* bytes) { return detail::with_config(config, strm_memory, bytes); });
     }
     /* Takes over a handle that is open, or gives it away. */
     explicit pool(strm_pool handle) : at_(new detail::shared{ handle }) {}
@@ -455,6 +448,7 @@ public:
     optional<uint32_t> queued_after(uint32_t head, STRM_REPORT) const { return found<uint32_t>(to, strm_queued_after, head); }
     optional<uint32_t> queued_before(uint32_t head, STRM_REPORT) const { return found<uint32_t>(to, strm_queued_before, head); }
     uint32_t queue_of(uint32_t head, STRM_REPORT) const { return stored<uint32_t>(to, strm_queue_of, head); }
+    message rmvq_msg(uint32_t head, STRM_REPORT) { return message::given(to, at_.get(), strm_rmvq_msg, head); }
     optional<uint32_t> next_service(STRM_REPORT) { return found<uint32_t>(to, strm_next_service); }
     optional<uint32_t> run_at(uint32_t place, STRM_REPORT) const { return found<uint32_t>(to, strm_run_at, place); }
     uint32_t bufcall(uint32_t size, STRM_REPORT) { return stored<uint32_t>(to, strm_bufcall, size); }
@@ -465,16 +459,23 @@ public:
     optional<strm_class_info> class_info(uint32_t place, STRM_REPORT) const {
         return found<strm_class_info>(to, strm_class_info_, place);
     }
+    /* The bytes of all data blocks of a size class, each of `stride` bytes. There are none without such a class. */
+    bytes region(uint32_t place, size_t& stride, STRM_REPORT) const {
+        const uint8_t* base;
+        size_t size;
+        const bool is_there = to(strm_region(handle(), place, &base, &size, &stride));
+        return is_there ? bytes(reinterpret_cast<const std::byte*>(base), size) : bytes();
+    }
+    uint32_t least_free_blocks(STRM_REPORT) const { return stored<uint32_t>(to, strm_least_free_blocks); }
+    optional<uint32_t> least_free(uint32_t place, STRM_REPORT) const { return found<uint32_t>(to, strm_least_free, place); }
+    void reset_least(STRM_REPORT) { to(strm_reset_least(handle())); }
     /* Empty if the pool is not open. */
     std::string report() const { return text_by(strm_report, handle()); }
 
 private:
     friend class message;
     struct closer {
-        void operator()(detail::shared* at) const noexcept {
-            strm_close(&at->handle);
-            detail::leave(at);
-        }
+        void operator()(detail::shared* at) const noexcept { strm_close(&at->handle), detail::leave(at); }
     };
     strm_pool* handle() const noexcept { return detail::handle_of(at_.get()); }
     template <class T, class Call, class... Args>

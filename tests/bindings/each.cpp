@@ -220,6 +220,9 @@ void bytes_in_place() {
     CHECK(text_of(msg) == "Lions" && msg.room(0, code).size() == 3);
     msg.advance(0, 3, code);
     CHECK(msg.room(0, code).size() == 0 && !code);
+    CHECK(msg.window(0, code).data() == bytes.data() && msg.window(0, code).size() == 8);
+    msg.shape(0, 1, 3, code);
+    CHECK(text_of(msg) == "ion" && !code);
     const strm::message copy = msg.dupb(code);
     CHECK(msg.edit(0, code).size() == 0);
     REFUSED(shared);
@@ -236,6 +239,23 @@ void reports() {
                             "run -\nwishes -\n");
     small.close(code);
     CHECK(small.report().empty());
+}
+
+void messages_by_heads() {
+    strm::pool pool(config(1), code);
+    size_t stride = 0;
+    strm::message a = filled(pool, "a"), b = filled(pool, "b");
+    const uint32_t head = a.name().head;
+    pool.queue(1).insq_at(STRM_NO_HEAD, std::move(a), code);
+    pool.queue(1).insq_at(head, std::move(b), code);
+    CHECK(!a && !b && !code && pool.queue(1).last_queued(code) == head && pool.queue_of(head, code) == 1);
+    CHECK(text_of(pool.rmvq_msg(head, code)) == "a" && pool.queue(1).size(code) == 1);
+    CHECK(!pool.rmvq_msg(head, code));
+    REFUSED(no_such_place);
+    CHECK(pool.least_free_blocks(code) == 98 && pool.least_free(0, code) == 98u && !pool.least_free(1, code) && !code);
+    pool.reset_least(code);
+    CHECK(pool.least_free_blocks(code) == 99 && pool.least_free(0, code) == 99u);
+    CHECK(pool.region(0, stride, code).size() >= 800 && stride >= 8 && pool.region(1, stride, code).size() == 0 && !code);
 }
 
 void series() {
@@ -297,6 +317,7 @@ int main() {
     blocks_and_looks();
     bytes_in_place();
     reports();
+    messages_by_heads();
     series();
     refusals();
     return summary();

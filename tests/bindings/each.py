@@ -142,10 +142,30 @@ def bytes_in_place():
                 check(True, "")
         msg.advance(0, 3)
         check(len(msg.room(0)) == 0, "no room")
+        msg.shape(0, 1, 3)
+        check(msg.read() == b"ion" and bytes(msg.window(0)) == b"Lions!\0\0", "a block's places in its data block")
+        msg.shape(0, 0, 8)
         copy = msg.dupb()
         refused(strm.Code.SHARED, msg.edit, 0)
         refused(strm.Code.NO_SUCH_BLOCK, copy.room, 1)
         check(msg.read() == b"Lions!\0\0", "bytes after refused calls")
+
+
+def by_heads():
+    with pool_of() as pool:
+        last, first = filled(pool, b"last"), filled(pool, b"first")
+        head, name = last.name.head, first.name
+        pool.queues[1].insq_at(None, last)
+        pool.queues[1].insq_at(head, first)
+        check([it.head for it in pool.queues[1]] == [name.head, head], "messages that are put by their first blocks")
+        check(pool.rmvq_msg(head).read() == b"last" and not last.has(), "a message that is taken by its first block")
+        refused(strm.Code.NO_SUCH_PLACE, pool.rmvq_msg, head)
+        check(pool.least_free_blocks() == pool.least_free(0) == 38 and pool.least_free(1) is None, "the fewest free blocks")
+        pool.rmvq_msg(name.head).freemsg()
+        pool.reset_least()
+        check(pool.least_free_blocks() == pool.least_free(0) == 39, "the fewest free blocks from now on")
+        base, size, stride = pool.region(0)
+        check(base > 0 and size == 40 * stride and stride >= 8 and pool.region(1) is None, "the data blocks of a class")
 
 
 def series():
@@ -258,7 +278,7 @@ if len(sys.argv) == 3:
             texts.append(file.read())
     play(*texts)
 else:
-    for test in (messages, bytes_in_place, series, pools, tools, properties):
+    for test in (messages, bytes_in_place, by_heads, series, pools, tools, properties):
         test()
 print(f"{passed} passed, {failed} failed")
 sys.exit(1 if failed else 0)

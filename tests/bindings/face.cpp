@@ -110,6 +110,15 @@ reply block_bytes_told(strm::bytes bytes) {
     return reply;
 }
 
+// The data blocks of a size class, and the bytes of one.
+reply region_told(const strm::pool& pool, const call& call, strm::report to) {
+    size_t stride = 0;
+    const strm::bytes found = pool.region(call.place, stride, to);
+    reply reply = found.size() > 0 ? block_bytes_told(found) : reply_of(NOTHING);
+    reply.numbers[1] = static_cast<uint32_t>(stride);
+    return reply;
+}
+
 // Bytes in place, once octets were written there.
 reply written_told(strm::buffer found, strm::bytes octets) {
     std::copy_n(octets.data(), std::min(octets.size(), found.size()), found.data());
@@ -240,6 +249,11 @@ reply apply_to_pool(lent& it, const call& call, strm::report to) {
         return bytes_told(it, [&](strm::buffer into) { return queue.read_queued(call.place, call.number, into, to); });
     case FIRST_QUEUED: return number(TOLD_HEAD, queue.first_queued(to));
     case LAST_QUEUED: return number(TOLD_HEAD, queue.last_queued(to));
+    case RMVQ_MSG: return given(it, call.y, pool.rmvq_msg(call.number, to));
+    case LEAST_FREE_BLOCKS: return told(TOLD_SIZE, pool.least_free_blocks(to), 0);
+    case LEAST_FREE: return number(TOLD_SIZE, pool.least_free(call.place, to));
+    case RESET_LEAST: return pool.reset_least(to), reply_of(DONE);
+    case REGION: return region_told(pool, call, to);
     case QUEUED_AFTER: return number(TOLD_HEAD, pool.queued_after(call.number, to));
     case QUEUED_BEFORE: return number(TOLD_HEAD, pool.queued_before(call.number, to));
     case QUEUE_OF: return told(TOLD_QUEUE, pool.queue_of(call.number, to), 0);
@@ -286,6 +300,9 @@ reply apply_to_message(lent& it, lent& other, const call& call, strm::report to)
     case PREPEND: return x.prepend(octets, to), reply_of(DONE);
     case ADVANCE: return x.advance(call.place, call.number, to), reply_of(DONE);
     case ROOM: return written_told(x.room(call.place, to), octets);
+    case WINDOW: return written_told(x.window(call.place, to), octets);
+    case SHAPE: return x.shape(call.place, call.number, call.lowat, to), reply_of(DONE);
+    case INSQ_AT: return queue.insq_at(call.number, std::move(x), to), reply_of(DONE);
     case EDIT: return written_told(x.edit(call.place, to), octets);
     default: return given(other, call.y, x.transfer(other.pool, to));
     }

@@ -226,6 +226,15 @@ impl Face {
             "read_queued" => told_read(|into| pool.read_queued(queue, place, number, into))?,
             "first_queued" => optional(pool.first_queued(queue)?, |head| told(TOLD_HEAD, &[head])),
             "last_queued" => optional(pool.last_queued(queue)?, |head| told(TOLD_HEAD, &[head])),
+            "rmvq_msg" => return self.put(call.y, pool.rmvq_msg(number)?).map(done),
+            "least_free_blocks" => told(TOLD_SIZE, &[pool.least_free_blocks()?]),
+            "least_free" => optional(pool.least_free(place)?, |fewest| told(TOLD_SIZE, &[fewest])),
+            "reset_least" => done(pool.reset_least()?),
+            "region" => optional(pool.region(place)?, |(bytes, stride)| {
+                let mut reply = told_bytes(bytes);
+                reply.numbers[1] = stride as u32;
+                reply
+            }),
             "queued_after" => optional(pool.queued_after(number)?, |head| told(TOLD_HEAD, &[head])),
             "queued_before" => optional(pool.queued_before(number)?, |head| told(TOLD_HEAD, &[head])),
             "queue_of" => told(TOLD_QUEUE, &[pool.queue_of(number)?]),
@@ -321,6 +330,9 @@ impl Face {
             "prepend" => done(pool.prepend(&x, octets)?),
             "advance" => done(pool.advance(&x, place, number)?),
             "room" => told_written(pool.room(&x, place)?, octets),
+            "window" => told_written(pool.window(&x, place)?, octets),
+            "shape" => done(pool.shape(&x, place, number, call.lowat)?),
+            "insq_at" => done(self.spent(call.x, pool.insq_at(queue, (number != u32::MAX).then_some(number), x))?),
             "edit" => told_written(pool.edit(&x, place)?, octets),
             "transfer" => {
                 let mut into = other.lend();

@@ -12,8 +12,8 @@ A message is spent by the call that it is handed to; a later call with it is ref
 in C: `Pool.leaked` finds it. `with msg:` frees it at the end, unless it was spent.
 
 Bytes in place are memoryviews, which the next call that changes the pool releases: to use one after that raises ValueError. What was made of one,
-such as a slice, is not released, so copy it. While such an object holds the bytes (as numpy.frombuffer does), such calls raise BufferError. `room` and
-`edit` change nothing, and what they return may be written, also by recv_into.
+such as a slice, is not released, so copy it. While such an object holds the bytes (as numpy.frombuffer does), such calls raise BufferError. The
+views of `room`, `edit` and `window`, which change nothing, may be written, also by recv_into.
 
 The interpreter's lock is held during each call, so threads may share a pool.
 """
@@ -23,7 +23,7 @@ import ctypes
 import enum
 import itertools
 import os
-from typing import Any, Dict, Iterator, List, NamedTuple, Optional, Sequence, Tuple, Type, TypeVar, Union
+from typing import Any, Dict, Iterator, List, NamedTuple, Optional, Sequence, Tuple, Type, TypeVar, Union, cast
 
 __all__ = (
     "BandInfo BlockInfo BlockPlace Census ClassInfo Code Flush Marks Message MsgType Name Pool Queue QueueInfo QueueSpec Queued Refusal Wish version"
@@ -149,21 +149,21 @@ class _Config(ctypes.Structure):
 # The parameters of each call of strm.h, and whether it is a look (a pool's handle that is `p`): P and p a handle, m a message, u a number, i a signed
 # number, z a size, b bytes to read; * and more a pointer to what is stored.
 CALLS: Dict[str, str] = {
-    "open": "P*", "memory": "**", "close": "P", "is_open": "p",
-    "allocb": "Pu*", "testb": "pu*", "dupb": "Pm*", "dupmsg": "Pm*", "copyb": "Pm*", "copymsg": "Pm*", "freeb": "Pm*", "freemsg": "Pm",
-    "write": "Pmubz", "read": "pmu*z*", "settype": "Pmuu", "setband": "Pmu", "size": "pm*", "msgdsize": "pm*", "block": "pmu*", "blocks": "pmu*z*",
-    "has": "pm*", "name_at": "pu*", "bytes": "pmu**", "iov": "pmu*z*", "place": "pmu*", "room": "Pmu**", "edit": "Pmu**", "overwrite": "Pmubz",
-    "reserve": "Pmuu", "prepend": "Pmbz", "advance": "Pmuu", "same_msg": "mm", "is_no_msg": "m", "linkb": "Pmm", "unlinkb": "Pm*", "rmvb": "Pmu**",
-    "adjmsg": "Pmi", "pullupmsg": "Pmi", "transfer": "PPm*", "putq": "Pum", "putbq": "Pum", "insq": "Puum", "getq": "Pu*", "rmvq": "Puu*",
-    "qsize": "pu*", "queued_at": "puu*", "read_queued": "puuu*z*", "first_queued": "pu*", "last_queued": "pu*", "queued_after": "pu*",
-    "queued_before": "pu*", "queue_of": "pu*", "flushq": "Puu", "flushband": "Puuu", "allocb_n": "Pu*z*", "freemsg_n": "P*z*",
+    "open": "P*", "memory": "**", "close": "P", "is_open": "p", "allocb": "Pu*", "testb": "pu*", "dupb": "Pm*", "dupmsg": "Pm*", "copyb": "Pm*",
+    "copymsg": "Pm*", "freeb": "Pm*", "freemsg": "Pm", "write": "Pmubz", "read": "pmu*z*", "settype": "Pmuu", "setband": "Pmu", "size": "pm*",
+    "msgdsize": "pm*", "block": "pmu*", "blocks": "pmu*z*", "has": "pm*", "name_at": "pu*", "bytes": "pmu**", "iov": "pmu*z*", "place": "pmu*",
+    "region": "pu***", "room": "Pmu**", "edit": "Pmu**", "window": "Pmu**", "shape": "Pmuuu", "overwrite": "Pmubz", "reserve": "Pmuu",
+    "prepend": "Pmbz", "advance": "Pmuu", "same_msg": "mm", "is_no_msg": "m", "linkb": "Pmm", "unlinkb": "Pm*", "rmvb": "Pmu**", "adjmsg": "Pmi",
+    "pullupmsg": "Pmi", "transfer": "PPm*", "putq": "Pum", "putbq": "Pum", "insq": "Puum", "insq_at": "Puum", "getq": "Pu*", "rmvq": "Puu*",
+    "rmvq_msg": "Pu*", "qsize": "pu*", "queued_at": "puu*", "read_queued": "puuu*z*", "first_queued": "pu*", "last_queued": "pu*",
+    "queued_after": "pu*", "queued_before": "pu*", "queue_of": "pu*", "flushq": "Puu", "flushband": "Puuu", "allocb_n": "Pu*z*", "freemsg_n": "P*z*",
     "putq_n": "Pu*z*", "getq_n": "Pu*z*", "bcanput": "Puu*", "strqset": "Puuuu", "strqget": "puu*", "qenable": "Pu", "noenable": "Pu",
     "enableok": "Pu", "next_service": "P*", "run_at": "pu*", "bufcall": "Pu*", "unbufcall": "Pu", "take_ready": "P*", "wish_at": "pu*",
-    "queue_spec": "pu*", "census": "p*", "class_info": "pu*", "queue_info": "pu*", "band_info": "puu*", "report": "p*z",
+    "queue_spec": "pu*", "census": "p*", "class_info": "pu*", "least_free_blocks": "p*", "least_free": "pu*", "reset_least": "P", "queue_info": "pu*",
+    "band_info": "puu*",
 }
 _KINDS: Dict[str, Any] = {
-    "P": ctypes.c_void_p, "p": ctypes.c_void_p, "m": _Msg, "u": ctypes.c_uint32, "i": ctypes.c_int32, "z": ctypes.c_size_t, "b": ctypes.c_char_p,
-    "*": ctypes.c_void_p,
+    **dict.fromkeys("Pp*", ctypes.c_void_p), "m": _Msg, "u": ctypes.c_uint32, "i": ctypes.c_int32, "z": ctypes.c_size_t, "b": ctypes.c_char_p,
 }
 # The least and the greatest value of a number.
 _RANGES = {"u": (0, 2**32 - 1), "i": (-(2**31), 2**31 - 1)}
@@ -183,15 +183,14 @@ _FUNCTIONS: Dict[str, Any] = {}
 for _name, _letters in CALLS.items():
     _FUNCTIONS[_name] = getattr(_LIBRARY, f"strm_{_name}")
     _FUNCTIONS[_name].argtypes = [_KINDS[letter] for letter in _letters]
-_FUNCTIONS["report"].restype = ctypes.c_size_t
 _TEXT = _LIBRARY.strm_error
 _TEXT.restype = ctypes.c_char_p
 
 
-def _text_of(call: str, *args: int) -> str:
-    room = ctypes.create_string_buffer(32)
+def _text_of(call: str, *args: Any) -> str:
     function = getattr(_LIBRARY, call)
     function.restype = ctypes.c_size_t
+    room = ctypes.create_string_buffer(function(*args, None, ctypes.c_size_t(0)) + 1)
     function(*args, room, ctypes.c_size_t(len(room)))
     return room.value.decode()
 
@@ -314,6 +313,9 @@ class Pool:
     def queue_of(self, head: int) -> Queue:
         return self.queues[self._number("queue_of", head)]
 
+    def rmvq_msg(self, head: int) -> Message:
+        return self._made("rmvq_msg", head)
+
     def next_service(self) -> Optional[Queue]:
         """Takes the first queue off the run list."""
         number = self._found("next_service")
@@ -340,12 +342,24 @@ class Pool:
     def class_info(self, place: int) -> Optional[ClassInfo]:
         return self._optional(ClassInfo, "class_info", place)
 
+    def region(self, place: int) -> Optional[Tuple[int, int, int]]:
+        """The address of the data blocks of a size class, the number of their bytes, and how many each has."""
+        base, size, stride = ctypes.c_void_p(), ctypes.c_size_t(), ctypes.c_size_t()
+        is_there = self._look("region", place, ctypes.byref(base), ctypes.byref(size), ctypes.byref(stride))
+        return (base.value or 0, size.value, stride.value) if is_there else None
+
+    def least_free_blocks(self) -> int:
+        return self._number("least_free_blocks")
+
+    def least_free(self, place: int) -> Optional[int]:
+        return self._found("least_free", place)
+
+    def reset_least(self) -> None:
+        self._change("reset_least")
+
     def report(self) -> str:
         """The report that the program strm prints of a pool."""
-        handle = ctypes.byref(self._handle)
-        room = ctypes.create_string_buffer(_FUNCTIONS["report"](handle, None, 0) + 1)
-        _FUNCTIONS["report"](handle, room, len(room))
-        return room.value.decode()
+        return _text_of("strm_report", ctypes.byref(self._handle))
 
     # ---- how calls are made
 
@@ -377,18 +391,14 @@ class Pool:
         return shape._make(room) if self._make(name, *args, room) else None
 
     def _told(self, shape: Type[T], name: str, *args: Any) -> T:
-        told = self._optional(shape, name, *args)
-        assert told is not None
-        return told
+        return cast(T, self._optional(shape, name, *args))
 
     def _given(self, name: str, *args: Any) -> Optional[Message]:
         msg = _Msg()
         return Message(self, msg) if self._change(name, *args, ctypes.byref(msg)) else None
 
     def _made(self, name: str, *args: Any) -> Message:
-        made = self._given(name, *args)
-        assert made is not None
-        return made
+        return cast(Message, self._given(name, *args))
 
     def _counted(self, name: str, room: Any, length: int, *args: Any) -> int:
         count = ctypes.c_size_t()
@@ -488,6 +498,10 @@ class Message:
         """The bytes of a block in place, to change them there."""
         return self._in_place("edit", place)
 
+    def window(self, place: int) -> memoryview:
+        """The whole data block of a block in place, to write there before `shape`."""
+        return self._in_place("window", place)
+
     def write(self, place: int, data: Buffer) -> None:
         self._put("write", data, place)
 
@@ -502,6 +516,9 @@ class Message:
 
     def advance(self, place: int, count: int) -> None:
         self.pool._change("advance", self._msg, place, count)
+
+    def shape(self, place: int, at: int, length: int) -> None:
+        self.pool._change("shape", self._msg, place, at, length)
 
     def settype(self, place: int, type: int) -> None:
         self.pool._change("settype", self._msg, place, type)
@@ -641,6 +658,9 @@ class Queue:
     def insert(self, place: int, msg: Message) -> None:
         """strm_insq"""
         msg._hand_over("insq", self.number, place, of=self.pool)
+
+    def insq_at(self, before: Optional[int], msg: Message) -> None:
+        msg._hand_over("insq_at", self.number, 2**32 - 1 if before is None else before, of=self.pool)
 
     def get(self) -> Optional[Message]:
         """strm_getq"""

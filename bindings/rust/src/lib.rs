@@ -45,8 +45,9 @@ mod raw;
 pub use channel::Channel;
 pub use raw::{Allocator, Handle, Iov};
 
-/// The next queue of a queue that has none, and the name of no message.
+/// The next queue of a queue that has none, the number of no block, and the name of no message.
 const NO_QUEUE: u32 = u32::MAX;
+const NO_HEAD: u32 = u32::MAX;
 const NO_MSG: Name = Name { pool: 0, head: 0, stamp: 0 };
 
 macro_rules! refusals {
@@ -577,6 +578,18 @@ impl Pool {
         raw::edit(&mut self.handle, msg.0, place).map_err(refused)
     }
 
+    /// The whole data block of a block in place, to write there before `shape`.
+    #[inline]
+    pub fn window<'pool>(&'pool mut self, msg: &Message, place: u32) -> Result<&'pool mut [u8], Refusal> {
+        raw::window(&mut self.handle, msg.0, place).map_err(refused)
+    }
+
+    /// The bytes of all data blocks of the size class at a place, and how many bytes each has.
+    #[inline]
+    pub fn region(&self, place: u32) -> Result<Option<(&[u8], usize)>, Refusal> {
+        found(|at| raw::region(&self.handle, place, at))
+    }
+
     /// Writes over bytes of a message, from the byte `at` on.
     #[inline]
     pub fn overwrite(&mut self, msg: &Message, at: u32, bytes: &[u8]) -> Result<(), Refusal> {
@@ -599,6 +612,12 @@ impl Pool {
     #[inline]
     pub fn advance(&mut self, msg: &Message, place: u32, count: u32) -> Result<(), Refusal> {
         done(raw::strm_advance(&mut self.handle, msg.0, place, count))
+    }
+
+    /// Makes `length` bytes of a block's data block, from `at` on, those of the block.
+    #[inline]
+    pub fn shape(&mut self, msg: &Message, place: u32, at: u32, length: u32) -> Result<(), Refusal> {
+        done(raw::strm_shape(&mut self.handle, msg.0, place, at, length))
     }
 }
 
@@ -668,6 +687,13 @@ impl Pool {
         handed(msg, result)
     }
 
+    /// Puts a message on a queue before that whose first block is `before`, or last.
+    #[inline]
+    pub fn insq_at(&mut self, queue: u32, before: Option<u32>, msg: Message) -> Result<(), Rejected> {
+        let result = done(raw::strm_insq_at(&mut self.handle, queue, before.unwrap_or(NO_HEAD), msg.0));
+        handed(msg, result)
+    }
+
     /// Takes the first message off a queue.
     #[inline]
     pub fn getq(&mut self, queue: u32) -> Result<Option<Message>, Refusal> {
@@ -678,6 +704,12 @@ impl Pool {
     #[inline]
     pub fn rmvq(&mut self, queue: u32, place: u32) -> Result<Message, Refusal> {
         stored(|name| raw::strm_rmvq(&mut self.handle, queue, place, name)).map(Message)
+    }
+
+    /// Takes the message whose first block is `head` off its queue.
+    #[inline]
+    pub fn rmvq_msg(&mut self, head: u32) -> Result<Message, Refusal> {
+        stored(|name| raw::strm_rmvq_msg(&mut self.handle, head, name)).map(Message)
     }
 
     /// Counts the messages on a queue.
@@ -848,6 +880,24 @@ impl Pool {
     #[inline]
     pub fn class_info(&self, place: u32) -> Result<Option<ClassInfo>, Refusal> {
         found(|info| raw::strm_class_info(&self.handle, place, info))
+    }
+
+    /// The fewest message blocks that were free.
+    #[inline]
+    pub fn least_free_blocks(&self) -> Result<u32, Refusal> {
+        stored(|fewest| raw::strm_least_free_blocks(&self.handle, fewest))
+    }
+
+    /// The same of the data blocks of the size class at a place.
+    #[inline]
+    pub fn least_free(&self, place: u32) -> Result<Option<u32>, Refusal> {
+        found(|fewest| raw::strm_least_free(&self.handle, place, fewest))
+    }
+
+    /// Makes those that are free now the fewest.
+    #[inline]
+    pub fn reset_least(&mut self) -> Result<(), Refusal> {
+        done(raw::strm_reset_least(&mut self.handle))
     }
 
     /// The state of a queue.

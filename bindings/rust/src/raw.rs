@@ -142,10 +142,13 @@ unsafe extern "C" {
     pub(crate) safe fn strm_place(pool: &Handle, msg: Name, place: u32, r#where: &mut BlockPlace) -> c_int;
     fn strm_room(pool: &mut Handle, msg: Name, place: u32, at: &mut *mut u8, length: &mut usize) -> c_int;
     fn strm_edit(pool: &mut Handle, msg: Name, place: u32, at: &mut *mut u8, length: &mut usize) -> c_int;
+    fn strm_window(pool: &mut Handle, msg: Name, place: u32, base: &mut *mut u8, capacity: &mut usize) -> c_int;
+    fn strm_region(pool: &Handle, place: u32, base: &mut *const u8, size: &mut usize, stride: &mut usize) -> c_int;
     fn strm_overwrite(pool: &mut Handle, msg: Name, at: u32, bytes: *const c_void, length: usize) -> c_int;
     pub(crate) safe fn strm_reserve(pool: &mut Handle, msg: Name, place: u32, count: u32) -> c_int;
     fn strm_prepend(pool: &mut Handle, msg: Name, bytes: *const c_void, length: usize) -> c_int;
     pub(crate) safe fn strm_advance(pool: &mut Handle, msg: Name, place: u32, count: u32) -> c_int;
+    pub(crate) safe fn strm_shape(pool: &mut Handle, msg: Name, place: u32, at: u32, length: u32) -> c_int;
     pub(crate) safe fn strm_same_msg(a: Name, b: Name) -> c_int;
     pub(crate) safe fn strm_is_no_msg(msg: Name) -> c_int;
     pub(crate) safe fn strm_linkb(pool: &mut Handle, msg: Name, tail: Name) -> c_int;
@@ -157,8 +160,10 @@ unsafe extern "C" {
     pub(crate) safe fn strm_putq(pool: &mut Handle, queue: u32, msg: Name) -> c_int;
     pub(crate) safe fn strm_putbq(pool: &mut Handle, queue: u32, msg: Name) -> c_int;
     pub(crate) safe fn strm_insq(pool: &mut Handle, queue: u32, place: u32, msg: Name) -> c_int;
+    pub(crate) safe fn strm_insq_at(pool: &mut Handle, queue: u32, before: u32, msg: Name) -> c_int;
     pub(crate) safe fn strm_getq(pool: &mut Handle, queue: u32, msg: &mut Name) -> c_int;
     pub(crate) safe fn strm_rmvq(pool: &mut Handle, queue: u32, place: u32, msg: &mut Name) -> c_int;
+    pub(crate) safe fn strm_rmvq_msg(pool: &mut Handle, head: u32, msg: &mut Name) -> c_int;
     pub(crate) safe fn strm_qsize(pool: &Handle, queue: u32, msgs: &mut u32) -> c_int;
     pub(crate) safe fn strm_queued_at(pool: &Handle, queue: u32, place: u32, queued: &mut Queued) -> c_int;
     fn strm_read_queued(pool: &Handle, queue: u32, place: u32, at: u32, into: *mut c_void, length: usize, count: &mut usize) -> c_int;
@@ -188,6 +193,9 @@ unsafe extern "C" {
     pub(crate) safe fn strm_queue_spec(pool: &Handle, queue: u32, spec: &mut QueueSpec) -> c_int;
     pub(crate) safe fn strm_census(pool: &Handle, census: &mut Census) -> c_int;
     pub(crate) safe fn strm_class_info(pool: &Handle, place: u32, info: &mut ClassInfo) -> c_int;
+    pub(crate) safe fn strm_least_free_blocks(pool: &Handle, fewest: &mut u32) -> c_int;
+    pub(crate) safe fn strm_least_free(pool: &Handle, place: u32, fewest: &mut u32) -> c_int;
+    pub(crate) safe fn strm_reset_least(pool: &mut Handle) -> c_int;
     pub(crate) safe fn strm_queue_info(pool: &Handle, queue: u32, info: &mut QueueInfo) -> c_int;
     pub(crate) safe fn strm_band_info(pool: &Handle, queue: u32, band: u32, info: &mut BandInfo) -> c_int;
     fn strm_report(pool: &Handle, text: *mut c_char, length: usize) -> usize;
@@ -299,6 +307,24 @@ pub(crate) fn room(pool: &mut Handle, msg: Name, place: u32) -> Result<&mut [u8]
 pub(crate) fn edit(pool: &mut Handle, msg: Name, place: u32) -> Result<&mut [u8], c_int> {
     // SAFETY: as in `room`.
     writable(pool, |pool, first, length| unsafe { strm_edit(pool, msg, place, first, length) })
+}
+
+#[inline]
+pub(crate) fn window(pool: &mut Handle, msg: Name, place: u32) -> Result<&mut [u8], c_int> {
+    // SAFETY: as in `room`.
+    writable(pool, |pool, first, length| unsafe { strm_window(pool, msg, place, first, length) })
+}
+
+/// The data blocks of a size class. They are lent as by `bytes`.
+pub(crate) fn region<'pool>(pool: &'pool Handle, place: u32, at: &mut (&'pool [u8], usize)) -> c_int {
+    let (mut base, mut size) = (core::ptr::null(), 0);
+    // SAFETY: all places are variables.
+    let code = unsafe { strm_region(pool, place, &mut base, &mut size, &mut at.1) };
+    if code == 0 {
+        // SAFETY: as in `bytes`.
+        at.0 = unsafe { slice::from_raw_parts(base, size) };
+    }
+    code
 }
 
 #[inline]
