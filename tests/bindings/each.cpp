@@ -220,9 +220,8 @@ void bytes_in_place() {
     CHECK(text_of(msg) == "Lions" && msg.room(0, code).size() == 3);
     msg.advance(0, 3, code);
     CHECK(msg.room(0, code).size() == 0 && !code);
-    CHECK(msg.window(0, code).data() == bytes.data() && msg.window(0, code).size() == 8);
     msg.shape(0, 1, 3, code);
-    CHECK(text_of(msg) == "ion" && !code);
+    CHECK(text_of(msg) == "ion" && msg.window(0, code).data() == bytes.data() && msg.window(0, code).size() == 8 && !code);
     const strm::message copy = msg.dupb(code);
     CHECK(msg.edit(0, code).size() == 0);
     REFUSED(shared);
