@@ -228,9 +228,8 @@ install-pages:
 # What makes an extension for VS Code of the grammar beside it, once share/strm/vscode is linked into ~/.vscode/extensions.
 VSCODE := {"name": "strm", "version": "$(VERSION)", "engines": {"vscode": "*"}, "contributes": {"languages": [{"id": "strm", "extensions": [".strm"]}], "grammars": [{"language": "strm", "scopeName": "source.strm", "path": "./strm.tmLanguage.json"}]}}
 
-# Installs the tools, which need Python alone, and their manuals, and the package for Python, by which they use the library. All are in
-# PREFIX/share/strm, with links in PREFIX/bin. There,
-# FOLDERS lists the folders that installs made, for tools/uninstall.
+# Installs the tools, their manuals, and the package for Python. By this they use the library. They need Python alone. All are in
+# PREFIX/share/strm, with links in PREFIX/bin. There, FOLDERS lists the folders that installs made, for tools/uninstall.
 install-tools: WHERE install-pages
 	@$(if $(MISSING),install -d $(SHARE)/strm && printf '%s\n' $(MISSING) >>$(SHARE)/strm/FOLDERS)
 	rm -rf $(SHARE)/strm/strm_tools
@@ -322,8 +321,8 @@ FORCE:
 # Where the library is installed.
 LIB := $(DESTDIR)$(PREFIX)/lib
 
-# Installs the libraries for C, their headers and manuals, the crate for Rust and the wheel for Python. With them is what pkg-config, CMake, gdb
-# and strm-trace take. Then it prints the lines that let pkg-config and the loader find them, unless they are to be moved from DESTDIR.
+# Installs the libraries for C, and what C++, Rust and Python need. These are headers, manuals, a crate and a wheel. With them is what pkg-config,
+# CMake, gdb and strm-trace take. Then it prints the lines that let pkg-config and the loader find them, unless they are to be moved from DESTDIR.
 install-lib: $(ARCHIVE) $(SHARED) $(ARCHIVE_MT) $(SHARED_MT) $(TRACE)
 	install -D -m 644 $(ARCHIVE) $(LIB)/libstrm.a
 	install -m 644 $(SHARED) $(LIB)/libstrm.so.$(VERSION)

@@ -643,6 +643,22 @@ int strm_open_with(struct strm_pool *pool, const struct strm_config *config, con
 	return opened("strm_open_with", pool, config, strm_untraced_open_with(pool, config, allocator));
 }
 
+size_t strm_report(const struct strm_pool *pool, char *text, size_t length)
+{
+	size_t needed = strm_untraced_report(pool, text, length);
+	struct traced *traced;
+
+	take_lock();
+	if (mode == TEXT) {
+		traced = strm_traced(pool);
+		text_out.used = (size_t)(add_prefix(text_out.window + text_out.used) - text_out.window);
+		strm_trace_print(&text_out, "strm_report(pool %.*u, %lu) = %lu\n", traced != NULL, traced ? traced->number : 0,
+			(unsigned long)length, (unsigned long)needed);
+	}
+	leave_lock();
+	return needed;
+}
+
 int strm_close(struct strm_pool *pool)
 {
 	struct traced *traced;

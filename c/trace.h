@@ -46,6 +46,7 @@ STRM_MORE_CALLS(DECLARE)
 #undef DECLARE
 int strm_untraced_open(struct strm_pool *pool, const struct strm_config *config);
 int strm_untraced_close(struct strm_pool *pool);
+size_t strm_untraced_report(const struct strm_pool *pool, char *text, size_t length);
 int strm_untraced_open_with(struct strm_pool *pool, const struct strm_config *config, const struct strm_allocator *allocator);
 
 #define MOST_LABEL 40
