@@ -4,8 +4,8 @@
  *
  * A pool has message blocks, data blocks in size classes, and queues. Only strm_open allocates
  * memory. A message is a chain of one or more message blocks; the caller holds it by a name, or it
- * is on a queue. Bytes are copied in and out, or read where they are (strm_bytes, strm_iov).
- * Queues, and places of blocks, messages and bytes, are numbered from 0.
+ * is on a queue. Bytes are copied in and out, or read and written where they are (strm_iov,
+ * strm_room). Queues, and places of blocks, messages and bytes, are numbered from 0.
  *
  *     strm_allocb(&pool, 4, &msg);
  *     strm_write(&pool, msg, 0, "lion", 4);
@@ -47,9 +47,11 @@
  *     returns the wish, not the blocks.
  *   - look: a call that changes nothing in the pool. Its handle is `const`. Looks are strm_testb,
  *     strm_read, strm_size, strm_msgdsize, strm_block, strm_blocks, strm_bytes, strm_iov,
- *     strm_place, strm_has, strm_name_at, strm_qsize, strm_queued_at, strm_read_queued,
- *     strm_first_queued, strm_queued_after, strm_queue_spec, strm_strqget, strm_run_at,
- *     strm_wish_at, strm_census, strm_class_info, strm_queue_info, strm_band_info and strm_is_open.
+ *     strm_place, strm_region, strm_has, strm_name_at, strm_qsize, strm_queued_at,
+ *     strm_read_queued, strm_first_queued, strm_last_queued, strm_queued_after, strm_queued_before,
+ *     strm_queue_of, strm_queue_spec, strm_strqget, strm_run_at, strm_wish_at, strm_census,
+ *     strm_class_info, strm_least_free_blocks, strm_least_free, strm_queue_info, strm_band_info,
+ *     strm_report and strm_is_open.
  *
  *
  * Results
@@ -66,8 +68,7 @@
  *     else if (code == STRM_NONE)
  *         puts("the queue is empty");
  *
- * STRM_FAILED alone is not enough before you use a result: with STRM_NONE, `msg` was not stored.
- * Test for STRM_OK there.
+ * Before you use a result, test for STRM_OK: with STRM_NONE, `msg` was not stored.
  *
  * If several codes apply, a call returns the first in this list (strm_open has its own order):
  *
@@ -81,15 +82,14 @@
  *   5. The refusals that the call's comment lists, in that order.
  *
  * With STRM_NONE nothing is stored through pointers, except that strm_freeb and strm_unlinkb set
- * *rest to STRM_NO_MSG. So *rest is STRM_NO_MSG whenever one of these two or strm_rmvb leaves
- * nothing. After any code but STRM_OK and STRM_NONE, the pool, names, and what pointers lead to are
- * unchanged.
+ * *rest to STRM_NO_MSG. After any code but STRM_OK and STRM_NONE, the pool, names, and what
+ * pointers lead to are unchanged, except *count as below.
  *
- * A call whose name ends in _n makes single calls, one after another: as many as `length` says, or
- * fewer, up to the first that does not return STRM_OK. It sets *count to the number of calls that
- * returned STRM_OK, and returns STRM_OK. But if the first call returns another code, it returns
- * that code, and *count is unchanged. Items 3 to 5 of the list are those of the first call. If
- * `length` is 0 there is none: *count is 0, with STRM_OK, whatever the other arguments name.
+ * A call whose name ends in _n makes `length` single calls, or fewer, up to the first that does not
+ * return STRM_OK. It returns the code of the first one, or STRM_OK if `length` is 0, whatever the
+ * other arguments name. *count is the number of single calls that returned STRM_OK: 0 if the call
+ * returns another code, even STRM_NOT_OPEN. If *count is below `length` with STRM_OK, the next
+ * single call returns the code that ended the series.
  *
  * A call takes constant time, plus time for each block, message or byte that it goes over.
  *
@@ -98,14 +98,14 @@
  *
  * A name has its pool's id, the number of the message's first block, and a stamp. It is valid from
  * the call that returns it until the message is handed over. These calls hand over: strm_freemsg,
- * strm_freeb, strm_rmvb, strm_transfer, strm_putq, strm_putbq, strm_insq, the _n calls that free or
- * put, strm_linkb its tail, and strm_close all.
+ * strm_freeb, strm_rmvb, strm_transfer, strm_putq, strm_putbq, strm_insq, strm_insq_at, the _n
+ * calls that free or put, strm_linkb its tail, and strm_close all.
  *
  * A pool never gives a name a second time: a message that comes off a queue, or is parted from
  * another, has a new one. Only strm_name_at returns a name that was given before. So a caller that
  * frees twice, links twice, or uses a message that is on a queue gets STRM_INVALID. Any bits may be
  * passed as a name. Names may be copied, kept, and compared by strm_same_msg. STRM_NO_MSG, all
- * zeros, is the name of no message, and never valid.
+ * zeros, is the name of no message, and never valid. Its initialiser is STRM_NO_MSG_INIT.
  *
  * Stamps start again after 2^64 names with the same block. Two pools opened with the
  * same id, together or one after the other, can't tell their names apart: give different ids to
@@ -128,12 +128,15 @@
  *     it, calls that meet often end the program by SIGILL, or they damage the pool unnoticed.
  *     ThreadSanitizer seldom reports them, since the library has no instrumentation. Different
  *     pools may be used at the same time.
- *   - Nothing is written through a pointer that strm_bytes or strm_iov returns. Nothing is read
- *     through it from the beginning of the next call with that pool that is no look; a look leaves
- *     it good. So a thread that shares the pool holds its lock from before the call until it has
- *     read there, without a gap; a read lock is enough. The pointer is passed to no call with the
- *     same pool, such as strm_write: copy the bytes by strm_read first. A call with another pool
- *     may get it.
+ *   - Nothing is written through a pointer that strm_bytes, strm_iov or strm_region returns.
+ *     Nothing is read through it from the beginning of the next call with that pool that is no
+ *     look; a look leaves it good, and so does strm_room, strm_edit or strm_window. So a thread
+ *     that shares the pool holds its lock from before the call until it has read there, without a
+ *     gap; a read lock is enough. The pointer is passed to no call with the same pool, such as
+ *     strm_write: copy the bytes by strm_read first. A call with another pool may get it.
+ *   - The same is true of a pointer that strm_room, strm_edit or strm_window returns, but bytes may
+ *     be written there too, as many as the call counted. They are then the bytes that the data
+ *     block has. While a thread writes there, it holds the lock as for a call that is no look.
  *   - No call is made from a signal handler. An interrupt handler makes calls only while no other
  *     call runs.
  *   - Calls use SSE registers. Code that may not, as in most kernels, saves these before a call and
@@ -171,7 +174,8 @@
  *
  * In C++ the calls strm_census, strm_class_info, strm_queue_info, strm_band_info, strm_queue_spec
  * and strm_iov are macros, because structs have these names too. So `strm_census c;` declares a
- * variable. The addresses of these functions are `&strm_census_` and so on.
+ * variable, and from C++11 on `strm_census()` is a struct of zeros. The addresses of these
+ * functions are `&strm_census_` and so on.
  *
  *
  * As in STREAMS, and not
@@ -192,8 +196,8 @@ extern "C" {
 #endif
 
 /* The version of this header, as a text and as a number. */
-#define STRM_VERSION "0.3.0"
-#define STRM_VERSION_NUMBER 3000
+#define STRM_VERSION "0.4.0"
+#define STRM_VERSION_NUMBER 4000
 
 enum {
 	STRM_OK = 0,			/* done */
@@ -235,11 +239,11 @@ enum {
 	STRM_BAD_FIRST_ID = -19		/* the first id is 0 */
 };
 
-/* True if a code is that of a failure, which is any but STRM_OK and STRM_NONE. */
+/* True if a code is that of a failure: any but STRM_OK and STRM_NONE, which are multiples of ~0u. */
 #ifdef __cplusplus
-#define STRM_FAILED(code) (static_cast<unsigned>(code) + 1u > 1u)
+#define STRM_FAILED(code) (static_cast<unsigned>(code) % ~0u != 0u)
 #else
-#define STRM_FAILED(code) ((unsigned)(code) + 1u > 1u)
+#define STRM_FAILED(code) ((unsigned)(code) % ~0u != 0u)
 #endif
 
 /* Limits. */
@@ -288,16 +292,16 @@ struct strm_msg {
 	uint64_t stamp;			/* how many names with that block were given, this one included */
 };
 
-/*
- * The name of no message. It is a value, for initialisers, assignments and arguments; in C89 it is
- * an initialiser only. In C, a static variable needs no initialiser to be STRM_NO_MSG.
- */
+/* The name of no message: an initialiser, also of static variables. Since 0.4.0. */
+#define STRM_NO_MSG_INIT { 0, 0, 0 }
+
+/* The same as a value, for assignments, arguments and other variables; in C89 an initialiser. */
 #if defined(__cplusplus)
 #define STRM_NO_MSG strm_msg()
 #elif defined(__STDC_VERSION__) && __STDC_VERSION__ >= 199901L
-#define STRM_NO_MSG ((struct strm_msg){ 0, 0, 0 })
+#define STRM_NO_MSG ((struct strm_msg)STRM_NO_MSG_INIT)
 #else
-#define STRM_NO_MSG { 0, 0, 0 }
+#define STRM_NO_MSG STRM_NO_MSG_INIT
 #endif
 
 /* A size class of a configuration. */
@@ -314,6 +318,9 @@ struct strm_queue_spec {
 	uint32_t next;			/* the next queue, numbered above this one and next of no other; or STRM_NO_QUEUE */
 };
 #define STRM_NO_QUEUE 0xFFFFFFFFu
+
+/* The number of no block: strm_insq_at puts a message last. Since 0.4.0. */
+#define STRM_NO_HEAD 0xFFFFFFFFu
 
 /* What strm_open opens. */
 struct strm_config {
@@ -424,12 +431,24 @@ int strm_band_info_(const struct strm_pool *pool, uint32_t queue, uint32_t band,
 int strm_queue_spec_(const struct strm_pool *pool, uint32_t queue, struct strm_queue_spec *spec) __asm__("strm_queue_spec");
 int strm_iov_(const struct strm_pool *pool, struct strm_msg msg, uint32_t from, struct strm_iov *into, size_t length,
 	size_t *count) __asm__("strm_iov");
+#if __cplusplus >= 201103L
+/* The struct of a name with at most one argument, and the call with two to six. */
+#define STRM_SEVENTH(a, b, c, d, e, f, name, ...) name
+#define STRM_NAMED(name, ...) STRM_SEVENTH(__VA_ARGS__, name##_, name##_, name##_, name##_, name##_, name, 0)(__VA_ARGS__)
+#define strm_census(...) STRM_NAMED(strm_census, __VA_ARGS__)
+#define strm_class_info(...) STRM_NAMED(strm_class_info, __VA_ARGS__)
+#define strm_queue_info(...) STRM_NAMED(strm_queue_info, __VA_ARGS__)
+#define strm_band_info(...) STRM_NAMED(strm_band_info, __VA_ARGS__)
+#define strm_queue_spec(...) STRM_NAMED(strm_queue_spec, __VA_ARGS__)
+#define strm_iov(...) STRM_NAMED(strm_iov, __VA_ARGS__)
+#else
 #define strm_census(pool, census) strm_census_(pool, census)
 #define strm_class_info(pool, place, info) strm_class_info_(pool, place, info)
 #define strm_queue_info(pool, queue, info) strm_queue_info_(pool, queue, info)
 #define strm_band_info(pool, queue, band, info) strm_band_info_(pool, queue, band, info)
 #define strm_queue_spec(pool, queue, spec) strm_queue_spec_(pool, queue, spec)
 #define strm_iov(pool, msg, from, into, length, count) strm_iov_(pool, msg, from, into, length, count)
+#endif
 #endif
 
 /* ---- opening and closing: strm_open(3) */
@@ -438,8 +457,7 @@ int strm_iov_(const struct strm_pool *pool, struct strm_msg msg, uint32_t from, 
  * Opens a pool, with all blocks free and all queues empty. It allocates all memory, 68 MB for the
  * largest pool, and copies the configuration. It uses 11 KB of stack, far more than other calls.
  * The fields `classes` and `queues` may be null if their count is 0. A count of 0 is refused as
- * STRM_BAD_CLASSES or STRM_BAD_QUEUES, a count above its limit as STRM_BAD_ARGUMENT. The first id
- * must be above 0 even if `bufcalls` is 0.
+ * STRM_BAD_CLASSES or STRM_BAD_QUEUES, a count above its limit as STRM_BAD_ARGUMENT.
  * Refused as STRM_NOT_OPEN for a null handle, STRM_IS_OPEN, STRM_BAD_ARGUMENT, the first fault from
  * STRM_BAD_MBLKS to STRM_BAD_FIRST_ID, or STRM_NO_MEMORY, in this order. If strm_open fails, an
  * open handle is unchanged, and any other stays closed.
@@ -509,7 +527,7 @@ int strm_dupmsg(struct strm_pool *pool, struct strm_msg msg, struct strm_msg *co
 /*
  * Copies the first block of a message. The new block has a data block of its own, allocated as by
  * strm_allocb for the capacity of the old data block. Type, band, and bytes with their places are
- * the same.
+ * the same. The rest of the new data block keeps what was there: see strm_advance.
  * Refused as STRM_NO_MBLK, STRM_NO_DATA.
  * Differs from STREAMS: which data block is taken.
  */
@@ -612,18 +630,16 @@ int strm_name_at(const struct strm_pool *pool, uint32_t head, struct strm_msg *m
  * *bytes is still not null. Read them there, until the next call with this pool that is no look;
  * write nothing.
  * Refused as STRM_NO_SUCH_BLOCK.
- * STREAMS: b_rptr and b_wptr; here the caller may not write.
+ * STREAMS: b_rptr and b_wptr; to write there, call strm_edit.
  */
 int strm_bytes(const struct strm_pool *pool, struct strm_msg msg, uint32_t place, const uint8_t **bytes, size_t *length);
 
 /*
- * Sets base and length of consecutive blocks of a message, as strm_bytes does, in the array `into`
- * of `length` structs, from the block numbered `from` on. *count is the number of blocks: `length`,
- * or fewer if the message ends before. If the message has no block `from`, *count is 0, with
- * STRM_OK. The rest of the array is unchanged. If *count is `length`, there may be more: ask again
- * from `from` + `length` on. writev takes the array as `(const struct iovec *)into`, with at most
- * IOV_MAX structs. strm_iov counts to each block from the first one, so a message of many blocks
- * takes time for the square of their number.
+ * Sets base and length of consecutive blocks of a message, as strm_bytes does, in an array that is
+ * filled as by strm_blocks. If *count is `length`, there may be more: ask again from `from` +
+ * `length` on. writev takes the array as `(const struct iovec *)into`, with at most IOV_MAX
+ * structs. strm_iov counts to each block from the first one, so a message of many blocks takes time
+ * for the square of their number.
  * Not in STREAMS.
  */
 int strm_iov(const struct strm_pool *pool, struct strm_msg msg, uint32_t from, struct strm_iov *into, size_t length,
@@ -640,6 +656,44 @@ int strm_iov(const struct strm_pool *pool, struct strm_msg msg, uint32_t from, s
  * STREAMS: db_base, db_lim, b_rptr and b_wptr, as numbers.
  */
 int strm_place(const struct strm_pool *pool, struct strm_msg msg, uint32_t place, struct strm_block_place *where);
+
+/*
+ * Sets *base to the address of the bytes of all data blocks of the size class at `place`, and *size
+ * to their number. Data blocks follow one another, each of *stride bytes. They stay there while the
+ * pool is open, so register them once, with a device or io_uring. Within them strm_room says where
+ * to write. Returns STRM_NONE if there is no such class. Since 0.4.0.
+ * Not in STREAMS.
+ */
+int strm_region(const struct strm_pool *pool, uint32_t place, const uint8_t **base, size_t *size, size_t *stride);
+
+/*
+ * Sets *at to the address of the room of the block numbered `place`, and *length to its number of
+ * bytes. If there is no room, *at is still not null. Write there, for instance by recv, until the
+ * next call with this pool that is neither a look nor strm_room, strm_edit or strm_window. Then
+ * call strm_advance, which moves the write place past what you wrote. This call itself changes
+ * nothing. Since 0.4.0.
+ * Refused as STRM_NO_SUCH_BLOCK, STRM_SHARED.
+ * STREAMS: b_wptr and db_lim.
+ */
+int strm_room(struct strm_pool *pool, struct strm_msg msg, uint32_t place, uint8_t **at, size_t *length);
+
+/*
+ * Sets *at to the address of the first byte of the block numbered `place`, and *length to the
+ * number of its bytes, as strm_bytes does. Change them there, for as long as at strm_room.
+ * Since 0.4.0.
+ * Refused as STRM_NO_SUCH_BLOCK, STRM_SHARED.
+ * STREAMS: b_rptr and b_wptr; the kernel does not check db_ref.
+ */
+int strm_edit(struct strm_pool *pool, struct strm_msg msg, uint32_t place, uint8_t **at, size_t *length);
+
+/*
+ * Sets *base to the address of the first byte of the data block of the block numbered `place`, and
+ * *capacity to the number of all its bytes. This is for code that keeps places of its own: write
+ * there for as long as at strm_room, and call strm_shape then. Since 0.4.0.
+ * Refused as STRM_NO_SUCH_BLOCK, STRM_SHARED.
+ * STREAMS: db_base and db_lim.
+ */
+int strm_window(struct strm_pool *pool, struct strm_msg msg, uint32_t place, uint8_t **base, size_t *capacity);
 
 /*
  * Writes `length` bytes over those of a message, beginning with the byte numbered `at`, counted
@@ -670,11 +724,25 @@ int strm_prepend(struct strm_pool *pool, struct strm_msg msg, const void *bytes,
 
 /*
  * Moves the write place of the block numbered `place` past `count` bytes that the data block has
- * there already: what was last written there, by this message or an earlier one, or zeros.
+ * there already: what was last written there, by this message or a freed one, or zeros. No call
+ * clears bytes. So before you free or trim a message with secrets, write zeros over them by
+ * strm_overwrite. strm_pullupmsg and strm_transfer leave bytes in the data blocks that they free:
+ * duplicate the message before, and afterwards overwrite and free the duplicate.
  * Refused as STRM_NO_SUCH_BLOCK, STRM_SHARED, STRM_NO_ROOM; the first two also for a count of 0.
  * STREAMS: adding to b_wptr.
  */
 int strm_advance(struct strm_pool *pool, struct strm_msg msg, uint32_t place, uint32_t count);
+
+/*
+ * Sets the read place of the block numbered `place` to `at`, and its write place to `at` +
+ * `length`, counted from the beginning of its data block. It writes no byte, so it is allowed on
+ * shared data too. The block then shows what its data block has there: see strm_advance.
+ * Since 0.4.0.
+ * Refused as STRM_NO_SUCH_BLOCK; STRM_NO_ROOM if the data block has fewer than `at` + `length`
+ * bytes.
+ * STREAMS: setting b_rptr and b_wptr.
+ */
+int strm_shape(struct strm_pool *pool, struct strm_msg msg, uint32_t place, uint32_t at, uint32_t length);
 
 /* ---- names compared: strm_same_msg(3) */
 
@@ -722,8 +790,10 @@ int strm_adjmsg(struct strm_pool *pool, struct strm_msg msg, int32_t count);
 /*
  * Gathers the first `count` bytes of a message in its first block, from its leading blocks of the
  * first block's type; -1 means all bytes of these blocks. If the first block has the bytes already,
- * nothing is done. Otherwise the first block gets a new data block, allocated as by strm_allocb,
- * and blocks that gave all their bytes are freed.
+ * nothing is done. Otherwise it gets a new data block, allocated as by strm_allocb, with the bytes
+ * at its beginning: headroom is lost. Blocks that gave all their bytes are freed, and empty ones
+ * before the last byte; empty ones after it stay. Old data blocks, and the rest of the new one,
+ * keep what was there: see strm_advance.
  * Refused as STRM_SHORT if `count` is below -1 or these blocks have fewer bytes, STRM_TOO_LARGE,
  * STRM_NO_DATA.
  * Differs from STREAMS: bytes are not aligned.
@@ -734,8 +804,8 @@ int strm_pullupmsg(struct strm_pool *pool, struct strm_msg msg, int32_t count);
  * Makes a message anew in another pool, with the same blocks, bytes with their places, types and
  * bands, and frees it here. `msg` is no longer valid; *moved is the name of the new message, in the
  * pool `other`. Each new block has a data block of its own, allocated as by strm_allocb for the
- * capacity of the old one. Both handles must be open, and threads that share a pool hold the locks
- * of both.
+ * capacity of the old one. Old data blocks, and the rest of the new ones, keep what was there: see
+ * strm_advance. Both handles must be open, and threads that share a pool hold the locks of both.
  * Refused as STRM_TOO_LARGE, STRM_NO_MBLK, STRM_NO_DATA, all of the pool `other`.
  * Not in STREAMS.
  */
@@ -773,6 +843,14 @@ int strm_putbq(struct strm_pool *pool, uint32_t queue, struct strm_msg msg);
 int strm_insq(struct strm_pool *pool, uint32_t queue, uint32_t place, struct strm_msg msg);
 
 /*
+ * Puts a message on a queue as strm_insq does, before the message there whose first block is
+ * `before`, or last if that is STRM_NO_HEAD. Takes constant time. Since 0.4.0.
+ * Refused as STRM_NO_SUCH_PLACE if no message on this queue begins with that block; STRM_BAD_ORDER.
+ * STREAMS: insq; a number replaces the pointer.
+ */
+int strm_insq_at(struct strm_pool *pool, uint32_t queue, uint32_t before, struct strm_msg msg);
+
+/*
  * Takes the first message off a queue, clears the want-to-read mark (QWANTR), and settles the
  * queue. If the queue is empty, sets the want-to-read mark and returns STRM_NONE.
  * Differs from STREAMS: a band settles at its low water mark, not only below.
@@ -785,6 +863,14 @@ int strm_getq(struct strm_pool *pool, uint32_t queue, struct strm_msg *msg);
  * Differs from STREAMS: you pass a place, and settling differs as at strm_getq.
  */
 int strm_rmvq(struct strm_pool *pool, uint32_t queue, uint32_t place, struct strm_msg *msg);
+
+/*
+ * Takes the message whose first block is `head` off its queue, and settles the queue. Takes
+ * constant time. Since 0.4.0.
+ * Refused as STRM_NO_SUCH_PLACE if no message on a queue begins with that block.
+ * STREAMS: rmvq, whose caller also passes the queue; settling differs as at strm_getq.
+ */
+int strm_rmvq_msg(struct strm_pool *pool, uint32_t head, struct strm_msg *msg);
 
 /* Counts the messages on a queue. As in STREAMS. */
 int strm_qsize(const struct strm_pool *pool, uint32_t queue, uint32_t *msgs);
@@ -812,12 +898,34 @@ int strm_read_queued(const struct strm_pool *pool, uint32_t queue, uint32_t plac
 int strm_first_queued(const struct strm_pool *pool, uint32_t queue, uint32_t *head);
 
 /*
+ * Returns the number of the first block of the last message on a queue, or STRM_NONE if the queue
+ * is empty. Since 0.4.0.
+ * STREAMS: q_last.
+ */
+int strm_last_queued(const struct strm_pool *pool, uint32_t queue, uint32_t *head);
+
+/*
  * Returns the number of the first block of the next message on the same queue, after the message
  * whose first block is `head`; or STRM_NONE if that is the last one.
  * Refused as STRM_NO_SUCH_PLACE if no message on a queue begins with that block.
  * STREAMS: b_next.
  */
 int strm_queued_after(const struct strm_pool *pool, uint32_t head, uint32_t *after);
+
+/*
+ * Returns the number of the first block of the message before the one whose first block is `head`,
+ * on the same queue; or STRM_NONE if that is the first one. Since 0.4.0.
+ * Refused as STRM_NO_SUCH_PLACE if no message on a queue begins with that block.
+ * STREAMS: b_prev.
+ */
+int strm_queued_before(const struct strm_pool *pool, uint32_t head, uint32_t *before);
+
+/*
+ * Returns the queue that has the message whose first block is `head`. Since 0.4.0.
+ * Refused as STRM_NO_SUCH_PLACE if no message on a queue begins with that block.
+ * Not in STREAMS.
+ */
+int strm_queue_of(const struct strm_pool *pool, uint32_t head, uint32_t *queue);
 
 /*
  * Frees messages of a queue, front to back: all, or those with data (STRM_FLUSHALL,
@@ -835,25 +943,22 @@ int strm_flushband(struct strm_pool *pool, uint32_t queue, uint32_t band, uint32
 /* ---- several messages at once: strm_allocb_n(3) */
 
 /*
- * Allocates messages as strm_allocb does, and stores their names in the array `msgs` of `length`
- * names. The rest of the array is unchanged. Compare *count with `length`, also with STRM_OK. If it
- * is smaller, strm_allocb returns the code that ended the series.
+ * Allocates messages as strm_allocb does, and stores their number in *count, and their names in the
+ * array `msgs` of `length` names. The rest of the array is unchanged.
  * Not in STREAMS.
  */
 int strm_allocb_n(struct strm_pool *pool, uint32_t size, struct strm_msg *msgs, size_t length, size_t *count);
 
 /*
  * Frees messages as strm_freemsg does: those named in the array `msgs` of `length` names, in this
- * order. Compare *count with `length`, also with STRM_OK. If it is smaller, strm_freemsg of the
- * name at *count returns the code that ended the series. The messages after it are still yours.
+ * order.
  * Not in STREAMS.
  */
 int strm_freemsg_n(struct strm_pool *pool, const struct strm_msg *msgs, size_t length, size_t *count);
 
 /*
  * Puts messages on a queue as strm_putq does: those named in the array `msgs` of `length` names, in
- * this order. Compare *count with `length`, also with STRM_OK. If it is smaller, strm_putq of the
- * name at *count returns the code that ended the series. The messages after it are still yours.
+ * this order.
  * Not in STREAMS.
  */
 int strm_putq_n(struct strm_pool *pool, uint32_t queue, const struct strm_msg *msgs, size_t length, size_t *count);
@@ -862,10 +967,9 @@ int strm_putq_n(struct strm_pool *pool, uint32_t queue, const struct strm_msg *m
  * Takes messages off a queue as strm_getq does, and stores their names in the array `msgs` of
  * `length` names. The rest of the array is unchanged. If the queue has fewer than `length`
  * messages, this sets the want-to-read mark, as strm_getq does on an empty queue. If it has exactly
- * `length`, the mark stays off: a service procedure calls again, until *count is below `length` or
- * the call returns STRM_NONE. So compare *count with `length`, also with STRM_OK. With the mark on,
- * a message that strm_putbq puts back enables the queue at once: a service procedure that may put
- * back asks for at most as many as strm_qsize counts.
+ * `length`, the mark stays off: a service procedure calls again, until *count is below `length`.
+ * With the mark on, a message that strm_putbq puts back enables the queue at once: a service
+ * procedure that may put back asks for at most as many as strm_qsize counts.
  * Not in STREAMS.
  */
 int strm_getq_n(struct strm_pool *pool, uint32_t queue, struct strm_msg *msgs, size_t length, size_t *count);
@@ -880,12 +984,11 @@ int strm_getq_n(struct strm_pool *pool, uint32_t queue, struct strm_msg *msgs, s
  * own queue would decide for itself. A source without a queue, such as an interrupt, asks about the
  * queue on which it puts. If *yes is 0, it asks again later, or drops the message: nothing wakes
  * it. If it must be woken, give it a queue that stays empty and has a service procedure, and whose
- * next queue is the one on which it puts (SENDER in examples/c/locked.c). The water marks of such a
- * queue do not matter: for instance 1 and 0. Only one queue may have a given queue as its next, so
- * several senders share one empty queue. Its service procedure calls strm_qenable on the queue of
- * each sender that waits, or wakes it. The bytes of high priority messages count with band 0,
- * which they can make full. The call may mark a band, so it is no look, and ends pointers of
- * strm_bytes.
+ * next queue is the one on which it puts. The water marks of such a queue do not matter: for
+ * instance 1 and 0. Only one queue may have a given queue as its next, so several senders share one
+ * empty queue. Its service procedure calls strm_qenable on the queue of each sender that waits, or
+ * wakes it. Threads wait by strm_mt.h. The bytes of high priority messages count with band 0, which
+ * they can make full. The call may mark a band, so it is no look, and ends pointers of strm_bytes.
  * As in STREAMS; canput asks for band 0.
  */
 int strm_bcanput(struct strm_pool *pool, uint32_t queue, uint32_t band, uint32_t *yes);
@@ -979,6 +1082,28 @@ int strm_census(const struct strm_pool *pool, struct strm_census *census);
 int strm_class_info(const struct strm_pool *pool, uint32_t place, struct strm_class_info *info);
 
 /*
+ * Returns the fewest message blocks that were free since the pool was opened, or since
+ * strm_reset_least. So a pool with this number fewer would have done. Each call that takes blocks
+ * lowers it when it takes them, also if it frees others before it returns. Since 0.4.0.
+ * Not in STREAMS.
+ */
+int strm_least_free_blocks(const struct strm_pool *pool, uint32_t *fewest);
+
+/*
+ * Returns the same for the data blocks of the size class at `place`, or STRM_NONE if there is none.
+ * Since 0.4.0.
+ * Not in STREAMS.
+ */
+int strm_least_free(const struct strm_pool *pool, uint32_t place, uint32_t *fewest);
+
+/*
+ * Makes the message blocks, and of each class the data blocks, that are free now the fewest that
+ * were free. Since 0.4.0.
+ * Not in STREAMS.
+ */
+int strm_reset_least(struct strm_pool *pool);
+
+/*
  * Returns the state of a queue.
  * STREAMS: q_count, and QWANTR, QNOENB and QENAB of q_flag; here `bytes` counts all bands.
  */
@@ -989,6 +1114,16 @@ int strm_queue_info(const struct strm_pool *pool, uint32_t queue, struct strm_qu
  * STREAMS: qb_count, and QB_FULL and QB_WANTW of qb_flag.
  */
 int strm_band_info(const struct strm_pool *pool, uint32_t queue, uint32_t band, struct strm_band_info *info);
+
+/*
+ * Writes the report that the program strm prints of a pool (strm(1)): as much as fits into `length`
+ * bytes, with a 0 at the end unless `length` is 0. Returns the length of the whole text without the
+ * 0. If the handle is not open, `text` is null and `length` is not 0, or `length` is above
+ * SIZE_MAX / 2, returns 0 and writes nothing. The text of a pool has at most 180 KB.
+ * Since 0.4.0.
+ * Not in STREAMS.
+ */
+size_t strm_report(const struct strm_pool *pool, char *text, size_t length);
 
 /* ---- texts: strm_text(3) */
 
