@@ -17,8 +17,8 @@ pub record DataBlock : Type 0 where
   pub kind : MsgType
   pub bytes : List ℕ
 
--- the size classes, the data blocks by number, and for each class its free data blocks, the next to be taken first, and the
--- fewest that were free since the classes were made or `least` was reset
+-- the size classes and the data blocks by number; for each class its free data blocks, the next to be taken first; and for each
+-- class the fewest that were free since the classes were made or `least` was reset
 pub record DataStore : Type 0 where
   pub classes : List ClassSpec
   pub blocks : List DataBlock

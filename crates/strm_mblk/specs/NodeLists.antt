@@ -5,8 +5,8 @@ use Rattle.strm_links.specs.Rows.{first, has}
 use Rattle.strm_data.specs.DataStore.{times}
 use Rattle.strm_mblk.specs.Messages.{blocks_of, held_in, shelf_in, blocks_on, blocks_held}
 
--- the free numbers, the next to be taken first; for each number the held message that begins with it, if any; the messages on each
--- shelf, front to back; and the fewest numbers that were free
+-- The free numbers, the next to be taken first. For each number, the held message that begins with it, if any. For each shelf, its
+-- messages, front to back. The fewest numbers that were free.
 pub record NodeLists : Type 0 where
   pub free : List ℕ
   pub held : List (Option (List ℕ))
