@@ -10,6 +10,7 @@
  */
 #define _GNU_SOURCE
 #include <pthread.h>
+#include <sched.h>
 #include <stdint.h>
 #include <stdio.h>
 #include <stdlib.h>
@@ -144,9 +145,12 @@ static struct rte_ring *ring;
 static void peer_open(uint32_t room, uint32_t queues)
 {
 	char *words[] = { "handover", "--no-huge", "--no-pci", "--no-shconf", "-m", "64", "--log-level=1", "--lcores=0" };
+	cpu_set_t allowed;
 
 	(void)queues;
-	if (rte_eal_init(8, words) < 0 || (ring = rte_ring_create("way", room, 0, RING_F_EXACT_SZ)) == NULL)
+	/* DPDK binds the thread that calls it to one processor, and the threads to come would inherit that. */
+	if (sched_getaffinity(0, sizeof(allowed), &allowed) != 0 || rte_eal_init(8, words) < 0 ||
+	    sched_setaffinity(0, sizeof(allowed), &allowed) != 0 || (ring = rte_ring_create("way", room, 0, RING_F_EXACT_SZ)) == NULL)
 		exit(1);
 }
 
