@@ -196,7 +196,7 @@ extern "C" {
 #endif
 
 /* The version of this header, as a text and as a number. */
-#define STRM_VERSION "0.4.0"
+#define STRM_VERSION "0.5.0"
 #define STRM_VERSION_NUMBER 4000
 
 enum {
