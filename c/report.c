@@ -1,5 +1,5 @@
 /*
- * The report of a pool as text, over the looks of strm.h: the same as the program strm prints after the replies.
+ * The report of a pool as text, over the looks of strm.h: the same as the program strm prints after the replies. Tested, not proved.
  */
 #include "strm.h"
 

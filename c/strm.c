@@ -1,9 +1,9 @@
 /*
- * The border between C and the crate strm_c, which takes references and slices. The functions here reject what those cannot be:
- * null pointers, lengths that no object has, one place for two answers, and one handle for two pools. The crate checks everything
- * else. A function that rejects an argument checks whether the handle is open too, because that answer comes first. strm_c_close
- * would clear a handle that is not open. Calls that need no pool are here alone: they compare names, and return a text that the
- * crate could only copy.
+ * The border between C and the crate strm_c, which takes references and slices. Tested and trusted, not proved. The functions here
+ * reject what those cannot be: null pointers, lengths that no object has, one place for two answers, and one handle for two pools.
+ * The crate checks everything else. A function that rejects an argument checks whether the handle is open too, because that answer
+ * comes first. strm_c_close would clear a handle that is not open. Calls that need no pool are here alone: they compare names, and
+ * return a text that the crate could only copy.
  */
 #include "heap.h"
 #include "strm_c.h"

@@ -1,4 +1,5 @@
 """Commands of gdb that show pools of libstrm, in a process or in a core file. `source` reads this file, and `help strm` lists them.
+Tested, not proved.
 
 A pool is in one region of memory (c/heap.c). A child process, which is this file as a program, has a copy of it at the same addresses, and asks
 the looks of strm.h there. So nothing here depends on how the library lays a pool out, the program does not run, and a pool that is damaged

@@ -1,5 +1,6 @@
 /*
  * strm_trace.h: names for queues and messages in the traces of libstrm_trace.so (strm-trace(1)).
+ * Tested, not proved.
  */
 #ifndef STRM_TRACE_H
 #define STRM_TRACE_H

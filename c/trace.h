@@ -1,4 +1,4 @@
-/* What trace.c, which has the calls of strm.h, and trace_script.c share. */
+/* What trace.c, which has the calls of strm.h, and trace_script.c share. Tested, not proved. */
 #ifndef TRACE_H
 #define TRACE_H
 

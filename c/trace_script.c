@@ -1,7 +1,7 @@
 /*
- * The trace that strm-record takes, as strm-record(1) explains it, of the calls that trace.c passes on. What a call left is seen by looks after it.
- * No look shows the numbers of all message blocks, so those of a script are given here. A call that scripts have no word for is written as a change
- * through pointers.
+ * The trace that strm-record takes, as strm-record(1) explains it, of the calls that trace.c passes on. Tested, not proved. What a call left is seen
+ * by looks after it. No look shows the numbers of all message blocks, so those of a script are given here. A call that scripts have no word for is
+ * written as a change through pointers.
  */
 #include "trace.h"
 

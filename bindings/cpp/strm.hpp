@@ -1,5 +1,5 @@
 /*
- * strm.hpp: the pools of strm.h for C++17 and later, over the same library.
+ * strm.hpp: the pools of strm.h for C++17 and later, over the same library. Tested, not proved.
  *
  *     strm::pool pool({ .mblks = 40, .classes = { { 16, 32 } }, .queues = { { .hiwat = 64, .lowat = 16 } } });
  *     strm::message msg = pool.allocb(4);

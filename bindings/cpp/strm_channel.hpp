@@ -1,5 +1,6 @@
 /*
  * strm_channel.hpp: a channel between threads for C++17 and later, over strm_mt.h. Link -lstrm_mt before -lstrm, and -pthread.
+ * Tested, not proved.
  *
  *     strm::channel way(16, 32);
  *     way.send(strm::bytes_of("lion"));                    // waits for room

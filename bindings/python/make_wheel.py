@@ -1,5 +1,6 @@
 """Makes the wheel of the package strm, which carries the shared library: build/libstrm.so of the repository, or lib/libstrm.so below the folder that
-the package is installed in. It needs Python alone, and the same files give the same bytes. `pip install .` calls build_wheel (pyproject.toml).
+the package is installed in. Tested, not proved. It needs Python alone, and the same files give the same bytes. `pip install .` calls build_wheel
+(pyproject.toml).
 
     python3 make_wheel.py FOLDER [LIBRARY]
 """

@@ -1,5 +1,5 @@
-//! Finds libstrm.a, or else libstrm.so, and has it linked. It looks in the folder that `STRM_LIB_DIR` names, then in `build` of the repository,
-//! then in `lib` of the prefix that the crate is installed below, and then asks pkg-config.
+//! Finds libstrm.a, or else libstrm.so, and has it linked. Tested, not proved. It looks in the folder that `STRM_LIB_DIR` names, then in `build` of
+//! the repository, then in `lib` of the prefix that the crate is installed below, and then asks pkg-config.
 use std::env;
 use std::path::{Path, PathBuf};
 use std::process::Command;

@@ -1,4 +1,4 @@
-"""Pools of message blocks and queues, as in UNIX System V Release 4 STREAMS, over the proved library of strm.h.
+"""Pools of message blocks and queues, as in UNIX System V Release 4 STREAMS, over the proved library of strm.h. Tested, not proved.
 
     with Pool(mblks=40, classes=[(16, 32)], queues=[QueueSpec(hiwat=64, lowat=16)]) as pool:
         msg = pool.allocb(4)

@@ -1,4 +1,4 @@
-//! A channel between threads, over strm_mt.h, with the feature `channel`.
+//! A channel between threads, over strm_mt.h, with the feature `channel`. Tested, not proved.
 #![allow(unsafe_code)]
 
 use core::ffi::{c_int, c_long, c_void};

@@ -1,4 +1,4 @@
-//! Pools of message blocks and queues, as in UNIX System V Release 4 STREAMS, over the proved library of strm.h.
+//! Pools of message blocks and queues, as in UNIX System V Release 4 STREAMS, over the proved library of strm.h. Tested, not proved.
 //!
 //! ```
 //! use strm::{ClassSpec, Config, Pool, QueueSpec};
