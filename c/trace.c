@@ -2,6 +2,8 @@
  * libstrm_trace.so: the calls of strm.h, each with a line in a trace (strm-trace(1)). Tested, not proved. It has the whole library inside, so it
  * is preloaded, or linked instead of libstrm. Wrappers come from the tables of calls, and know by its type what an argument is. A lock puts
  * the lines of threads in the order of their calls on a pool, since these hold the caller's own lock until the call returns.
+ *
+ * A line takes about twice as long as a call. Most of that is the clock, and bytes that are stored.
  */
 #define _GNU_SOURCE
 #include "trace.h"
@@ -23,15 +25,13 @@
 #include <time.h>
 #include <unistd.h>
 
-/* How much of a file is in memory, and how much of an array and of bytes is shown. */
-#define WINDOW ((size_t)1 << 20)
-/* A multiple of the size of a page, which may be 64 KB on ARM. */
-#define PAGE 65536
-#ifndef MADV_POPULATE_WRITE
-#define MADV_POPULATE_WRITE 23
-#endif
+/* How far a file's window is from its lines, in windows; and how much of an array and of bytes is shown. */
+#define GAP 256
 #define MOST_ITEMS 16
 #define MOST_BYTES 32
+
+/* A function that each call has in its own code, where it knows what the arguments are. */
+#define PER_CALL static inline __attribute__((always_inline))
 
 static _Atomic enum { UNKNOWN, OFF, TEXT, SCRIPT } mode;
 static struct output text_out;
@@ -43,13 +43,18 @@ static struct timespec started;
 static atomic_flag is_taken = ATOMIC_FLAG_INIT;
 static __thread unsigned thread __attribute__((tls_model("initial-exec")));
 
-static void take_lock(void)
+/* Whether the process never had another thread, where libc says so. */
+extern char __libc_single_threaded __attribute__((weak));
+
+static inline void take_lock(void)
 {
+	if (&__libc_single_threaded && __libc_single_threaded)
+		return;
 	while (atomic_flag_test_and_set_explicit(&is_taken, memory_order_acquire))
 		sched_yield();
 }
 
-static void leave_lock(void)
+static inline void leave_lock(void)
 {
 	atomic_flag_clear_explicit(&is_taken, memory_order_release);
 }
@@ -65,18 +70,21 @@ static void give_up(const char *why)
 	mode = OFF;
 }
 
-/* Puts the window where the file ends. Returns whether it is there. */
+/*
+ * Puts the window at the end of the file, a gap after its lines. So a crash leaves those that are not written, and strm-trace finds them. Returns
+ * whether it is there.
+ */
 static int move_window(struct output *out)
 {
+	uint64_t from = out->window ? out->window->from : 0;
+
 	if (out->window)
-		munmap(out->window, WINDOW);
-	out->from += out->used / PAGE * PAGE;
-	out->used %= PAGE;
-	errno = posix_fallocate(out->fd, (off_t)out->from, WINDOW);
-	out->window = errno ? MAP_FAILED : mmap(NULL, WINDOW, PROT_READ | PROT_WRITE, MAP_SHARED, out->fd, (off_t)out->from);
+		munmap(out->window, sizeof *out->window);
+	out->ends = (from / sizeof *out->window + GAP) * sizeof *out->window;
+	errno = posix_fallocate(out->fd, (off_t)out->ends, sizeof *out->window);
+	out->window = errno ? MAP_FAILED : mmap(NULL, sizeof *out->window, PROT_READ | PROT_WRITE, MAP_SHARED, out->fd, (off_t)out->ends);
 	if (out->window != MAP_FAILED) {
-		/* much faster than page by page; older kernels refuse it */
-		madvise(out->window, WINDOW, MADV_POPULATE_WRITE);
+		*out->window = (struct window){ .mark = WINDOW_MARK, .from = from };
 		return 1;
 	}
 	out->window = NULL;
@@ -84,7 +92,10 @@ static int move_window(struct output *out)
 	return 0;
 }
 
-/* Opens what STRM_TRACE_TO names, or standard error: a descriptor, or a new file. Files after the first have a number. Returns whether it is open. */
+/*
+ * Opens what STRM_TRACE_TO names, or standard error: a descriptor, a device, or a new file. Files after the first have a number. Returns whether it
+ * is open.
+ */
 static int open_output(struct output *out, unsigned number)
 {
 	const char *to = getenv("STRM_TRACE_TO");
@@ -93,12 +104,15 @@ static int open_output(struct output *out, unsigned number)
 
 	if (!to || !*to || to[strspn(to, "0123456789")] == 0) {
 		out->fd = to && *to ? atoi(to) : 2;
-		out->window = malloc(2 * MOST_LINE);
+		out->is_late = fstat(out->fd, &is) == 0 && S_ISCHR(is.st_mode) && !isatty(out->fd);
+		out->window = calloc(1, sizeof *out->window);
 		return out->window && number == 1;
 	}
 	snprintf(path, sizeof path - 16, number > 1 ? "%s.%u" : "%s", to, number);
 	out->fd = open(path, O_RDWR | O_CREAT | O_EXCL | O_CLOEXEC, 0666);
-	if (out->fd < 0 && errno == EEXIST && number == 1) {
+	if (out->fd < 0 && errno == EEXIST && stat(path, &is) == 0 && !S_ISREG(is.st_mode)) {
+		out->fd = open(path, O_WRONLY | O_CLOEXEC);
+	} else if (out->fd < 0 && errno == EEXIST && number == 1) {
 		/* another process has it, or another run had */
 		sprintf(path + strlen(path), ".%ld", (long)getpid());
 		out->fd = open(path, O_RDWR | O_CREAT | O_EXCL | O_CLOEXEC, 0666);
@@ -108,17 +122,44 @@ static int open_output(struct output *out, unsigned number)
 		return 0;
 	}
 	out->is_file = S_ISREG(is.st_mode);
+	out->is_late = out->is_file || (S_ISCHR(is.st_mode) && !isatty(out->fd));
 	if (out->is_file)
 		return move_window(out);
-	out->window = malloc(2 * MOST_LINE);
+	out->window = calloc(1, sizeof *out->window);
 	return out->window != NULL;
+}
+
+/* Writes the lines. */
+static void write_lines(struct output *out)
+{
+	struct window *window = out->window;
+	size_t done = 0;
+	ssize_t part;
+
+	while (done < window->used) {
+		part = write(out->fd, window->lines + done, window->used - done);
+		if (part < 0 && errno != EINTR) {
+			give_up("the trace");
+			break;
+		}
+		done += part < 0 ? 0 : (size_t)part;
+	}
+	window->from += window->used;
+	window->used = 0;
+	if (out->is_file && window->from + sizeof *window > out->ends)
+		move_window(out);
 }
 
 static void close_output(struct output *out)
 {
-	if (out->is_file && out->window) {
-		munmap(out->window, WINDOW);
-		if (ftruncate(out->fd, (off_t)(out->from + out->used)) != 0)
+	uint64_t length;
+
+	if (out->window)
+		write_lines(out);
+	if (out->window && out->is_file) {
+		length = out->window->from;
+		munmap(out->window, sizeof *out->window);
+		if (ftruncate(out->fd, (off_t)length) != 0)
 			give_up("the file of the trace");
 		close(out->fd);
 	} else {
@@ -127,26 +168,11 @@ static void close_output(struct output *out)
 	out->window = NULL;
 }
 
-/* A line was added. */
-static void end_line(struct output *out)
+/* A line was added. Files and devices get many at once, anything else, such as a terminal, each one as it comes. */
+static inline void end_line(struct output *out)
 {
-	size_t done = 0;
-	ssize_t part;
-
-	if (out->is_file) {
-		if (out->used > WINDOW - 2 * MOST_LINE)
-			move_window(out);
-		return;
-	}
-	while (done < out->used) {
-		part = write(out->fd, out->window + done, out->used - done);
-		if (part < 0 && errno != EINTR) {
-			give_up("the trace");
-			break;
-		}
-		done += part < 0 ? 0 : (size_t)part;
-	}
-	out->used = 0;
+	if (!out->is_late || out->window->used > sizeof out->window->lines - 2 * MOST_LINE)
+		write_lines(out);
 }
 
 void strm_trace_print(struct output *out, const char *format, ...)
@@ -156,9 +182,9 @@ void strm_trace_print(struct output *out, const char *format, ...)
 	if (!out->window)
 		return;
 	va_start(values, format);
-	out->used += (size_t)vsnprintf(out->window + out->used, MOST_LINE, format, values);
+	out->window->used += (uint64_t)vsnprintf(out->window->lines + out->window->used, MOST_LINE, format, values);
 	va_end(values);
-	if (out->window[out->used - 1] == '\n')
+	if (out->window->lines[out->window->used - 1] == '\n')
 		end_line(out);
 }
 
@@ -167,9 +193,56 @@ void strm_trace_hex(struct output *out, const uint8_t *bytes, size_t length)
 	size_t place;
 
 	for (place = 0; out->window && place < length; place++) {
-		out->window[out->used++] = "0123456789abcdef"[bytes[place] >> 4];
-		out->window[out->used++] = "0123456789abcdef"[bytes[place] & 15];
+		out->window->lines[out->window->used++] = "0123456789abcdef"[bytes[place] >> 4];
+		out->window->lines[out->window->used++] = "0123456789abcdef"[bytes[place] & 15];
 	}
+}
+
+/* ---- numbers and bytes */
+
+/* Of each number below 1,000 three digits, and how many it needs; of each byte how it is shown; and its digits in hexadecimal. */
+static char digits[4 * 1000 + 4], escapes[256][8], hexes[256][2];
+
+static int is_plain(int byte)
+{
+	return byte >= ' ' && byte < 127 && byte != '"' && byte != '\\';
+}
+
+static void fill_tables(void)
+{
+	char text[8];
+	int at;
+
+	for (at = 0; at < 1000; at++) {
+		snprintf(text, sizeof text, "%03d", at);
+		memcpy(digits + 4 * at, text, 3);
+		digits[4 * at + 3] = (char)(1 + (at > 9) + (at > 99));
+	}
+	for (at = 0; at < 256; at++) {
+		snprintf(escapes[at], sizeof escapes[at], is_plain(at) ? "%c" : "\\x%02x", at);
+		snprintf(text, sizeof text, "%02x", at);
+		memcpy(hexes[at], text, 2);
+	}
+}
+
+static __attribute__((noinline)) char *add_great(char *at, uint64_t number);
+
+/* Text may be written after the digits as well, which what follows overwrites. */
+static inline char *add_number(char *at, uint64_t number)
+{
+	const char *of = digits + 4 * number;
+
+	if (number >= 1000)
+		return add_great(at, number);
+	memcpy(at, of + 3 - of[3], 4);
+	return at + of[3];
+}
+
+static char *add_great(char *at, uint64_t number)
+{
+	at = add_number(at, number / 1000);
+	memcpy(at, digits + 4 * (number % 1000), 4);
+	return at + 3;
 }
 
 /* ---- pools */
@@ -187,11 +260,16 @@ struct traced *strm_traced(const struct strm_pool *pool)
 
 	if (pool == NULL || pool->state != STRM_POOL_OPEN)
 		return NULL;
-	if (last == NULL || last->pool.at != pool->at)
-		for (traced = pools; traced != NULL; traced = traced->after)
-			if (traced->pool.at == pool->at)
-				last = traced;
-	return last != NULL && last->pool.at == pool->at ? last : NULL;
+	for (traced = pools; traced != NULL && traced->pool.at != pool->at; traced = traced->after)
+		;
+	last = traced ? traced : last;
+	return traced;
+}
+
+/* The same, at once for the pool that was called last. */
+static inline struct traced *traced_of(const struct strm_pool *pool)
+{
+	return pool && last && pool->at == last->pool.at && pool->state == STRM_POOL_OPEN ? last : strm_traced(pool);
 }
 
 static void begin_trace(void)
@@ -199,9 +277,10 @@ static void begin_trace(void)
 	const char *wanted = getenv("STRM_TRACE");
 
 	mode = wanted && strcmp(wanted, "script") == 0 ? SCRIPT : TEXT;
-	clock_gettime(CLOCK_MONOTONIC_COARSE, &started);
+	fill_tables();
 	if (mode == TEXT && !open_output(&text_out, 1))
 		mode = OFF;
+	clock_gettime(CLOCK_MONOTONIC_COARSE, &started);
 }
 
 /* A pool was opened. */
@@ -277,23 +356,6 @@ __attribute__((destructor)) static void end(void)
 
 /* ---- lines of text */
 
-static char *add_number(char *at, uint64_t number)
-{
-	char digits[20];
-	int count = 0;
-
-	if (number < 10) {
-		*at = (char)('0' + number);
-		return at + 1;
-	}
-	do
-		digits[count++] = (char)('0' + number % 10);
-	while ((number /= 10) != 0);
-	while (count > 0)
-		*at++ = digits[--count];
-	return at;
-}
-
 static char *add_text(char *at, const char *text)
 {
 	while (*text)
@@ -301,34 +363,79 @@ static char *add_text(char *at, const char *text)
 	return at;
 }
 
-/* A name: the number of the first block, how many names with it there were, and the label. */
-static char *add_msg(char *at, const struct traced *traced, struct strm_msg msg)
+/* The last name that a line had, and its text. */
+static struct strm_msg shown;
+static char shown_text[40] = "none";
+static size_t shown_length = 4;
+
+static __attribute__((noinline)) void show_msg(struct strm_msg msg)
 {
-	if (strm_is_no_msg(msg))
-		return add_text(at, "none");
-	at = add_number(at, msg.head);
-	*at++ = '.';
-	at = add_number(at, msg.stamp);
-	if (traced && traced->labels && msg.head < traced->mblks && traced->labels[msg.head][0]) {
-		*at++ = '\'';
-		at = add_text(at, traced->labels[msg.head]);
-		*at++ = '\'';
-	}
+	char *end = add_number(shown_text, msg.head);
+
+	*end++ = '.';
+	end = strm_is_no_msg(msg) ? add_text(shown_text, "none") : add_number(end, msg.stamp);
+	shown_length = (size_t)(end - shown_text);
+	shown = msg;
+}
+
+static __attribute__((noinline)) char *add_label(char *at, const struct traced *traced, struct strm_msg msg)
+{
+	if (strm_is_no_msg(msg) || !traced || !traced->labels || msg.head >= traced->mblks || !traced->labels[msg.head][0])
+		return at;
+	*at++ = '\'';
+	at = add_text(at, traced->labels[msg.head]);
+	*at++ = '\'';
 	return at;
+}
+
+/* A name: the number of the first block, how many names with it there were, and the label. */
+PER_CALL char *add_msg(char *at, const struct traced *traced, struct strm_msg msg)
+{
+	if (msg.stamp != shown.stamp || msg.head != shown.head || msg.pool != shown.pool)
+		show_msg(msg);
+	memcpy(at, shown_text, 32);
+	at += shown_length;
+	return has_labels ? add_label(at, traced, msg) : at;
+}
+
+/* Bytes that are compared at once. */
+typedef unsigned char sixteen __attribute__((vector_size(16)));
+
+static int are_plain(const uint8_t *bytes)
+{
+	sixteen all;
+	uint64_t half[2];
+
+	memcpy(&all, bytes, sizeof all);
+	all = (sixteen)((all >= ' ') & (all < 127) & (all != '"') & (all != '\\'));
+	memcpy(half, &all, sizeof half);
+	return (half[0] & half[1]) + 1 == 0;
 }
 
 static char *add_bytes(char *at, const uint8_t *bytes, size_t length)
 {
-	size_t place;
+	size_t place = 0, most = length < MOST_BYTES ? length : MOST_BYTES;
 
 	*at++ = '"';
-	for (place = 0; place < length && place < MOST_BYTES; place++)
-		if (bytes[place] >= ' ' && bytes[place] < 127 && bytes[place] != '"' && bytes[place] != '\\')
-			*at++ = (char)bytes[place];
-		else
-			at += sprintf(at, "\\x%02x", bytes[place]);
+	for (; place + 16 <= most && are_plain(bytes + place); place += 16, at += 16)
+		memcpy(at, bytes + place, 16);
+	for (; place < most; place++) {
+		memcpy(at, escapes[bytes[place]], 4);
+		at += escapes[bytes[place]][1] ? 4 : 1;
+	}
 	*at++ = '"';
 	return place < length ? add_text(at, "..") : at;
+}
+
+static char *add_address(char *at, const void *address)
+{
+	uint64_t left = (uintptr_t)address;
+	int place, count = left == 0 ? 1 : 16 - __builtin_clzll(left) / 4;
+
+	memcpy(at, "0x", 2);
+	for (at += 2, left <<= 64 - 4 * count, place = 0; place < count; place += 2, left <<= 8)
+		memcpy(at + place, hexes[left >> 56], 2);
+	return at + count;
 }
 
 /* Fields of 32 bits, each after its name if it has one. One field without a name stands alone. */
@@ -356,7 +463,7 @@ static char *add_fields(char *at, const struct form *form, const uint32_t *field
 }
 
 /* An item of those at an address. */
-static char *add_item(char *at, const struct traced *traced, const struct form *form, const void *items, size_t item)
+PER_CALL char *add_item(char *at, const struct traced *traced, const struct form *form, const void *items, size_t item)
 {
 	if (form->kind == OUT_IOV)
 		return add_number(at, ((const struct strm_iov *)items)[item].length);
@@ -365,7 +472,7 @@ static char *add_item(char *at, const struct traced *traced, const struct form *
 	return add_msg(at, traced, ((const struct strm_msg *)items)[item]);
 }
 
-static char *add_items(char *at, const struct traced *traced, const struct form *form, const void *items, size_t count)
+static __attribute__((noinline)) char *add_items(char *at, const struct traced *traced, const struct form *form, const void *items, size_t count)
 {
 	size_t item;
 
@@ -381,17 +488,19 @@ static char *add_items(char *at, const struct traced *traced, const struct form 
 	return at;
 }
 
-static char *add_argument(char *at, const struct traced *traced, const struct form *form, const union value *value)
+static inline char *add_handle(char *at, const struct traced *traced)
 {
-	const struct traced *called;
+	memcpy(at, "pool ", 5);
+	at[5] = '-';
+	return traced ? add_number(at + 5, traced->number) : at + 6;
+}
 
+PER_CALL char *add_argument(char *at, const struct traced *traced, const struct form *form, const union value *value)
+{
 	switch (form->kind) {
 	case CALLED:
 	case SEEN:
-		called = strm_traced(value->at);
-		memcpy(at, "pool ", 5);
-		at += 5;
-		return called ? add_number(at, called->number) : add_text(at, "-");
+		return add_handle(at, traced_of(value->at));
 	case MSG:
 		return add_msg(at, traced, value->msg);
 	case SIGNED:
@@ -408,7 +517,7 @@ static char *add_argument(char *at, const struct traced *traced, const struct fo
 }
 
 /* A result. Where a call counts, `count` is how many items, or bytes, it stored. */
-static char *add_result(char *at, const struct traced *traced, const struct form *form, const void *result, const size_t *count)
+PER_CALL char *add_result(char *at, const struct traced *traced, const struct form *form, const void *result, const size_t *count)
 {
 	switch (form->kind) {
 	case OUT_BYTES:
@@ -416,43 +525,42 @@ static char *add_result(char *at, const struct traced *traced, const struct form
 	case OUT_LENGTH:
 		return add_number(at, *(const size_t *)result);
 	case OUT_ADDRESS:
-		return at + sprintf(at, "%p", *(void *const *)result);
+		return add_address(at, *(void *const *)result);
 	default:
 		return count ? add_items(at, traced, form, result, *count) : add_item(at, traced, form, result, 0);
 	}
 }
 
-static char *add_code(char *at, int code)
+/* A line's beginning, and the thread and the time that it has. */
+static char prefix[48];
+static size_t prefix_length;
+static unsigned prefixed;
+static struct timespec then;
+
+static __attribute__((noinline)) void set_prefix(struct timespec now, unsigned own)
 {
-	if (code == STRM_OK)
-		return memcpy(at, "STRM_OK", 7) + 7;
-	return at + strm_name(code, at, 64);
+	int64_t milliseconds = (now.tv_sec - started.tv_sec) * 1000 + (now.tv_nsec - started.tv_nsec) / 1000000;
+
+	then = now;
+	prefixed = own;
+	prefix_length = (size_t)sprintf(prefix, "%lld.%03lld %u ", (long long)milliseconds / 1000, (long long)milliseconds % 1000, own);
 }
 
-/* The time since the first pool was opened, in ticks of the kernel, and the thread. */
-static char *add_prefix(char *at)
+/* Begins a line: the time since the first pool was opened, in ticks of the kernel, and the thread. */
+PER_CALL char *begin_line(void)
 {
-	static char prefix[48];
-	static int length;
-	static unsigned prefixed;
-	static struct timespec then;
+	char *at = text_out.window->lines + text_out.window->used;
 	struct timespec now;
-	unsigned own = strm_trace_thread();
-	int64_t milliseconds;
 
 	clock_gettime(CLOCK_MONOTONIC_COARSE, &now);
-	if (now.tv_nsec != then.tv_nsec || now.tv_sec != then.tv_sec || own != prefixed || length == 0) {
-		then = now;
-		prefixed = own;
-		milliseconds = (now.tv_sec - started.tv_sec) * 1000 + (now.tv_nsec - started.tv_nsec) / 1000000;
-		length = snprintf(prefix, sizeof prefix, "%lld.%03lld %u ", (long long)milliseconds / 1000, (long long)milliseconds % 1000, own);
-	}
+	if (now.tv_nsec != then.tv_nsec || now.tv_sec != then.tv_sec || thread != prefixed || thread == 0)
+		set_prefix(now, strm_trace_thread());
 	memcpy(at, prefix, sizeof prefix);
-	return at + length;
+	return at + prefix_length;
 }
 
 /* Where a call counts what it stores in an array, if it does. */
-static const size_t *count_of(const struct traced_call *call, const union value *values)
+PER_CALL const size_t *count_of(const struct traced_call *call, const union value *values)
 {
 	uint32_t last = call->count - 1;
 
@@ -460,45 +568,51 @@ static const size_t *count_of(const struct traced_call *call, const union value 
 }
 
 /* The pool of a call's results: that of strm_transfer is its second. */
-static struct traced *pool_of_results(const struct traced_call *call, const union value *values)
+static inline struct traced *pool_of_results(const struct traced_call *call, const union value *values)
 {
-	return strm_traced(values[call->count > 1 && call->forms[1].kind == CALLED].at);
+	return traced_of(values[call->count > 1 && call->forms[1].kind == CALLED].at);
 }
 
-static void tell(const struct traced_call *call, const union value *values, int code)
+PER_CALL void tell(const struct traced_call *call, const union value *values, int code)
 {
-	const struct traced *traced = strm_traced(values[0].at);
+	const struct traced *traced = traced_of(values[0].at);
 	const size_t *stored = count_of(call, values);
-	char *at = add_prefix(text_out.window + text_out.used);
-	const struct form *form;
+	char *at = begin_line();
 	uint32_t place;
 
 	memcpy(at, call->name, sizeof call->name);
-	at += call->length;
-	for (place = 0, form = call->forms; place < call->count; place++, form++)
-		if (form->kind < OUT_BYTES) {
-			if (place > 0)
-				*at++ = ',', *at++ = ' ';
-			at = add_argument(at, traced, form, &values[place]);
+	at = add_handle(at + call->length, traced);
+#pragma GCC unroll 8
+	for (place = 1; place < call->count; place++)
+		if (call->forms[place].kind < OUT_BYTES) {
+			memcpy(at, ", ", 2);
+			at = add_argument(at + 2, traced, &call->forms[place], &values[place]);
 		}
-	memcpy(at, ") = ", 4);
-	at = add_code(at + 4, code);
+	if (code != STRM_OK) {
+		memcpy(at, ") = ", 4);
+		at += 4 + strm_name(code, at + 4, 64);
+		goto done;
+	}
+	memcpy(at, ") = STRM_OK", 11);
+	at += 11;
 	if (call->forms[1].kind == CALLED)
 		traced = pool_of_results(call, values);
-	for (place = 0, form = call->forms; code == STRM_OK && place < call->count; place++, form++)
-		if (form->kind >= OUT_BYTES) {
+#pragma GCC unroll 8
+	for (place = 1; place < call->count; place++)
+		if (call->forms[place].kind >= OUT_BYTES) {
 			*at++ = ' ';
-			at = add_result(at, traced, form, values[place].at, stored);
+			at = add_result(at, traced, &call->forms[place], values[place].at, stored);
 		}
+done:
 	*at++ = '\n';
-	text_out.used = (size_t)(at - text_out.window);
+	text_out.window->used = (uint64_t)(at - text_out.window->lines);
 	end_line(&text_out);
 }
 
 /* ---- calls */
 
 /* A label ends where another message gets its block. */
-static void unlabel(const struct traced_call *call, const union value *values)
+static __attribute__((noinline)) void unlabel(const struct traced_call *call, const union value *values)
 {
 	struct traced *traced = pool_of_results(call, values);
 	const size_t *stored = count_of(call, values);
@@ -512,16 +626,25 @@ static void unlabel(const struct traced_call *call, const union value *values)
 				traced->labels[msgs[item].head][0] = 0;
 }
 
-static void told(const struct traced_call *call, const union value *values, int code)
+PER_CALL void tell_alone(const struct traced_call *call, const union value *values, int code)
 {
-	struct traced *traced;
-
 	take_lock();
 	if (has_labels && call->is_new && code == STRM_OK)
 		unlabel(call, values);
 	if (mode == TEXT)
 		tell(call, values, code);
-	else if (mode == SCRIPT && (traced = strm_traced(values[0].at)) != NULL)
+	leave_lock();
+}
+
+static void record(const struct traced_call *call, const union value *values, int code)
+{
+	struct traced *traced;
+
+	take_lock();
+	traced = traced_of(values[0].at);
+	if (has_labels && call->is_new && code == STRM_OK)
+		unlabel(call, values);
+	if (mode == SCRIPT && traced != NULL)
 		strm_script_call(traced, call, values, code);
 	leave_lock();
 }
@@ -567,6 +690,8 @@ static inline union value of_pointer(const void *at)
 #define EACH(TO, ...) EIGHTH(__VA_ARGS__, EACH_7, EACH_6, EACH_5, EACH_4, EACH_3, EACH_2, EACH_1, 0)(TO, __VA_ARGS__)
 #define FORMS(...) EACH(FORM, __VA_ARGS__)
 #define VALUES(...) EACH(VALUE, __VA_ARGS__)
+#define ONE(x) 1
+#define COUNT(...) (sizeof (char[]){ EACH(ONE, __VA_ARGS__) })
 
 /* Whether a message that a call returns is new, or one of its parts, and no message of a queue or a name that was there. */
 #define IS_NEW(call) (strncmp(#call, "getq", 4) != 0 && strncmp(#call, "rmvq", 4) != 0 && strcmp(#call, "name_at") != 0)
@@ -575,14 +700,13 @@ static inline union value of_pointer(const void *at)
 #define DEFINE(call, parameters, arguments, fits) \
 	int strm_##call parameters \
 	{ \
+		static const struct traced_call own = { "strm_" #call "(", sizeof "strm_" #call, IS_NEW(call), COUNT arguments, { FORMS arguments } }; \
 		int code = strm_untraced_##call arguments; \
 \
-		if (mode > OFF) { \
-			const union value values[] = { VALUES arguments }; \
-			static const struct traced_call own = { "strm_" #call "(", sizeof "strm_" #call, IS_NEW(call), \
-				sizeof values / sizeof values[0], { FORMS arguments } }; \
-			told(&own, values, code); \
-		} \
+		if (mode == TEXT) \
+			tell_alone(&own, (const union value[]){ VALUES arguments }, code); \
+		else if (mode == SCRIPT) \
+			record(&own, (const union value[]){ VALUES arguments }, code); \
 		return code; \
 	}
 #define reader (*pool)
@@ -614,7 +738,7 @@ static void tell_pool(const char *call, const struct traced *traced, const struc
 
 	if (mode != TEXT)
 		return;
-	text_out.used = (size_t)(add_prefix(text_out.window + text_out.used) - text_out.window);
+	text_out.window->used = (uint64_t)(begin_line() - text_out.window->lines);
 	strm_trace_print(&text_out, "%s(pool %.*u", call, traced != NULL, traced ? traced->number : 0);
 	tell_config(config);
 	strm_name(code, name, sizeof name);
@@ -651,7 +775,7 @@ size_t strm_report(const struct strm_pool *pool, char *text, size_t length)
 	take_lock();
 	if (mode == TEXT) {
 		traced = strm_traced(pool);
-		text_out.used = (size_t)(add_prefix(text_out.window + text_out.used) - text_out.window);
+		text_out.window->used = (uint64_t)(begin_line() - text_out.window->lines);
 		strm_trace_print(&text_out, "strm_report(pool %.*u, %lu) = %lu\n", traced != NULL, traced ? traced->number : 0,
 			(unsigned long)length, (unsigned long)needed);
 	}
