@@ -636,6 +636,17 @@ PER_CALL void tell_alone(const struct traced_call *call, const union value *valu
 	leave_lock();
 }
 
+static void seek(const union value *values, size_t head)
+{
+	struct traced *traced;
+
+	take_lock();
+	traced = traced_of(values[0].at);
+	if (traced != NULL)
+		strm_script_seek(traced, (uint32_t)values[head].number);
+	leave_lock();
+}
+
 static void record(const struct traced_call *call, const union value *values, int code)
 {
 	struct traced *traced;
@@ -696,13 +707,19 @@ static inline union value of_pointer(const void *at)
 /* Whether a message that a call returns is new, or one of its parts, and no message of a queue or a name that was there. */
 #define IS_NEW(call) (strncmp(#call, "getq", 4) != 0 && strncmp(#call, "rmvq", 4) != 0 && strcmp(#call, "name_at") != 0)
 
+/* Which argument names a queued message by its first block, in calls that may move it. */
+#define HEAD_AT(call) (strcmp(#call, "insq_at") == 0 ? 2 : strcmp(#call, "rmvq_msg") == 0 ? 1 : 0)
+
 /* Defines the call of a row. */
 #define DEFINE(call, parameters, arguments, fits) \
 	int strm_##call parameters \
 	{ \
 		static const struct traced_call own = { "strm_" #call "(", sizeof "strm_" #call, IS_NEW(call), COUNT arguments, { FORMS arguments } }; \
-		int code = strm_untraced_##call arguments; \
+		int code; \
 \
+		if (HEAD_AT(call) && mode == SCRIPT) \
+			seek((const union value[]){ VALUES arguments }, HEAD_AT(call)); \
+		code = strm_untraced_##call arguments; \
 		if (mode == TEXT) \
 			tell_alone(&own, (const union value[]){ VALUES arguments }, code); \
 		else if (mode == SCRIPT) \

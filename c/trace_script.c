@@ -378,6 +378,44 @@ static void tell_several(struct traced *traced, const struct traced_call *call, 
 		strm_script_call(traced, &single, one, STRM_NONE);
 }
 
+/* Before a call that names a queued message by its first block: where the message is. */
+void strm_script_seek(struct traced *traced, uint32_t head)
+{
+	traced->place = 0;
+	if (strm_untraced_queue_of(&traced->pool, head, &traced->queue) != STRM_OK)
+		traced->queue = STRM_NO_QUEUE;
+	while (strm_untraced_queued_before(&traced->pool, head, &head) == STRM_OK)
+		traced->place++;
+}
+
+/* Such a call, as the one that names the place: one that no queue has, if the message is elsewhere. */
+static void tell_by_place(struct traced *traced, const struct traced_call *call, const union value *values, int code)
+{
+	struct traced_call other = *call;
+	union value named[4];
+	uint32_t size = 0;
+
+	other.count = 4;
+	other.forms[1].kind = other.forms[2].kind = NUMBER;
+	other.forms[3] = call->forms[call->count - 1];
+	named[0] = values[0];
+	named[1].number = traced->queue == STRM_NO_QUEUE ? 0 : traced->queue;
+	named[2].number = traced->queue == STRM_NO_QUEUE ? STRM_NO_HEAD : traced->place;
+	named[3] = values[call->count - 1];
+	if (call->count == 3) {
+		other.length -= (uint32_t)strlen("_msg");
+	} else {
+		other.length -= (uint32_t)strlen("_at");
+		named[1] = values[1];
+		strm_untraced_qsize(&traced->pool, (uint32_t)values[1].number, &size);
+		if (values[2].number == STRM_NO_HEAD)
+			named[2].number = size - (code == STRM_OK);
+		else if (values[1].number != traced->queue)
+			named[2].number = STRM_NO_HEAD;
+	}
+	strm_script_call(traced, &other, named, code);
+}
+
 /* A script reads as many bytes as a line shows. */
 static void tell_read(struct traced *traced, const union value *values, size_t count)
 {
@@ -463,6 +501,8 @@ void strm_script_call(struct traced *traced, const struct traced_call *call, con
 		recipe++;
 	if (length > 2 && strcmp(name + length - 2, "_n") == 0 && code >= STRM_NONE)
 		tell_several(traced, call, values, code);
+	else if ((strcmp(name, "insq_at") == 0 || strcmp(name, "rmvq_msg") == 0) && code >= STRM_NONE)
+		tell_by_place(traced, call, values, code);
 	else if (recipe == end || code < STRM_NONE)
 		tell_wordless(traced, name, call, values, code);
 	else if (code == STRM_OK || (code == STRM_NONE && recipe->effect == FIRST_GONE))
