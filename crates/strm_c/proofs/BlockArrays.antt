@@ -17,7 +17,7 @@ use Rattle.strm_mblk.specs.Block.{Block, Message, bytes_of_block}
 use Rattle.strm_mblk.specs.BlockCalls.{info_of}
 use Rattle.strm_mblk.specs.Given.{answer_map}
 use Rattle.strm_mblk.specs.InPlace.{bytes, infos_from}
-use Rattle.strm_mblk.proofs.lists.ListParts.{filled_more, got_behind, put_rest}
+use Rattle.strm_mblk.proofs.Lists.{filled_more, got_behind, put_rest}
 use Rattle.strm_pool.specs.Lawful.{IsLawful}
 use Rattle.strm_pool.specs.PoolValue.{PoolValue}
 use Rattle.strm_named.specs.declared.fault.Fault.{Fault}

@@ -8,12 +8,12 @@ use Rattle.strm_data.specs.declared.refusal.Refusal.TheVariants.{NoSuchQueue, To
 use Rattle.strm_data.specs.Classes.{fits_a_class}
 use Rattle.strm_data.specs.DataStore.{take_data, times}
 use Rattle.strm_links.proofs.lists.Counting.{times_here}
+use Rattle.strm_mblk.proofs.Lists.{one_most, count_adds}
 use Rattle.strm_mblk.specs.Arena.{Arena, IsParted, held_at, shelf_at, shelved_blocks}
 use Rattle.strm_mblk.specs.Block.{Message, head_of}
 use Rattle.strm_mblk.specs.BlockCalls.{allocb, allocb_from, held_new}
 use Rattle.strm_mblk.specs.Messages.{blocks_of, blocks_on}
-use Rattle.strm_mblk.proofs.arena.Counts.{blocks_in_adds, count_adds, times-all}
-use Rattle.strm_mblk.proofs.arena.Moves.{head_counts, held_among, held_within, number_is, one_most}
+use Rattle.strm_mblk.proofs.arena.Counts.{blocks_in_adds, times-all, head_counts, held_among, held_within, number_is}
 use Rattle.strm_queue.specs.QueueCalls.{get_first, getq, has_queue}
 use Rattle.strm_queue.proofs.shelf.Across.{some_here}
 use Rattle.strm_pool.specs.PoolValue.{PoolValue, on_arena, on_queues, queued_blocks_of}

@@ -1,13 +1,13 @@
 mod Constants
-pub mod lists
+pub mod Lists
 mod chaining
 pub mod arena
 mod layout
-mod altering
+mod Altering
 mod joining
-mod freeing
+mod Freeing
 mod making
-mod trimming
-mod reading
+mod Trimming
+mod Reading
 pub mod pulling
 pub mod shelving

@@ -1,5 +1,4 @@
 -- Messages joined and parted.
-pub mod Regrouped
 pub mod Linkb
 pub mod Unlinkb
 pub mod TakenOut

@@ -8,7 +8,7 @@ use Rattle.strm_mblk.specs.declared.token.TokenValue.{TokenValue}
 use Rattle.strm_mblk.specs.Arena.{Arena, has, held_at, token_of}
 use Rattle.strm_mblk.specs.Block.{Message}
 use Rattle.strm_mblk.specs.Messages.{blocks_of}
-use Rattle.strm_mblk.proofs.arena.Tokens.{had_is, had_message}
+use Rattle.strm_mblk.proofs.arena.Counts.{had_is, had_message}
 use Rattle.strm_pool.proofs.Tokens.{Each, Moves, cleared, heads_of}
 use Rattle.strm_named.specs.Fitting.{Fits, token_at}
 use Rattle.strm_named.specs.PlacesValue.{PlacesValue, with_token, without_token}

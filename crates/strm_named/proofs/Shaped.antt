@@ -10,7 +10,7 @@ use Rattle.strm_mblk.specs.declared.token.TokenValue.{TokenValue}
 use Rattle.strm_mblk.specs.Arena.{Arena, has, held_at, token_of}
 use Rattle.strm_mblk.specs.Calls.{Alters, Flushes, Frees, Gives, Joins, Lends, Parts, Puts, Takes, TakesAny, Unlinks}
 use Rattle.strm_mblk.specs.Given.{Given, answer_of, given_nothing, value_after}
-use Rattle.strm_mblk.proofs.arena.Tokens.{had_message}
+use Rattle.strm_mblk.proofs.arena.Counts.{had_message}
 use Rattle.strm_pool.specs.PoolValue.{PoolValue, arena, on_arena, with_arena}
 use Rattle.strm_pool.proofs.Tokens.{Moves, err_not_ok, has_here, heads_of, moves_beside, moves_gone, moves_joined, moves_new, moves_none, moves_parted, moves_rest, moves_stay, lone, moves_swapped, same_err, same_ok, same_some, some_not_none}
 use Rattle.strm_named.specs.declared.fault.Fault.{Fault}

@@ -12,7 +12,7 @@ use Rattle.strm_mblk.specs.declared.token.TokenValue.{TokenValue}
 use Rattle.strm_mblk.specs.Block.{Message, head_of}
 use Rattle.strm_mblk.specs.Messages.{blocks_of}
 use Rattle.strm_mblk.specs.Arena.{Arena, IsParted, census_of, has, held_at, is_of_length}
-use Rattle.strm_mblk.proofs.arena.Counts.{count_adds, flat_map-set_adds, length_adds}
+use Rattle.strm_mblk.proofs.Lists.{count_adds, flat_map-set_adds, length_adds}
 use Rattle.strm_pool.specs.Limits.{most_registers}
 use Rattle.strm_pool.specs.PoolValue.{PoolValue, owns}
 use Rattle.strm_pool.specs.Registers.{Entries, entry_of, entries_of, is_entry_of, times_listed, AreAccounted, AreDistinct, CarryId, AreOfHeld, table_of, register}

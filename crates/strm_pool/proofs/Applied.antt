@@ -8,7 +8,7 @@ use Rattle.strm_links.specs.Rows as rows
 use Rattle.strm_mblk.specs.declared.token.TokenValue.{TokenValue}
 use Rattle.strm_mblk.specs.Arena.{Arena, has, token_of}
 use Rattle.strm_mblk.specs.Frame.{LeavesOthers}
-use Rattle.strm_mblk.proofs.arena.Tokens.{had_is}
+use Rattle.strm_mblk.proofs.arena.Counts.{had_is}
 use Rattle.strm_pool.specs.declared.call.Call.{Call}
 use Rattle.strm_pool.specs.declared.reply.Reply.{Reply}
 use Rattle.strm_pool.specs.declared.reply.Reply.TheVariants.{Empty, Taken, Refused}

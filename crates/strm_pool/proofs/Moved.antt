@@ -11,7 +11,7 @@ use Rattle.strm_links.specs.Rows as rows
 use Rattle.strm_mblk.specs.declared.token.TokenValue.{TokenValue}
 use Rattle.strm_mblk.specs.Arena.{Arena, has, held_at, is_of_length}
 use Rattle.strm_mblk.specs.Block.{Message}
-use Rattle.strm_mblk.proofs.arena.Tokens.{had_again, had_message}
+use Rattle.strm_mblk.proofs.arena.Counts.{had_again, had_message}
 use Rattle.strm_pool.specs.PoolValue.{PoolValue}
 use Rattle.strm_pool.specs.Registers.{AreDistinct, entries_of, entry_of, register, table_of, is_entry_of}
 use Rattle.strm_pool.proofs.Accounts.{Balanced, stands, table-at}

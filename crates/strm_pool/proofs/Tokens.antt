@@ -9,7 +9,7 @@ use Rattle.strm_mblk.specs.Arena.{Arena, has, held_at}
 use Rattle.strm_mblk.specs.Calls.{Parts}
 use Rattle.strm_mblk.specs.Frame.{LeavesOthers}
 use Rattle.strm_mblk.specs.Given.{Given}
-use Rattle.strm_mblk.proofs.arena.Tokens.{had_message}
+use Rattle.strm_mblk.proofs.arena.Counts.{had_message}
 use Rattle.strm_pool.specs.PoolValue.{PoolValue, arena}
 
 -- ---- answers

@@ -10,7 +10,7 @@ use Rattle.strm_mblk.specs.Block.{Message}
 use Rattle.strm_mblk.specs.declared.token.TokenValue.{TokenValue}
 use Rattle.strm_mblk.specs.Arena.{has, held_at, is_of_length}
 use Rattle.strm_mblk.specs.Freeing.{with_token_spent}
-use Rattle.strm_mblk.proofs.arena.Counts.{count_adds}
+use Rattle.strm_mblk.proofs.Lists.{count_adds}
 use Rattle.strm_mblk.proofs.arena.Frame.{leaves_spent, spent_gone}
 use Rattle.strm_pool.specs.declared.call.Call.{Call}
 use Rattle.strm_pool.specs.declared.reply.Reply.{Reply}

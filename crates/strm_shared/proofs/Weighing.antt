@@ -9,7 +9,7 @@ use Rattle.strm_links.proofs.lists.Counting.{one_if}
 use Rattle.strm_mblk.specs.Block.{Message}
 use Rattle.strm_mblk.specs.Messages.{blocks_of, held_in}
 use Rattle.strm_mblk.specs.Arena.{Arena, census_of, is_of_length}
-use Rattle.strm_mblk.proofs.arena.Counts.{flat_map-set_adds, length_adds, sum_adds}
+use Rattle.strm_mblk.proofs.Lists.{flat_map-set_adds, length_adds, sum_adds}
 use Rattle.strm_pool.specs.Registers.{AreAccounted, Entries, is_entry_of}
 use Rattle.strm_shared.specs.Ledger.{blocks_listed, entry_blocks}
 

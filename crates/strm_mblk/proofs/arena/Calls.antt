@@ -12,8 +12,7 @@ use Rattle.strm_mblk.specs.Calls.{Alters, Flushes, Gives, LeavesBlocks, Lends, P
 use Rattle.strm_mblk.specs.Given.{Given, answer_of, value_after}
 use Rattle.strm_mblk.specs.Messages.{blocks_of}
 use Rattle.strm_mblk.proofs.arena.Frame.{Leaves, Making, leaves_given, leaves_fields, leaves_same, leaves_with_block, leaves_with_store}
-use Rattle.strm_mblk.proofs.arena.Moves.{held_within}
-use Rattle.strm_mblk.proofs.arena.Tokens.{had_again, had_is, had_message, token_had}
+use Rattle.strm_mblk.proofs.arena.Counts.{held_within, had_again, had_is, had_message, token_had}
 use Rattle.std.proofs.lemmas.Grind.{common_steps}
 
 -- a call that answers a refusal was refused

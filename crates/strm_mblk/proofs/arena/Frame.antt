@@ -24,9 +24,8 @@ use Rattle.strm_mblk.specs.Freeing.{freemsg, with_token_spent, with_block_freed,
 use Rattle.strm_mblk.specs.Given.{Given, value_after, and_then, answer_map, answer_of, or_rejected}
 use Rattle.strm_mblk.specs.Messages.{blocks_of, chain_divided, held_in, chains_joined}
 use Rattle.strm_mblk.specs.Trimming.{adjmsg, bytes_asked, blocks_left_over, pull, pull_asked, with_front_pulled, store_with_front, pullupmsg, run_of, blocks_used_up}
-use Rattle.strm_mblk.proofs.lists.Additive.{count_adds}
-use Rattle.strm_mblk.proofs.arena.Counts.{blocks_in_adds}
-use Rattle.strm_mblk.proofs.arena.Moves.{held_among, out_of_held}
+use Rattle.strm_mblk.proofs.Lists.{count_adds}
+use Rattle.strm_mblk.proofs.arena.Counts.{blocks_in_adds, held_among, out_of_held}
 use Rattle.std.proofs.lemmas.Grind.{common_steps}
 
 -- ---- either way

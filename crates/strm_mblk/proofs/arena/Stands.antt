@@ -12,10 +12,8 @@ use Rattle.strm_links.proofs.lists.Counting.{times-cons, times_here, times_other
 use Rattle.strm_mblk.specs.Arena.{Arena, IsParted, shelf_at}
 use Rattle.strm_mblk.specs.Block.{Message, head_of}
 use Rattle.strm_mblk.specs.Shelves.{heads_at, shelf_of, is_on}
-use Rattle.strm_mblk.proofs.lists.Additive.{count_adds}
-use Rattle.strm_mblk.proofs.arena.Counts.{blocks_in_adds, times-all}
-use Rattle.strm_mblk.proofs.lists.Numbers.{one_most}
-use Rattle.strm_mblk.proofs.arena.Moves.{head_counts, number_is}
+use Rattle.strm_mblk.proofs.Lists.{count_adds, one_most}
+use Rattle.strm_mblk.proofs.arena.Counts.{blocks_in_adds, times-all, head_counts, number_is}
 use Rattle.std.proofs.lemmas.Grind.{common_steps}
 
 module _ (a : Arena) (s h : ℕ) (there : is_on a s h ≡ true) where

@@ -1,18 +1,59 @@
--- `linkb`: a held message goes after another.
-use Rattle.std.proofs.Common.{◌≡◌, ◌≢◌, ℕ, Bool, List, map, length, None, sym, ap, ◌∙◌, if◌then◌else◌, length-set, arith}
-use Rattle.std.specs.Prelude.{option_map, slice_set}
+-- Blocks of held messages regrouped, and `linkb`.
+use Rattle.std.proofs.Common.{◌≡◌, ℕ, List, length, sym, ap, ◌∙◌, arith, if◌then◌else◌, ◌≢◌, Bool, map, None, length-set}
+use Rattle.std.specs.Prelude.{count_by, nat_lt, option_map, slice_set}
 use Rattle.std.proofs.lemmas.Bool.{ne_eqb}
 use Rattle.std.proofs.lemmas.List.{map-append, map-set}
 use Rattle.strm_data.specs.CountedStore.{CountedStore}
+use Rattle.strm_data.specs.DataStore.{times}
+use Rattle.strm_links.proofs.lists.Counting.{times-append}
 use Rattle.strm_mblk.specs.declared.blocks.Fields.{Fields}
-use Rattle.strm_mblk.specs.Arena.{Arena, shelved_blocks}
-use Rattle.strm_mblk.specs.BlockCalls.{linkb}
-use Rattle.strm_mblk.specs.BlocksLayout.{IsFilled, arena_of, message_of}
-use Rattle.strm_mblk.specs.Messages.{chains_joined}
+use Rattle.strm_mblk.specs.Arena.{references_to, Arena, shelved_blocks}
+use Rattle.strm_mblk.specs.Block.{uses_data}
+use Rattle.strm_mblk.specs.BlocksLayout.{IsFilled, arena_of, block_at, message_of}
 use Rattle.strm_mblk.specs.NodeLists.{IsNodesParted, NodeLists}
-use Rattle.strm_mblk.proofs.joining.Regrouped.{moved_filled}
-use Rattle.strm_mblk.proofs.layout.Shown.{message_at-seen}
+use Rattle.strm_mblk.specs.BlockCalls.{linkb}
+use Rattle.strm_mblk.specs.Messages.{chains_joined}
+use Rattle.strm_mblk.proofs.Lists.{count_by-map, count_same}
+use Rattle.strm_mblk.proofs.layout.Shown.{blocks_in-seen, nodes_in, message_at-seen}
 use Rattle.std.proofs.lemmas.Grind.{common_steps}
+
+-- ==== blocks of held messages are put into other held messages: what a contract sees, and what stays
+
+-- ---- only held messages change
+
+module _ (id : ℕ) (s : CountedStore) (fields : List Fields) (v w : NodeLists) (filled : IsFilled s fields v (arena_of id s.store fields v))
+    (free : w.free ≡ v.free) (many : length w.held ≡ length v.held) (parted : IsNodesParted w) where
+  -- the messages have the same numbers
+  same_nodes : (n : ℕ) → times n (nodes_in w) ≡ times n (nodes_in v)
+  same_nodes n =
+      omega (
+        arith,
+        filled.parted.once n,
+        parted.once n,
+        ap {B = ℕ} (λ l. if nat_lt n l then 1 else 0) many,
+        times-append n v.free (nodes_in v),
+        times-append n w.free (nodes_in w),
+        ap (times n) free,
+      )
+
+  same_names : (d : ℕ) → references_to (arena_of id s.store fields w) d ≡ references_to (arena_of id s.store fields v) d
+  same_names d =
+      ap (count_by (uses_data d)) (blocks_in-seen id s.store fields w) ∙ count_by-map (uses_data d) (block_at fields) (nodes_in w)
+      ∙ count_same (λ n. uses_data d (block_at fields n)) (nodes_in w) (nodes_in v) same_nodes
+      ∙ sym (count_by-map (uses_data d) (block_at fields) (nodes_in v)) ∙ ap (count_by (uses_data d)) (sym (blocks_in-seen id s.store fields v))
+
+  -- so nothing else does
+  pub moved_filled : IsFilled s fields w (arena_of id s.store fields w)
+  moved_filled = record {
+    kept = filled.kept;
+    parted = parted;
+    few = omega (arith, filled.few, many);
+    listed = filled.listed ∙ sym many;
+    placed = filled.placed;
+    counts = λ d. filled.counts d ∙ sym (same_names d);
+  }
+
+-- ==== `linkb`: a held message goes after another
 
 -- a is what was there; the other lists are what is there once the message at g is after the one at h
 pub record IsJoined (a : Arena) (s : CountedStore) (fields : List Fields) (w : NodeLists) (id h g : ℕ) : Type 0 where

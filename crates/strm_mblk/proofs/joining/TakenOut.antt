@@ -15,10 +15,10 @@ use Rattle.strm_mblk.specs.BlocksLayout.{IsFilled, arena_of, block_at, message_o
 use Rattle.strm_mblk.specs.Given.{Given, answer_map, answer_of, or_rejected}
 use Rattle.strm_mblk.specs.Messages.{blocks_of, held_in}
 use Rattle.strm_mblk.specs.NodeLists.{IsNodesParted, NodeLists, nodes_at}
-use Rattle.strm_mblk.proofs.lists.Numbers.{first_rest}
+use Rattle.strm_mblk.proofs.Lists.{first_rest}
 use Rattle.strm_mblk.proofs.layout.Places.{token_held}
-use Rattle.strm_mblk.proofs.chaining.Standing.{begins_with, block_room, held_room, not_begun, not_head}
-use Rattle.strm_mblk.proofs.joining.Regrouped.{moved_filled}
+use Rattle.strm_mblk.proofs.chaining.Seen.{begins_with, block_room, held_room, not_begun, not_head}
+use Rattle.strm_mblk.proofs.joining.Linkb.{moved_filled}
 use Rattle.strm_mblk.proofs.layout.Shown.{held_at-seen, message_at-seen}
 use Rattle.std.proofs.lemmas.Grind.{common_steps}
 

@@ -13,8 +13,8 @@ use Rattle.strm_mblk.specs.BlockCalls.{head_in, unlinkb}
 use Rattle.strm_mblk.specs.BlocksLayout.{IsFilled, arena_of, block_at, message_of}
 use Rattle.strm_mblk.specs.Messages.{blocks_of, chain_divided, held_in}
 use Rattle.strm_mblk.specs.NodeLists.{IsNodesParted, NodeLists, nodes_at}
-use Rattle.strm_mblk.proofs.chaining.Standing.{begins_with, block_room, held_room, not_begun, not_head}
-use Rattle.strm_mblk.proofs.joining.Regrouped.{moved_filled}
+use Rattle.strm_mblk.proofs.chaining.Seen.{begins_with, block_room, held_room, not_begun, not_head}
+use Rattle.strm_mblk.proofs.joining.Linkb.{moved_filled}
 use Rattle.strm_mblk.proofs.layout.Shown.{held_at-seen, message_at-seen}
 use Rattle.std.proofs.lemmas.Grind.{common_steps}
 

@@ -1,24 +1,144 @@
--- The blocks of a held message by their place, as the code finds them.
-use Rattle.std.proofs.Common.{◌≡◌, ℕ, ◌<◌, true, List, length, Option, Some, None, refl, sym, ap, ◌∙◌, arith}
-use Rattle.std.specs.Prelude.{option_map, slice_get, take, unwrap_or}
+-- Blocks of a held message: where they are in memory, and one rewritten.
+use Rattle.std.proofs.Common.{get_or, ◌≡◌, ℕ, zero, suc, ◌+◌, ◌<◌, ◌≤◌, List, [], ◌∷◌, map, length, set, Option, Some, None, refl, sym, ap, ◌∙◌, arith, get_or-set_same, get_or-set_other, length-set, true}
+use Rattle.std.specs.Prelude.{count_by, option_map, slice_get, take, unwrap_or}
+use Rattle.std.proofs.lemmas.Option.{same_Some, none-some, slice_get-get_or, slice_get-map, unwrap_or-slice_get}
 use Rattle.std.specs.Option.{IsSome, is_some}
 use Rattle.std.proofs.lemmas.List.{get_or_past, length-map}
-use Rattle.std.proofs.lemmas.Option.{none-some, same_Some, slice_get-get_or, slice_get-map, unwrap_or-slice_get}
-use Rattle.strm_data.specs.CountedStore.{CountedStore, count_of}
-use Rattle.strm_mblk.specs.declared.blocks.Fields.{Fields}
-use Rattle.strm_mblk.specs.declared.token.TokenValue.{TokenValue}
-use Rattle.strm_mblk.specs.Arena.{Arena, has, held_at, message_at, references_to, token_of}
-use Rattle.strm_mblk.specs.Block.{Block, Message}
-use Rattle.strm_mblk.specs.BlocksLayout.{IsFilled, IsPlaced, arena_of, block_at, fields_at, message_of, data_used_by}
-use Rattle.strm_mblk.specs.Messages.{blocks_of, held_in}
-use Rattle.strm_mblk.specs.NodeLists.{IsReached, NodeLists, nodes_at}
-use Rattle.strm_mblk.proofs.layout.Rewriting.{held_nodes, node_room}
-use Rattle.strm_mblk.proofs.layout.Shown.{message_at-seen}
-use Rattle.strm_mblk.proofs.arena.Tokens.{had_message, held_is, token_had}
-use Rattle.strm_mblk.proofs.chaining.Standing.{begins_with}
-use Rattle.strm_mblk.proofs.lists.Numbers.{at_first}
 use Rattle.std.proofs.Math.Seq.{take-length}
+use Rattle.strm_links.specs.Rows.{first}
+use Rattle.strm_data.specs.CountedStore.{CountedStore, IsKept, count_of}
+use Rattle.strm_data.specs.DataStore.{DataStore, times}
+use Rattle.strm_links.proofs.lists.Counting.{times_here, times_other}
+use Rattle.strm_mblk.specs.declared.blocks.Fields.{Fields}
+use Rattle.strm_mblk.specs.Arena.{held_at, Arena, has, message_at, references_to, token_of}
+use Rattle.strm_mblk.specs.Block.{Message, uses_data, Block}
+use Rattle.strm_mblk.specs.BlocksLayout.{IsFilled, IsPlaced, arena_of, block_at, fields_at, message_of, data_used_by, no_fields}
+use Rattle.strm_mblk.specs.Messages.{blocks_held, blocks_on, held_in, blocks_of}
+use Rattle.strm_mblk.specs.NodeLists.{NodeLists, IsReached, nodes_at}
+use Rattle.strm_mblk.specs.declared.token.TokenValue.{TokenValue}
+use Rattle.strm_mblk.proofs.layout.Shown.{AreAlike, alike_each, alike_off, alike_parts, blocks_in-seen, held-alike, held_at-seen, message-alike, nodes_in, option-alike, shelves-alike, message_at-seen}
+use Rattle.strm_mblk.proofs.Freeing.{naming-named}
+use Rattle.strm_mblk.proofs.Lists.{in_range, times_at, at_first}
+use Rattle.strm_mblk.proofs.layout.Rooms.{HasRooms, placed-set}
+use Rattle.strm_mblk.proofs.chaining.Seen.{all_parts, begins_with, held_parts, one_of_all}
+use Rattle.strm_mblk.proofs.arena.Counts.{had_message, held_is, token_had}
 use Rattle.std.proofs.lemmas.Grind.{common_steps}
+
+-- ==== blocks of a held message say something else
+
+-- the blocks of one held message alone say something else
+held-one : (old new : List Fields) (held : List (Option (List ℕ))) (h : ℕ) (ns : List ℕ) → held_in held h ≡ Some ns → AreAlike old new (blocks_held (set held h None))
+    → map (option_map (message_of new)) held ≡ set (map (option_map (message_of old)) held) h (Some (message_of new ns))
+held-one old new [] h ns is alike = absurd (none-some ns is)
+held-one old new (o ∷ held) zero ns is alike =
+    λ i. (ap (option_map (message_of new)) is) i ∷ held-alike old new held alike i
+held-one old new (o ∷ held) (suc h) ns is alike = grind (arith, common_steps, (held-one old new held h ns is), alike_parts, option-alike)
+
+-- one block of a message says something else
+message-one : (fields : List Fields) (n : ℕ) (x : Fields) (ns : List ℕ) (k : ℕ) → slice_get ns k ≡ Some n → times n ns ≤ 1
+    → message_of (set fields n x) ns ≡ set (message_of fields ns) k (block_at (set fields n x) n)
+message-one fields n x [] k is once = absurd (none-some n is)
+message-one fields n x (y ∷ ns) zero is once =
+    let same : y ≡ n = same_Some y n is in
+    λ i. block_at (set fields n x) (same i) ∷ message-alike fields (set fields n x) ns (alike_off fields n x ns (omega (arith, once, times_here n y ns same))) i
+message-one fields n x (y ∷ ns) (suc k) is once = grind (arith, common_steps, (message-one fields n x ns k is), times_here, times_at, get_or-set_other, times_other)
+
+-- ---- all blocks of a message
+
+-- of all message blocks only those of a list say something else, and each uses the data block that it used
+pub record AreRewritten (old new : List Fields) (ns : List ℕ) : Type 0 where
+  pub many : length new ≡ length old
+  pub named : (n : ℕ) → (fields_at new n).data_number ≡ (fields_at old n).data_number
+  pub apart : (n : ℕ) → times n ns ≡ 0 → fields_at new n ≡ fields_at old n
+
+-- a list that has none of these is as it was
+pub alike_apart : (old new : List Fields) (ns : List ℕ) → ((n : ℕ) → times n ns ≡ 0 → fields_at new n ≡ fields_at old n) → (ms : List ℕ) → ((n : ℕ) → times n ms + times n ns ≤ 1) → AreAlike old new ms
+alike_apart old new ns apart ms once = alike_each old new ms (λ n some. apart n (omega (arith, some, once n)))
+
+-- blocks that name what they named
+pub named-same : (old new : List Fields) → ((n : ℕ) → (fields_at new n).data_number ≡ (fields_at old n).data_number) → (ns : List ℕ) → data_used_by new ns ≡ data_used_by old ns
+named-same old new same [] = refl
+named-same old new same (n ∷ ns) = λ i. same n i ∷ named-same old new same ns i
+
+module _ (id : ℕ) (s : CountedStore) (fields : List Fields) (v : NodeLists) (filled : IsFilled s fields v (arena_of id s.store fields v)) (h : ℕ) (ns : List ℕ) (held : held_in v.held h ≡ Some ns) where
+  begins : first ns ≡ Some h
+  begins = begins_with v filled.parted h ns held
+
+  -- no number is in the message twice
+  pub once_within : (n : ℕ) → times n ns ≤ 1
+  once_within n = omega (arith, one_of_all v filled.parted n, held_parts v h n ns held)
+
+  -- a number in the message is that of a block
+  pub within_room : (n : ℕ) → 0 < times n ns → n < length fields
+  within_room n some = omega (arith, filled.listed, in_range n (length v.held) (omega (arith, all_parts v filled.parted n, held_parts v h n ns held, some)))
+
+  -- what a contract sees once they alone say something else, whatever becomes of the data blocks
+  pub message_shows : (store : DataStore) (now : List Fields) → ((n : ℕ) → times n ns ≡ 0 → fields_at now n ≡ fields_at fields n)
+      → arena_of id store now v ≡ record (arena_of id s.store fields v) { store = store; held = set (arena_of id s.store fields v).held h (Some (message_of now ns)) }
+  message_shows store now apart =
+      let held_now = held-one fields now v.held h ns held (alike_apart fields now ns apart (blocks_held (set v.held h None)) (λ n. omega (arith, one_of_all v filled.parted n, held_parts v h n ns held))) in
+      let shelves_now = shelves-alike fields now v.shelves (alike_apart fields now ns apart (blocks_on v.shelves) (λ n. omega (arith, one_of_all v filled.parted n, held_parts v h n ns held))) in
+      λ i. record { id = id; store = store; free = v.free; held = held_now i; shelves = shelves_now i; least = v.least }
+
+  module _ (t : CountedStore) (now : List Fields) (change : AreRewritten fields now ns) where
+    pub message_filled : IsKept t → t.counts ≡ s.counts → ((n : ℕ) → n < length now → IsPlaced t.store (fields_at now n)) → IsFilled t now v (arena_of id t.store now v)
+    message_filled kept counts placed = record {
+      kept = kept;
+      parted = filled.parted;
+      few = filled.few;
+      listed = change.many ∙ filled.listed;
+      placed = placed;
+      counts = λ d.
+          ap (λ cs. get_or cs d 0) counts ∙ filled.counts d ∙ ap (count_by (uses_data d)) (blocks_in-seen id s.store fields v) ∙ naming-named fields d (nodes_in v)
+          ∙ sym (ap (count_by (uses_data d)) (blocks_in-seen id t.store now v) ∙ naming-named now d (nodes_in v) ∙ ap (times d) (named-same fields now change.named (nodes_in v)));
+    }
+
+-- ---- one of them
+
+module _ (id : ℕ) (s : CountedStore) (fields : List Fields) (v : NodeLists) (filled : IsFilled s fields v (arena_of id s.store fields v))
+    (h k n : ℕ) (ns : List ℕ) (held : held_in v.held h ≡ Some ns) (at : slice_get ns k ≡ Some n) where
+  -- the block itself is one of those that there are
+  pub node_room : n < length fields
+  node_room = within_room id s fields v filled h ns held n (times_at n ns k at)
+
+  apart_one : (x : Fields) (m : ℕ) → times m ns ≡ 0 → fields_at (set fields n x) m ≡ fields_at fields m
+  apart_one x m none = get_or-set_other fields n m x no_fields (λ same. absurd (omega (arith, none, times_at n ns k at, ap (λ j. times j ns) same)))
+
+  pub written_shows : (store : DataStore) (x : Fields)
+      → arena_of id store (set fields n x) v ≡ record (arena_of id s.store fields v) { store = store; held = set (arena_of id s.store fields v).held h (Some (set (message_of fields ns) k (block_at (set fields n x) n))) }
+  written_shows store x =
+      message_shows id s fields v filled h ns held store (set fields n x) (apart_one x)
+      ∙ ap (λ m. record (arena_of id s.store fields v) { store = store; held = set (arena_of id s.store fields v).held h (Some m) })
+      (message-one fields n x ns k at (once_within id s fields v filled h ns held n))
+
+  module _ (t : CountedStore) (x : Fields) (kept : IsKept t) (counts : t.counts ≡ s.counts) (rooms : HasRooms s.store t.store) (placed : IsPlaced t.store x) (named : x.data_number ≡ (fields_at fields n).data_number) where
+    abbrev now : List Fields
+    now = set fields n x
+
+    change : AreRewritten fields now ns
+    change = grind (arith, common_steps, length-set, get_or-set_same, node_room, get_or-set_other, apart_one)
+
+    pub rewrite_shows : arena_of id t.store now v ≡ record (arena_of id s.store fields v) { store = t.store; held = set (arena_of id s.store fields v).held h (Some (set (message_of fields ns) k (block_at now n))) }
+    rewrite_shows = written_shows t.store x
+
+    pub rewrite_filled : IsFilled t now v (arena_of id t.store now v)
+    rewrite_filled = message_filled id s fields v filled h ns held t now change kept counts (placed-set s.store t.store fields n x rooms placed filled.placed)
+
+-- ---- the message that a token names
+
+-- the numbers of a message that is held
+pub record AreHeld (fields : List Fields) (v : NodeLists) (h : ℕ) (m : Message) (ns : List ℕ) : Type 0 where
+  pub held : held_in v.held h ≡ Some ns
+  pub message : m ≡ message_of fields ns
+
+pub held_nodes : (id : ℕ) (s : DataStore) (fields : List Fields) (v : NodeLists) (h : ℕ) (m : Message) → held_at (arena_of id s fields v) h ≡ Some m → (ns : List ℕ) × AreHeld fields v h m ns
+held_nodes id s fields v h m is = of_nodes (held_in v.held h) refl
+  where
+    of_nodes : (o : Option (List ℕ)) → held_in v.held h ≡ o → (ns : List ℕ) × AreHeld fields v h m ns
+    of_nodes None none = absurd (none-some m (sym (held_at-seen id s fields v h ∙ ap (option_map (message_of fields)) none) ∙ is))
+    of_nodes (Some ns) some = grind (arith, common_steps, same_Some, held_at-seen)
+
+-- ==== the blocks of a held message by their place, as the code finds them
 
 -- the numbers of the message that a token names
 pub token_nodes : (id : ℕ) (s : CountedStore) (fields : List Fields) (v : NodeLists) (t : TokenValue) → has (arena_of id s.store fields v) t ≡ true

@@ -12,9 +12,8 @@ use Rattle.strm_mblk.specs.Messages.{blocks_on, shelf_in}
 use Rattle.strm_mblk.specs.NodeLists.{NodeLists}
 use Rattle.strm_mblk.specs.Shelves.{shelf_of, shelved_message}
 use Rattle.strm_data.specs.Limits.{most_data_block_bytes}
-use Rattle.strm_mblk.proofs.layout.Lawful.{all_there, len_most, size_most}
+use Rattle.strm_mblk.proofs.layout.Shown.{all_there, len_most, size_most, shelved-seen}
 use Rattle.strm_mblk.proofs.shelving.Shelving.{IsHead, is_head}
-use Rattle.strm_mblk.proofs.layout.Shown.{shelved-seen}
 use Rattle.strm_mblk.specs.Limits.{most_message_blocks}
 
 -- a message of a shelf is among all of it

@@ -8,7 +8,7 @@ use Rattle.std.specs.List.{All, flat_map}
 use Rattle.std.proofs.lemmas.Bool.{cases_eq, cond-true, cond-false, eq-eqb, ne_eqb, false≢true}
 use Rattle.std.proofs.lemmas.List.{length-map, map-append, map-set}
 use Rattle.strm_links.specs.Rows.{has}
-use Rattle.strm_mblk.proofs.chaining.Readings.{position_same}
+use Rattle.strm_mblk.proofs.chaining.Parted.{position_same}
 use Rattle.strm_links.proofs.lists.OneList.{has_cases, has_head, has_tail}
 use Rattle.strm_data.specs.CountedStore.{CountedStore}
 use Rattle.strm_data.specs.DataStore.{DataStore}
@@ -19,12 +19,10 @@ use Rattle.strm_mblk.specs.BlocksLayout.{IsFilled, IsPlaced, arena_of, block_at,
 use Rattle.strm_mblk.specs.Messages.{blocks_of, put_before_head, shelf_in, with_head, without_head}
 use Rattle.strm_mblk.specs.NodeLists.{IsNodesParted, NodeLists, head_node, heads_on, nodes_at, shelf_with, shelved_nodes}
 use Rattle.strm_mblk.specs.Shelves.{head_block, heads_at, shelf_of, shelve, shelved_message, unshelve}
-use Rattle.strm_mblk.proofs.lists.Additive.{IsAdditive, count_adds, flat_map-set_adds, length_adds}
-use Rattle.strm_mblk.proofs.arena.Counts.{blocks_in_adds}
-use Rattle.strm_mblk.proofs.joining.Regrouped.{moved_filled}
-use Rattle.strm_mblk.proofs.layout.Lawful.{all_there, counted, law_parted}
-use Rattle.strm_mblk.proofs.arena.Moves.{head_counts, held_within, not_held, number_is, once, within}
-use Rattle.strm_mblk.proofs.layout.Shown.{message_at-seen, shelf_at-seen}
+use Rattle.strm_mblk.proofs.Lists.{IsAdditive, count_adds, flat_map-set_adds, length_adds}
+use Rattle.strm_mblk.proofs.arena.Counts.{blocks_in_adds, head_counts, held_within, not_held, number_is, once, within}
+use Rattle.strm_mblk.proofs.joining.Linkb.{moved_filled}
+use Rattle.strm_mblk.proofs.layout.Shown.{all_there, counted, law_parted, message_at-seen, shelf_at-seen}
 use Rattle.strm_mblk.specs.Limits.{most_message_blocks}
 use Rattle.std.proofs.lemmas.Grind.{common_steps}
 

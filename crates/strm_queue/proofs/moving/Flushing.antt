@@ -18,7 +18,8 @@ use Rattle.strm_mblk.specs.Frame.{IsSameData, LeavesOthers}
 use Rattle.strm_mblk.specs.Calls.{Takes, itself}
 use Rattle.strm_mblk.specs.Freeing.{with_token_spent, with_block_freed, with_blocks_freed}
 use Rattle.strm_mblk.specs.Shelves.{head_block, heads_at, is_on, unshelve}
-use Rattle.strm_mblk.proofs.arena.Counts.{count_adds, shelf_moves}
+use Rattle.strm_mblk.proofs.Lists.{count_adds}
+use Rattle.strm_mblk.proofs.arena.Counts.{shelf_moves}
 use Rattle.strm_queue.specs.declared.flush.Flush.{Flush}
 use Rattle.strm_queue.specs.declared.flush.Flush.TheVariants.{All as Every, Data}
 use Rattle.strm_queue.specs.Ends.{first_of_rank, of_rank}

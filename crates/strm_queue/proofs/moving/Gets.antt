@@ -13,7 +13,7 @@ use Rattle.strm_mblk.specs.Arena.{Arena, IsParted, shelf_at, with_held, with_she
 use Rattle.strm_mblk.specs.Block.{Message, head_of}
 use Rattle.strm_mblk.specs.Given.{Given, and_then, value_after}
 use Rattle.strm_mblk.specs.Shelves.{heads_at, shelf_of, unshelve}
-use Rattle.strm_mblk.proofs.lists.ListParts.{drop_from}
+use Rattle.strm_mblk.proofs.Lists.{drop_from}
 use Rattle.strm_mblk.proofs.arena.Stands.{heads_apart}
 use Rattle.strm_queue.specs.Flow.{with_read}
 use Rattle.strm_queue.specs.HeadCalls.{place_of, rmvq_head}

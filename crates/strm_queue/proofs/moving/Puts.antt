@@ -22,8 +22,8 @@ use Rattle.strm_queue.specs.Rank.{as_queued, is_ordered, put_ahead, put_at, put_
 use Rattle.strm_queue.proofs.shelf.OnShelf.{first_at, heads, place_missing, place_there, placed-between}
 use Rattle.std.specs.List.{All, flat_map}
 use Rattle.strm_mblk.specs.BlockCalls.{with_band, setband}
-use Rattle.strm_mblk.proofs.arena.Counts.{flat_map-set_adds, length_adds}
-use Rattle.strm_mblk.proofs.arena.Moves.{held_within}
+use Rattle.strm_mblk.proofs.Lists.{flat_map-set_adds, length_adds}
+use Rattle.strm_mblk.proofs.arena.Counts.{held_within}
 use Rattle.strm_queue.specs.Limits.{high_rank}
 use Rattle.strm_queue.proofs.order.Ranks.{low_queued}
 

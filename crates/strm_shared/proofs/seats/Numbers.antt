@@ -10,7 +10,7 @@ use lib.ListN.{get_elem?}
 use Rattle.atomic_table.proofs.Lists.{set_else}
 use Rattle.strm_links.specs.Counting.{times}
 use Rattle.strm_links.proofs.lists.Counting.{times-append, times-cons, times_here, times_other}
-use Rattle.strm_mblk.proofs.arena.Counts.{count_adds, flat_map-set_adds}
+use Rattle.strm_mblk.proofs.Lists.{count_adds, flat_map-set_adds}
 use Rattle.strm_shared.specs.declared.views.Known.{Known}
 use Rattle.strm_shared.specs.declared.views.View.{View}
 use Rattle.strm_shared.specs.declared.views.View.TheVariants.{Spent}

@@ -3,7 +3,7 @@ use Rattle.std.specs.Prelude.{option_map}
 use Rattle.std.proofs.lemmas.Option.{slice_get-get_or, slice_get-map}
 use Rattle.strm_data.specs.declared.msg_type.MsgType.TheVariants.{MData}
 use Rattle.strm_mblk.specs.declared.block_info.BlockInfo.{BlockInfo}
-use Rattle.strm_mblk.proofs.lists.ListParts.{filled_more}
+use Rattle.strm_mblk.proofs.Lists.{filled_more}
 use Rattle.strm_c.specs.InC.{block_in_c}
 use Rattle.strm_c.proofs.arrays.store.Goals as goal
 

@@ -3,11 +3,10 @@ use Rattle.std.specs.Prelude.{is_some}
 use Rattle.strm_data.specs.CountedStore.{after_take}
 use Rattle.strm_mblk.specs.Arena.{Arena}
 use Rattle.strm_mblk.specs.BlocksLayout.{arena_of}
-use Rattle.strm_mblk.proofs.making.Allocb.{IsAllocated, allocates, taken_fits}
-use Rattle.strm_mblk.proofs.making.BegunAll.{begin_room}
+use Rattle.strm_mblk.proofs.making.Begun.{IsAllocated, allocates, taken_fits, begin_room}
 use Rattle.strm_mblk.proofs.arena.Frame.{leaves_allocb}
 use Rattle.strm_mblk.proofs.arena.Calls.{gives}
-use Rattle.strm_mblk.proofs.layout.Lawful.{parted_inside, still_whole}
+use Rattle.strm_mblk.proofs.layout.Shown.{parted_inside, still_whole}
 use Rattle.strm_mblk.proofs.blocks.Blocks.allocb.Goals.{After-self-1}
 use Rattle.strm_mblk.proofs.blocks.Blocks.allocb.Goals as goal
 use Rattle.std.proofs.lemmas.Grind.{common_steps}

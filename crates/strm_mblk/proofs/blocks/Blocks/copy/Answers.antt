@@ -13,13 +13,13 @@ use Rattle.strm_mblk.specs.BlockCalls.{blocks_copied, fits_classes, message_copi
 use Rattle.strm_mblk.specs.BlocksLayout.{arena_in, arena_of, message_of}
 use Rattle.strm_mblk.specs.Copying.{AreCopied}
 use Rattle.strm_mblk.specs.NodeLists.{nodes_at}
-use Rattle.strm_mblk.proofs.making.BegunBeside.{IsBeside, beside}
+use Rattle.strm_mblk.proofs.making.Duplicated.{IsBeside, beside}
 use Rattle.strm_mblk.proofs.making.CopiesCounted.{block_there, fits_each}
-use Rattle.strm_mblk.proofs.making.CopiedMessage.{IsCopied, copied_all}
-use Rattle.strm_mblk.proofs.arena.Heads.{of_blocks, taken_many}
+use Rattle.strm_mblk.proofs.making.Copied.{IsCopied, copied_all}
+use Rattle.strm_mblk.proofs.arena.Counts.{of_blocks, taken_many}
 use Rattle.strm_mblk.proofs.arena.Frame.{leaves_copied}
 use Rattle.strm_mblk.proofs.arena.Calls.{gives, gives_none}
-use Rattle.strm_mblk.proofs.layout.Lawful.{parted_inside, still_whole}
+use Rattle.strm_mblk.proofs.layout.Shown.{parted_inside, still_whole}
 use Rattle.strm_mblk.proofs.blocks.Blocks.copy.Goals.{After-begin_all-head, After-copy_blocks, After-free_len}
 use Rattle.strm_mblk.proofs.blocks.Blocks.copy.Goals as goal
 use Rattle.std.proofs.lemmas.Grind.{common_steps}

@@ -11,8 +11,8 @@ use Rattle.strm_mblk.specs.BlocksLayout.{IsPlaced, block_at, block_of, fields_at
 use Rattle.strm_mblk.specs.Copying.{with_copy}
 use Rattle.strm_mblk.specs.NodeLists.{nodes_at}
 use Rattle.strm_mblk.proofs.layout.Places.{IsAt, block_reached, nodes_room, reached_head}
-use Rattle.strm_mblk.proofs.lists.ListParts.{drop_from}
-use Rattle.strm_mblk.proofs.making.CopiedBlocks.{IsCopying, next_copied, next_fits, none_copied}
+use Rattle.strm_mblk.proofs.Lists.{drop_from}
+use Rattle.strm_mblk.proofs.making.Copied.{IsCopying, next_copied, next_fits, none_copied}
 use Rattle.strm_mblk.proofs.blocks.Blocks.copy_into.Goals.{After-index, In-loop-block}
 use Rattle.strm_mblk.proofs.blocks.Blocks.copy_into.Goals as goal
 use Rattle.std.proofs.lemmas.Grind.{common_steps}

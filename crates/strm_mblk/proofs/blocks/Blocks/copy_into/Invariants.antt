@@ -2,7 +2,7 @@ use Rattle.std.specs.Prelude.{Some}
 use Rattle.strm_data.specs.CountedStore.{IsKept}
 use Rattle.strm_mblk.specs.Arena.{message_at}
 use Rattle.strm_mblk.specs.NodeLists.{IsReached, nodes_at}
-use Rattle.strm_mblk.proofs.making.CopiedBlocks.{IsCopying}
+use Rattle.strm_mblk.proofs.making.Copied.{IsCopying}
 use Rattle.strm_mblk.proofs.blocks.Blocks.copy_into.Given as goal
 
 -- both blocks at this step, and what the copies before it made

@@ -7,16 +7,14 @@ use Rattle.strm_mblk.specs.Arena.{message_at}
 use Rattle.strm_mblk.specs.BlocksLayout.{fields_at, data_used_by}
 use Rattle.strm_mblk.specs.NodeLists.{nodes_at}
 use Rattle.strm_mblk.specs.Pulling.{with_bytes_drained}
-use Rattle.strm_mblk.proofs.freeing.Freemsg.{IsFreed, enough}
-use Rattle.strm_mblk.proofs.layout.Places.{IsHeldHead, seen_head}
-use Rattle.strm_mblk.proofs.layout.Rewriting.{node_room}
-use Rattle.strm_mblk.proofs.chaining.Standing.{begins_with}
-use Rattle.strm_mblk.proofs.lists.Numbers.{nonempty}
-use Rattle.strm_mblk.proofs.pulling.BytesTaken.{AreTaken}
+use Rattle.strm_mblk.proofs.Freeing.{IsFreed, enough}
+use Rattle.strm_mblk.proofs.layout.Places.{IsHeldHead, seen_head, node_room}
+use Rattle.strm_mblk.proofs.chaining.Seen.{begins_with}
+use Rattle.strm_mblk.proofs.Lists.{nonempty}
+use Rattle.strm_mblk.proofs.pulling.Taken.{AreTaken, used_few}
 use Rattle.strm_mblk.proofs.pulling.Drained.{drains}
-use Rattle.strm_mblk.proofs.pulling.Taken.{used_few}
-use Rattle.strm_mblk.proofs.trimming.Adjmsg.{ends_small}
-use Rattle.strm_mblk.proofs.layout.Lawful.{still_whole}
+use Rattle.strm_mblk.proofs.Trimming.{ends_small}
+use Rattle.strm_mblk.proofs.layout.Shown.{still_whole}
 use Rattle.strm_mblk.proofs.blocks.Blocks.drain.Goals.{After-deref_mut, After-free_behind, After-take_bytes-used}
 use Rattle.strm_mblk.proofs.blocks.Blocks.drain.Goals as goal
 use Rattle.std.proofs.lemmas.Grind.{common_steps}

@@ -11,12 +11,11 @@ use Rattle.strm_mblk.specs.Arena.{Arena, has, message_at}
 use Rattle.strm_mblk.specs.BlockCalls.{message_duplicated}
 use Rattle.strm_mblk.specs.BlocksLayout.{arena_in, arena_of, exceeds_counts, fields_at, data_used_by, with_fields, with_references_given}
 use Rattle.strm_mblk.specs.NodeLists.{nodes_at}
-use Rattle.strm_mblk.proofs.making.BegunBeside.{IsBeside, beside}
-use Rattle.strm_mblk.proofs.making.Duplicated.{IsDuplicated, duplicates, refused, used}
-use Rattle.strm_mblk.proofs.arena.Heads.{of_blocks, taken_many}
+use Rattle.strm_mblk.proofs.making.Duplicated.{IsBeside, beside, IsDuplicated, duplicates, refused, used}
+use Rattle.strm_mblk.proofs.arena.Counts.{of_blocks, taken_many}
 use Rattle.strm_mblk.proofs.arena.Frame.{leaves_duplicated}
 use Rattle.strm_mblk.proofs.arena.Calls.{gives, gives_none}
-use Rattle.strm_mblk.proofs.layout.Lawful.{parted_inside, still_whole}
+use Rattle.strm_mblk.proofs.layout.Shown.{parted_inside, still_whole}
 use Rattle.strm_mblk.proofs.blocks.Blocks.duplicate.Goals.{After-copy_fields, After-deref, After-deref_mut, After-free_len, Then-not-give_references}
 use Rattle.strm_mblk.proofs.blocks.Blocks.duplicate.Goals as goal
 use Rattle.std.proofs.lemmas.Grind.{common_steps}

@@ -4,8 +4,7 @@ use Rattle.strm_mblk.specs.Arena.{has, message_at, token_of}
 use Rattle.std.specs.Prelude.{option_map}
 use Rattle.strm_mblk.specs.BlockCalls.{freeb, unlinkb}
 use Rattle.strm_mblk.specs.Freeing.{with_token_spent}
-use Rattle.strm_mblk.proofs.arena.Heads.{IsOneFreed, frees_one}
-use Rattle.strm_mblk.proofs.arena.Tokens.{had_message}
+use Rattle.strm_mblk.proofs.arena.Counts.{IsOneFreed, frees_one, had_message}
 use Rattle.strm_mblk.proofs.arena.Frame.{Leaves, leaves_freeb}
 use Rattle.strm_mblk.proofs.blocks.Blocks.freeb.Goals.{After-freemsg}
 use Rattle.strm_mblk.specs.Frame.{head_given}

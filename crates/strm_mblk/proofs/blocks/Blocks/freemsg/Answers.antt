@@ -8,11 +8,11 @@ use Rattle.strm_mblk.specs.BlocksLayout.{arena_of, data_used_by, with_references
 use Rattle.strm_mblk.specs.Freeing.{freemsg, with_token_spent}
 use Rattle.strm_mblk.specs.Messages.{held_in}
 use Rattle.strm_mblk.specs.NodeLists.{nodes_at}
-use Rattle.strm_mblk.proofs.arena.Tokens.{spent_had}
+use Rattle.strm_mblk.proofs.arena.Counts.{spent_had}
 use Rattle.strm_mblk.proofs.layout.Places.{token_held, token_named}
-use Rattle.strm_mblk.proofs.freeing.Freemsg.{IsFreed, enough, frees}
+use Rattle.strm_mblk.proofs.Freeing.{IsFreed, enough, frees}
 use Rattle.strm_mblk.proofs.arena.Frame.{Leaves, leaves_spent, spent_gone}
-use Rattle.strm_mblk.proofs.layout.Lawful.{still_whole}
+use Rattle.strm_mblk.proofs.layout.Shown.{still_whole}
 use Rattle.strm_mblk.proofs.blocks.Blocks.freemsg.Goals.{After-free, After-spend-token}
 use Rattle.strm_mblk.proofs.blocks.Blocks.freemsg.Goals as goal
 use Rattle.std.proofs.lemmas.Grind.{common_steps}

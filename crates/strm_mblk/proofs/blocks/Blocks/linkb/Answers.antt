@@ -6,7 +6,7 @@ use Rattle.strm_mblk.specs.Messages.{chains_joined}
 use Rattle.strm_mblk.specs.NodeLists.{NodeLists}
 use Rattle.strm_mblk.proofs.joining.Linkb.{IsJoined, joins}
 use Rattle.strm_mblk.proofs.arena.Frame.{Leaves, leaves_linkb, linkb_gone}
-use Rattle.strm_mblk.proofs.layout.Lawful.{still_whole}
+use Rattle.strm_mblk.proofs.layout.Shown.{still_whole}
 use Rattle.strm_mblk.proofs.blocks.Blocks.linkb.Goals.{After-set_blocks}
 use Rattle.strm_mblk.proofs.blocks.Blocks.linkb.Goals as goal
 

@@ -2,7 +2,7 @@ use Rattle.std.proofs.Common.{◌≡◌, ap, ◌∙◌, replicate}
 use Rattle.strm_mblk.specs.declared.blocks.Fields.{Fields}
 use Rattle.strm_mblk.specs.BlocksLayout.{no_fields}
 use Rattle.strm_mblk.specs.NodeLists.{opening_nodes}
-use Rattle.strm_mblk.proofs.layout.Opened.{opening_filled, opening_queued, opening_shows}
+use Rattle.strm_mblk.proofs.layout.Rooms.{opening_filled, opening_queued, opening_shows}
 use Rattle.strm_mblk.proofs.blocks.Blocks.new.Goals.{In_ok-new-2}
 use Rattle.strm_mblk.proofs.blocks.Blocks.new.Goals as goal
 

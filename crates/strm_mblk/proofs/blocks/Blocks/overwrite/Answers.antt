@@ -6,11 +6,11 @@ use Rattle.strm_mblk.specs.Block.{size_of}
 use Rattle.strm_mblk.specs.BlocksLayout.{arena_of, message_of}
 use Rattle.strm_mblk.specs.InPlace.{overwrite, store_overwritten, touches_shared}
 use Rattle.strm_mblk.specs.Messages.{blocks_of}
-use Rattle.strm_mblk.proofs.altering.Overwriting.{leaves_overwritten}
+use Rattle.strm_mblk.proofs.Altering.{leaves_overwritten}
 use Rattle.strm_mblk.proofs.arena.Calls.{alters_to}
 use Rattle.strm_mblk.proofs.arena.Frame.{Leaves}
 use Rattle.strm_mblk.specs.NodeLists.{nodes_at}
-use Rattle.strm_mblk.proofs.arena.Tokens.{had_message}
+use Rattle.strm_mblk.proofs.arena.Counts.{had_message}
 use Rattle.strm_mblk.proofs.layout.Rooms.{filled-over}
 use Rattle.strm_mblk.proofs.layout.Shown.{message_at-seen}
 use Rattle.strm_mblk.proofs.blocks.Blocks.overwrite.Goals as goal

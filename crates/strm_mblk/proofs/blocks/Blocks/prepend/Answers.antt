@@ -6,7 +6,7 @@ use Rattle.strm_mblk.specs.BlockCalls.{own_block, with_block}
 use Rattle.strm_mblk.specs.BlocksLayout.{block_of_found}
 use Rattle.strm_mblk.specs.Given.{and_then}
 use Rattle.strm_mblk.specs.InPlace.{prepend, prepend_block}
-use Rattle.strm_mblk.proofs.altering.Own.{found_written, suits_written}
+use Rattle.strm_mblk.proofs.Altering.{found_written, suits_written}
 use Rattle.strm_mblk.proofs.arena.Calls.{alters_block}
 use Rattle.strm_mblk.proofs.arena.Frame.{other_data}
 use Rattle.strm_mblk.proofs.blocks.Blocks.prepend.Goals.{After-write_data}

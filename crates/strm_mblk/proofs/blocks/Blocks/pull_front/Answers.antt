@@ -10,14 +10,13 @@ use Rattle.strm_mblk.specs.BlocksLayout.{arena_in, block_at, fields_at, message_
 use Rattle.strm_mblk.specs.NodeLists.{nodes_at}
 use Rattle.strm_mblk.specs.Pulling.{pull_front, front_pulled, with_front_copied}
 use Rattle.strm_mblk.specs.Trimming.{store_with_front}
-use Rattle.strm_mblk.proofs.reading.Bytes.{length-message}
-use Rattle.strm_mblk.proofs.freeing.Freemsg.{enough}
+use Rattle.strm_mblk.proofs.Reading.{length-message}
+use Rattle.strm_mblk.proofs.Freeing.{enough}
 use Rattle.strm_mblk.proofs.pulling.FrontPulled.{IsFrontPulled, pulls_front, pulled_is, still_there, still_used}
 use Rattle.strm_mblk.proofs.layout.Places.{IsHeldHead, seen_head}
-use Rattle.strm_mblk.proofs.layout.Shown.{message_at-seen}
-use Rattle.strm_mblk.proofs.arena.Tokens.{had_message}
-use Rattle.strm_mblk.proofs.layout.Unaltered.{bytes-message, bytes-typed}
-use Rattle.strm_mblk.proofs.layout.Lawful.{still_whole}
+use Rattle.strm_mblk.proofs.layout.Shown.{message_at-seen, still_whole}
+use Rattle.strm_mblk.proofs.arena.Counts.{had_message}
+use Rattle.strm_mblk.proofs.layout.Rooms.{bytes-message, bytes-typed}
 use Rattle.strm_mblk.proofs.blocks.Blocks.pull_front.Goals.{After-copy_front, After-drop_name, After-index-fields, After-set_kind}
 use Rattle.strm_mblk.proofs.blocks.Blocks.pull_front.Goals as goal
 use Rattle.std.proofs.lemmas.Grind.{common_steps}

@@ -12,15 +12,13 @@ use Rattle.strm_mblk.specs.Messages.{held_in}
 use Rattle.strm_mblk.specs.NodeLists.{nodes_at}
 use Rattle.strm_mblk.specs.Pulling.{with_bytes_drained, pull_front}
 use Rattle.strm_mblk.specs.Trimming.{bytes_asked, pullupmsg, run_of}
-use Rattle.strm_mblk.proofs.pulling.Pulled.{IsPulled, pull_front_answer, front_pulled_held, pull_had, pulls, run_most}
+use Rattle.strm_mblk.proofs.pulling.Drained.{IsPulled, pull_front_answer, front_pulled_held, pull_had, pulls, run_most}
 use Rattle.strm_mblk.proofs.pulling.FrontPulled.{head_held}
-use Rattle.strm_mblk.proofs.layout.Rewriting.{held_nodes}
-use Rattle.strm_mblk.proofs.layout.Places.{IsHeldHead, seen_head}
-use Rattle.strm_mblk.proofs.layout.Shown.{message_at-seen}
-use Rattle.strm_mblk.proofs.arena.Tokens.{had_message, token_had}
+use Rattle.strm_mblk.proofs.layout.Places.{held_nodes, IsHeldHead, seen_head}
+use Rattle.strm_mblk.proofs.layout.Shown.{message_at-seen, parted_inside}
+use Rattle.strm_mblk.proofs.arena.Counts.{had_message, token_had}
 use Rattle.strm_mblk.proofs.joining.Unlinkb.{token_is}
 use Rattle.strm_mblk.proofs.arena.Frame.{leaves_pullupmsg}
-use Rattle.strm_mblk.proofs.layout.Lawful.{parted_inside}
 use Rattle.strm_mblk.proofs.arena.Calls.{alters, alters_kept, alters_none, refused_is}
 use Rattle.strm_mblk.proofs.blocks.Blocks.pullupmsg.Goals.{After-from_residual, After-index, After-set_blocks}
 use Rattle.strm_mblk.proofs.blocks.Blocks.pullupmsg.Goals as goal

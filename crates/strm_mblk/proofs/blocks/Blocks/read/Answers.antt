@@ -1,4 +1,4 @@
-use Rattle.strm_mblk.proofs.reading.Bytes.{length-message}
+use Rattle.strm_mblk.proofs.Reading.{length-message}
 use Rattle.strm_mblk.proofs.blocks.Blocks.read.Goals as goal
 
 pub returns-clause-sized : goal.returns-clause-sized

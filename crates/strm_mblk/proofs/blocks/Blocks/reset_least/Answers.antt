@@ -2,7 +2,7 @@ use Rattle.std.proofs.Common.{length, sym, ap, ◌∙◌}
 use Rattle.strm_mblk.specs.Arena.{shelved_blocks, with_least_reset}
 use Rattle.strm_mblk.specs.BlocksLayout.{arena_of}
 use Rattle.strm_mblk.specs.NodeLists.{NodeLists}
-use Rattle.strm_mblk.proofs.layout.Least.{reset_filled}
+use Rattle.strm_mblk.proofs.layout.Rooms.{reset_filled}
 use Rattle.strm_mblk.proofs.blocks.Blocks.reset_least.Goals as goal
 
 pub invariant_of-self : goal.invariant_of-self

@@ -3,7 +3,7 @@ use Rattle.strm_mblk.specs.declared.blocks.Fields.{Fields}
 use Rattle.strm_mblk.specs.Block.{size_of}
 use Rattle.strm_mblk.specs.BlocksLayout.{message_of}
 use Rattle.strm_mblk.specs.NodeLists.{nodes_at}
-use Rattle.strm_mblk.proofs.reading.Summing.{nodes_small}
+use Rattle.strm_mblk.proofs.Reading.{nodes_small}
 use Rattle.strm_mblk.proofs.blocks.Blocks.run_size.Goals as goal
 
 pub run_in-requires-clause-small : goal.run_in-requires-clause-small

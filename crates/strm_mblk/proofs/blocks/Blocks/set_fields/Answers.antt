@@ -1,8 +1,8 @@
 use Rattle.std.proofs.Common.{ap, refl, arith}
 use Rattle.strm_data.specs.DataStore.{capacity_of}
 use Rattle.strm_mblk.specs.Arena.{Arena, shelved_blocks}
-use Rattle.strm_mblk.proofs.altering.Placing.{data_there, fields_filled, fields_show, number_there}
-use Rattle.strm_mblk.proofs.layout.Lawful.{still_whole}
+use Rattle.strm_mblk.proofs.Altering.{data_there, fields_filled, fields_show, number_there}
+use Rattle.strm_mblk.proofs.layout.Shown.{still_whole}
 use Rattle.strm_mblk.proofs.blocks.Blocks.set_fields.Goals as goal
 
 pub index_mut-requires : goal.index_mut-requires

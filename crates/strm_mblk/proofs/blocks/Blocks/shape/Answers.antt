@@ -4,7 +4,7 @@ use Rattle.strm_data.specs.DataStore.{capacity_of}
 use Rattle.strm_mblk.specs.BlocksLayout.{block_of_found}
 use Rattle.strm_mblk.specs.Given.{and_then}
 use Rattle.strm_mblk.specs.InPlace.{shape, shape_block}
-use Rattle.strm_mblk.proofs.altering.Own.{found_at, suits_found}
+use Rattle.strm_mblk.proofs.Altering.{found_at, suits_found}
 use Rattle.strm_mblk.proofs.arena.Calls.{alters_fields}
 use Rattle.strm_mblk.proofs.blocks.Blocks.shape.Goals as goal
 

@@ -5,11 +5,11 @@ use Rattle.strm_mblk.specs.declared.blocks.Fields.{Fields}
 use Rattle.strm_mblk.specs.BlocksLayout.{IsSummable}
 use Rattle.strm_mblk.specs.Messages.{held_in}
 use Rattle.strm_mblk.specs.NodeLists.{nodes_at}
-use Rattle.strm_mblk.proofs.chaining.Standing.{begins_with}
+use Rattle.strm_mblk.proofs.chaining.Seen.{begins_with}
 use Rattle.strm_mblk.proofs.layout.Places.{token_held}
 use Rattle.strm_mblk.proofs.layout.Shown.{message_at-seen}
-use Rattle.strm_mblk.proofs.lists.Numbers.{at_first}
-use Rattle.strm_mblk.proofs.reading.Summing.{nodes_small, summable}
+use Rattle.strm_mblk.proofs.Lists.{at_first}
+use Rattle.strm_mblk.proofs.Reading.{nodes_small, summable}
 use Rattle.strm_mblk.proofs.blocks.Blocks.sum_of_held.Goals as goal
 use Rattle.strm_mblk.proofs.blocks.Blocks.sum_of_held.Goals.{After-head}
 use Rattle.std.proofs.lemmas.Grind.{common_steps}

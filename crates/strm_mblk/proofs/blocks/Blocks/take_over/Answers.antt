@@ -12,13 +12,12 @@ use Rattle.strm_mblk.specs.BlocksLayout.{arena_of}
 use Rattle.strm_mblk.specs.Copying.{AreCopied}
 use Rattle.strm_mblk.specs.Messages.{blocks_of}
 use Rattle.strm_mblk.specs.NodeLists.{nodes_at}
-use Rattle.strm_mblk.proofs.making.BegunBeside.{IsInto, into_is}
-use Rattle.strm_mblk.proofs.making.CopiedMessage.{IsMade, is_made}
-use Rattle.strm_mblk.proofs.arena.Heads.{some_blocks}
+use Rattle.strm_mblk.proofs.making.Duplicated.{IsInto, into_is}
+use Rattle.strm_mblk.proofs.making.Copied.{IsMade, is_made}
+use Rattle.strm_mblk.proofs.arena.Counts.{some_blocks, had_message}
 use Rattle.strm_mblk.proofs.arena.Frame.{leaves_transfer}
 use Rattle.strm_mblk.proofs.arena.Calls.{gives}
-use Rattle.strm_mblk.proofs.arena.Tokens.{had_message}
-use Rattle.strm_mblk.proofs.layout.Lawful.{parted_inside, still_whole}
+use Rattle.strm_mblk.proofs.layout.Shown.{parted_inside, still_whole}
 use Rattle.strm_mblk.proofs.blocks.Blocks.take_over.Goals.{After-begin_all-head, After-copy_into}
 use Rattle.strm_mblk.proofs.blocks.Blocks.take_over.Goals as goal
 

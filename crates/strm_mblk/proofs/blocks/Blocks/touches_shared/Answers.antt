@@ -8,9 +8,9 @@ use Rattle.strm_mblk.specs.Arena.{message_at, references_to}
 use Rattle.strm_mblk.specs.BlocksLayout.{block_at, fields_at, no_fields}
 use Rattle.strm_mblk.specs.InPlace.{bytes_within, touches_shared}
 use Rattle.strm_mblk.specs.NodeLists.{nodes_at}
-use Rattle.strm_mblk.proofs.altering.Overwriting.{and_false, touches_next}
+use Rattle.strm_mblk.proofs.Altering.{and_false, touches_next}
 use Rattle.strm_mblk.proofs.layout.Places.{IsAt, block_reached, reached_head}
-use Rattle.strm_mblk.proofs.reading.Bytes.{past_last}
+use Rattle.strm_mblk.proofs.Reading.{past_last}
 use Rattle.strm_mblk.proofs.blocks.Blocks.touches_shared.Goals.{else-here-gt0-via-then-here-gt0+else-count-gt1, else-here-gt0-via-else-here-gt0, In-loop-block, After-min-here}
 use Rattle.strm_mblk.proofs.blocks.Blocks.touches_shared.Goals as goal
 

@@ -8,10 +8,10 @@ use Rattle.strm_mblk.specs.BlocksLayout.{arena_of}
 use Rattle.strm_mblk.specs.Messages.{chain_divided}
 use Rattle.strm_mblk.specs.NodeLists.{NodeLists, nodes_at}
 use Rattle.strm_mblk.proofs.layout.Places.{token_held}
-use Rattle.strm_mblk.proofs.arena.Tokens.{had_message, token_had}
+use Rattle.strm_mblk.proofs.arena.Counts.{had_message, token_had}
 use Rattle.strm_mblk.proofs.joining.Unlinkb.{IsDivided, divides, token_is}
 use Rattle.strm_mblk.proofs.arena.Frame.{Leaves, leaves_unlinkb}
-use Rattle.strm_mblk.proofs.layout.Lawful.{still_whole}
+use Rattle.strm_mblk.proofs.layout.Shown.{still_whole}
 use Rattle.strm_mblk.proofs.blocks.Blocks.unlinkb.Goals.{After-set_blocks, After-token}
 use Rattle.strm_mblk.specs.Frame.{head_given}
 use Rattle.strm_mblk.proofs.blocks.Blocks.unlinkb.Goals as goal

@@ -8,7 +8,7 @@ use Rattle.strm_mblk.specs.BlocksLayout.{IsPlaced, block_of, fields_at, no_field
 use Rattle.strm_mblk.specs.InPlace.{infos_from}
 use Rattle.strm_mblk.specs.NodeLists.{IsReached, nodes_at}
 use Rattle.strm_mblk.proofs.layout.Places.{IsAt, block_reached, starts_at}
-use Rattle.strm_mblk.proofs.lists.ListParts.{filled_more, got_behind}
+use Rattle.strm_mblk.proofs.Lists.{filled_more, got_behind}
 use Rattle.strm_mblk.proofs.blocks.Blocks.walk.Goals.{In-loop-done, After-index}
 use Rattle.strm_mblk.proofs.blocks.Blocks.walk.Goals as goal
 

@@ -5,7 +5,7 @@ use Rattle.strm_mblk.specs.Block.{Block}
 use Rattle.strm_mblk.specs.BlockCalls.{own_block, with_block, write_block}
 use Rattle.strm_mblk.specs.BlocksLayout.{block_of_found}
 use Rattle.strm_mblk.specs.Given.{and_then}
-use Rattle.strm_mblk.proofs.altering.Own.{found_written, suits_written}
+use Rattle.strm_mblk.proofs.Altering.{found_written, suits_written}
 use Rattle.strm_mblk.proofs.arena.Calls.{alters_block}
 use Rattle.strm_mblk.proofs.arena.Frame.{other_data}
 use Rattle.strm_mblk.proofs.blocks.Blocks.write.Goals.{After-write_data}

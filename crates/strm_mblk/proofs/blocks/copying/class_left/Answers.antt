@@ -1,5 +1,5 @@
 use Rattle.std.proofs.Common.{sym, ◌∙◌, arith}
-use Rattle.strm_mblk.proofs.making.ClassesLeft.{IsTold, told, untold}
+use Rattle.strm_mblk.proofs.making.CopiesCounted.{IsTold, told, untold}
 use Rattle.strm_mblk.proofs.blocks.copying.class_left.Goals.{In-Some, else-info-size-via-else-info-size, else-info-size-via-then-info-size+else-left-from-gt0}
 use Rattle.strm_mblk.proofs.blocks.copying.class_left.Goals as goal
 use Rattle.std.proofs.lemmas.Grind.{common_steps}

@@ -13,7 +13,7 @@ use Rattle.strm_mblk.specs.declared.blocks.Fields.{Fields}
 use Rattle.strm_mblk.specs.BlocksLayout.{IsPlaced, block_at, fields_at, message_of}
 use Rattle.strm_mblk.specs.Copying.{IsLeft, lent_store}
 use Rattle.strm_mblk.specs.NodeLists.{IsNodesParted, NodeLists, nodes_at}
-use Rattle.strm_mblk.proofs.lists.Numbers.{slice_get-take}
+use Rattle.strm_mblk.proofs.Lists.{slice_get-take}
 use Rattle.strm_mblk.proofs.making.CopiesCounted.{IsAhead, block_there, IsInside, enough_left, next_ahead, next_block, none_ahead}
 use Rattle.strm_mblk.proofs.blocks.copying.copies_fit.Goals.{After-class_left}
 use Rattle.strm_mblk.proofs.blocks.copying.copies_fit.Goals as goal

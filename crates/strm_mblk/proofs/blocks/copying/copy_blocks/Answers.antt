@@ -9,9 +9,9 @@ use Rattle.strm_mblk.specs.BlocksLayout.{IsPlaced, block_at, block_of, fields_at
 use Rattle.strm_mblk.specs.Copying.{with_copy}
 use Rattle.strm_mblk.specs.NodeLists.{nodes_at}
 use Rattle.strm_mblk.proofs.making.CopiesCounted.{next_block}
-use Rattle.strm_mblk.proofs.making.CopiedBlocks.{IsCopying, next_copied, next_fits, none_copied, source_stays}
+use Rattle.strm_mblk.proofs.making.Copied.{IsCopying, next_copied, next_fits, none_copied, source_stays}
 use Rattle.strm_mblk.proofs.layout.Places.{nodes_room}
-use Rattle.strm_mblk.proofs.lists.Numbers.{times_at}
+use Rattle.strm_mblk.proofs.Lists.{times_at}
 use Rattle.strm_mblk.proofs.layout.Rooms.{placed-over}
 use Rattle.strm_mblk.proofs.blocks.copying.copy_blocks.Goals.{In-loop-block}
 use Rattle.strm_mblk.proofs.blocks.copying.copy_blocks.Goals as goal

@@ -1,5 +1,5 @@
 use Rattle.std.proofs.Common.{arith, length-set, get_or-set_same, get_or-set_other}
-use Rattle.strm_mblk.proofs.making.ClassesLeft.{free_past, told, untold}
+use Rattle.strm_mblk.proofs.making.CopiesCounted.{free_past, told, untold}
 use Rattle.strm_mblk.proofs.blocks.copying.free_counts.Goals as goal
 use Rattle.std.proofs.lemmas.Grind.{common_steps}
 

@@ -1,8 +1,8 @@
 use Rattle.std.proofs.Common.{◌≡◌, Some, arith, ◌∙◌}
 use Rattle.std.specs.Prelude.{slice_get, take}
 use Rattle.strm_mblk.specs.NodeLists.{nodes_at}
-use Rattle.strm_mblk.proofs.lists.Numbers.{slice_get-take, times_at}
-use Rattle.strm_mblk.proofs.making.FieldsCopied.{all_copied, next_copying}
+use Rattle.strm_mblk.proofs.Lists.{slice_get-take, times_at}
+use Rattle.strm_mblk.proofs.making.Duplicated.{all_copied, next_copying}
 use Rattle.strm_mblk.proofs.blocks.duplicating.copy_fields.Goals as goal
 use Rattle.std.proofs.lemmas.Grind.{common_steps}
 

@@ -1,6 +1,6 @@
 use Rattle.std.specs.Prelude.{take}
 use Rattle.strm_mblk.specs.NodeLists.{IsReached, nodes_at}
-use Rattle.strm_mblk.proofs.making.FieldsCopied.{IsCopying}
+use Rattle.strm_mblk.proofs.making.Duplicated.{IsCopying}
 use Rattle.strm_mblk.proofs.blocks.duplicating.copy_fields.Given as goal
 
 -- the blocks at this step, and what is left to copy

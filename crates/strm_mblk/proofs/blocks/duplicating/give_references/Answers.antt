@@ -3,8 +3,8 @@ use Rattle.std.specs.Prelude.{slice_get, take}
 use Rattle.strm_data.specs.DataStore.{DataStore}
 use Rattle.strm_mblk.specs.BlocksLayout.{fields_at, data_used_by, with_references_given}
 use Rattle.strm_mblk.specs.NodeLists.{nodes_at}
-use Rattle.strm_mblk.proofs.freeing.Dropping.{named-get}
-use Rattle.strm_mblk.proofs.making.Giving.{back_now, few_now, named_now, next_full, next_given, next_used, store_now}
+use Rattle.strm_mblk.proofs.Freeing.{named-get}
+use Rattle.strm_mblk.proofs.making.Duplicated.{back_now, few_now, named_now, next_full, next_given, next_used, store_now}
 use Rattle.strm_mblk.proofs.blocks.duplicating.give_references.Goals.{After-loop-given, In-loop-given}
 use Rattle.strm_mblk.proofs.blocks.duplicating.give_references.Goals as goal
 use Rattle.std.proofs.lemmas.Grind.{common_steps}

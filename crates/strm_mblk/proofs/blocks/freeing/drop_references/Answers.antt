@@ -4,8 +4,8 @@ use Rattle.std.specs.Prelude.{slice_get, take}
 use Rattle.strm_mblk.specs.declared.blocks.Fields.{Fields}
 use Rattle.strm_mblk.specs.BlocksLayout.{fields_at, data_used_by}
 use Rattle.strm_mblk.specs.NodeLists.{nodes_at}
-use Rattle.strm_mblk.proofs.lists.Numbers.{slice_get-take}
-use Rattle.strm_mblk.proofs.freeing.Dropping.{IsDropping, named-get, next_dropping, next_used, start_dropping}
+use Rattle.strm_mblk.proofs.Lists.{slice_get-take}
+use Rattle.strm_mblk.proofs.Freeing.{IsDropping, named-get, next_dropping, next_used, start_dropping}
 use Rattle.strm_mblk.proofs.blocks.freeing.drop_references.Goals.{In-loop-block}
 use Rattle.strm_mblk.proofs.blocks.freeing.drop_references.Goals as goal
 

@@ -8,7 +8,7 @@ use Rattle.strm_mblk.specs.Block.{Message}
 use Rattle.strm_mblk.specs.BlocksLayout.{IsPlaced, block_at, fields_at, message_of}
 use Rattle.strm_mblk.specs.InPlace.{bytes_within, store_overwritten}
 use Rattle.strm_mblk.specs.NodeLists.{nodes_at}
-use Rattle.strm_mblk.proofs.altering.Overwriting.{overwritten_next, written_within}
+use Rattle.strm_mblk.proofs.Altering.{overwritten_next, written_within}
 use Rattle.strm_mblk.proofs.layout.Places.{nodes_room}
 use Rattle.std.proofs.Math.Nat.{min-le_right}
 use Rattle.strm_data.proofs.store.Kept.{capacity_range}

@@ -5,8 +5,8 @@ use Rattle.strm_data.specs.DataStore.{times}
 use Rattle.strm_mblk.specs.declared.blocks.Fields.{Fields}
 use Rattle.strm_mblk.specs.BlocksLayout.{block_at, fields_at, message_of, data_used_by}
 use Rattle.strm_mblk.specs.NodeLists.{nodes_at}
-use Rattle.strm_mblk.proofs.pulling.FrontCopied.{next_copied}
-use Rattle.strm_mblk.proofs.lists.Numbers.{times_at}
+use Rattle.strm_mblk.proofs.pulling.FrontPulled.{next_copied}
+use Rattle.strm_mblk.proofs.Lists.{times_at}
 use Rattle.strm_mblk.proofs.blocks.pulling.copy_front.Goals as goal
 
 -- a block of the message does not name the data block

@@ -1,7 +1,7 @@
 use Rattle.strm_data.specs.CountedStore.{IsKept}
 use Rattle.strm_mblk.specs.BlocksLayout.{message_of}
 use Rattle.strm_mblk.specs.NodeLists.{IsReached, nodes_at}
-use Rattle.strm_mblk.proofs.pulling.FrontCopied.{IsFrontCopied}
+use Rattle.strm_mblk.proofs.pulling.FrontPulled.{IsFrontCopied}
 use Rattle.strm_mblk.proofs.blocks.pulling.copy_front.Given as goal
 
 -- the block at this step, and the bytes of those before it

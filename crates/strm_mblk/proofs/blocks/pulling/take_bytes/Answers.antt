@@ -5,7 +5,7 @@ use Rattle.strm_mblk.specs.declared.blocks.Fields.{Fields}
 use Rattle.strm_mblk.specs.BlocksLayout.{fields_at}
 use Rattle.strm_mblk.specs.Cutting.{fields_cut}
 use Rattle.strm_mblk.specs.NodeLists.{nodes_at}
-use Rattle.strm_mblk.proofs.pulling.BytesTaken.{AreTaken, AreTaking, first_takes, name_there, next_takes, none_left, nothing_left, part_left}
+use Rattle.strm_mblk.proofs.pulling.Taken.{AreTaken, AreTaking, first_takes, name_there, next_takes, none_left, nothing_left, part_left}
 use Rattle.strm_mblk.proofs.blocks.pulling.take_bytes.Goals.{After-cut, After-loop-used, After-onward-node, In-loop-used, Then-left-eq0}
 use Rattle.strm_mblk.proofs.blocks.pulling.take_bytes.Goals as goal
 use Rattle.std.proofs.lemmas.Grind.{common_steps}

@@ -1,7 +1,7 @@
 use Rattle.std.proofs.Common.{◌≡◌}
 use Rattle.strm_data.specs.CountedStore.{IsKept}
 use Rattle.strm_mblk.specs.NodeLists.{IsReached, nodes_at}
-use Rattle.strm_mblk.proofs.pulling.BytesTaken.{AreTaking}
+use Rattle.strm_mblk.proofs.pulling.Taken.{AreTaking}
 use Rattle.strm_mblk.proofs.blocks.pulling.take_bytes.Given as goal
 
 -- the walk is at the last block that was used up, or at the first of the message, and no block has lost bytes

@@ -1,7 +1,7 @@
 use Rattle.std.proofs.Common.{arith}
 use Rattle.std.proofs.lemmas.List.{length-take-le}
 use Rattle.strm_data.proofs.store.Kept.{capacity_range}
-use Rattle.strm_mblk.proofs.lists.ListParts.{take-part}
+use Rattle.strm_mblk.proofs.Lists.{take-part}
 use Rattle.strm_mblk.proofs.blocks.reading.read_block.Goals as goal
 use Rattle.std.proofs.lemmas.Grind.{common_steps}
 

@@ -5,10 +5,8 @@ use Rattle.std.proofs.lemmas.Option.{slice_get-get_or, slice_get-map, unwrap_or-
 use Rattle.strm_links.specs.StrandLists.{strand_at}
 use Rattle.strm_mblk.specs.Block.{Message, bytes_of, bytes_of_block}
 use Rattle.strm_mblk.specs.BlocksLayout.{IsPlaced, block_at, block_of, fields_at, message_of}
-use Rattle.strm_mblk.proofs.reading.Bytes.{IsRead, bytes_from, length-bytes_of_block, read_all, sized}
-use Rattle.strm_mblk.proofs.lists.ListParts.{put_rest}
-use Rattle.strm_mblk.proofs.lists.Numbers.{below}
-use Rattle.strm_mblk.proofs.lists.Overlaid.{IsLaid, laid_on, laid_start}
+use Rattle.strm_mblk.proofs.Reading.{IsRead, bytes_from, length-bytes_of_block, read_all, sized}
+use Rattle.strm_mblk.proofs.Lists.{put_rest, below, IsLaid, laid_on, laid_start}
 use Rattle.strm_mblk.proofs.blocks.reading.read_bytes.Goals.{In-loop-block, After-loop-block}
 use borrow.Rule.Slice.PartMut.{put_mid}
 use Rattle.strm_mblk.proofs.blocks.reading.read_bytes.Goals as goal

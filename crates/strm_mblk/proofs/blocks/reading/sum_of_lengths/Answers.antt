@@ -7,8 +7,8 @@ use Rattle.strm_links.specs.StrandLists.{strand_at}
 use Rattle.strm_mblk.specs.declared.blocks.Fields.{Fields}
 use Rattle.strm_mblk.specs.Block.{len_counted}
 use Rattle.strm_mblk.specs.BlocksLayout.{block_at, message_of}
-use Rattle.strm_mblk.proofs.lists.Numbers.{below}
-use Rattle.strm_mblk.proofs.reading.Summing.{counted_most, sum_from}
+use Rattle.strm_mblk.proofs.Lists.{below}
+use Rattle.strm_mblk.proofs.Reading.{counted_most, sum_from}
 use Rattle.strm_mblk.proofs.blocks.reading.sum_of_lengths.Goals as goal
 use Rattle.strm_mblk.proofs.blocks.reading.sum_of_lengths.Goals.{After-unwrap_or-node}
 

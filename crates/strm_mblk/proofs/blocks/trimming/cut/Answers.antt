@@ -2,7 +2,7 @@ use Rattle.std.proofs.Common.{◌≡◌, ℕ, ◌+◌, Some, length-set, set, �
 use Rattle.std.specs.Prelude.{drop, slice_get}
 use Rattle.strm_mblk.specs.Cutting.{with_bytes_cut}
 use Rattle.strm_mblk.specs.NodeLists.{IsReached, nodes_at}
-use Rattle.strm_mblk.proofs.trimming.Cutting.{cut_next, cut_none, cut_small}
+use Rattle.strm_mblk.proofs.Trimming.{cut_next, cut_none, cut_small}
 use Rattle.strm_mblk.proofs.blocks.trimming.cut.Goals.{After-onward-node}
 use Rattle.strm_mblk.proofs.blocks.trimming.cut.Goals as goal
 use Rattle.std.proofs.lemmas.Grind.{common_steps}

@@ -1,5 +1,5 @@
 use Rattle.strm_mblk.specs.NodeLists.{IsReached, nodes_at}
-use Rattle.strm_mblk.proofs.trimming.Runs.{IsMeasured}
+use Rattle.strm_mblk.proofs.Trimming.{IsMeasured}
 use Rattle.strm_mblk.proofs.blocks.trimming.run_in.Given as goal
 
 -- the block at this step, and the run of those before it

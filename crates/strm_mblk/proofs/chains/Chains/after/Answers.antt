@@ -1,5 +1,5 @@
 use Rattle.std.proofs.Common.{◌∙◌, arith}
-use Rattle.strm_mblk.proofs.chaining.Readings.{after_at, within}
+use Rattle.strm_mblk.proofs.chaining.Parted.{after_at, within}
 use Rattle.strm_mblk.proofs.chains.Chains.after.Goals as goal
 
 pub next-requires : goal.next-requires

@@ -1,5 +1,5 @@
 use Rattle.std.proofs.Common.{◌∙◌, arith}
-use Rattle.strm_mblk.proofs.chaining.Readings.{before_at, within}
+use Rattle.strm_mblk.proofs.chaining.Parted.{before_at, within}
 use Rattle.strm_mblk.proofs.chains.Chains.before.Goals as goal
 
 pub prev-requires : goal.prev-requires

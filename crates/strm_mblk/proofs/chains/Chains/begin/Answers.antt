@@ -2,9 +2,7 @@ use Rattle.std.proofs.Common.{◌≡◌, sym, subst, arith}
 use Rattle.std.proofs.lemmas.Option.{IfSome_then}
 use Rattle.strm_mblk.specs.ChainLayout.{IsChained, nodes_of}
 use Rattle.strm_mblk.specs.NodeLists.{after_begin}
-use Rattle.strm_mblk.proofs.chaining.Parted.{IsNodesParted-chained}
-use Rattle.strm_mblk.proofs.chaining.Replaced.{begun}
-use Rattle.strm_mblk.proofs.chaining.Readings.{within}
+use Rattle.strm_mblk.proofs.chaining.Parted.{IsNodesParted-chained, begun, within}
 use Rattle.strm_mblk.proofs.chains.Chains.begin.Goals as goal
 
 pub invariant_of-self : goal.invariant_of-self

@@ -2,8 +2,7 @@ use Rattle.std.proofs.Common.{◌≡◌, Some, set, sym, subst}
 use Rattle.std.specs.Prelude.{drop, take}
 use Rattle.strm_mblk.specs.ChainLayout.{IsChained, nodes_of}
 use Rattle.strm_mblk.specs.NodeLists.{with_free_left}
-use Rattle.strm_mblk.proofs.chaining.Parted.{IsNodesParted-chained}
-use Rattle.strm_mblk.proofs.chaining.Replaced.{begun_all}
+use Rattle.strm_mblk.proofs.chaining.Parted.{IsNodesParted-chained, begun_all}
 use Rattle.strm_mblk.proofs.chains.Chains.begin_all.Goals as goal
 
 pub invariant_of-self : goal.invariant_of-self

@@ -1,8 +1,6 @@
 use Rattle.std.proofs.Common.{ap, sym, ◌∙◌}
 use Rattle.std.specs.Prelude.{slice_get}
-use Rattle.strm_mblk.proofs.chaining.Parted.{IsNodesParted-chained}
-use Rattle.strm_mblk.proofs.chaining.Replaced.{divides}
-use Rattle.strm_mblk.proofs.chaining.Readings.{nodes_is, off, strand_there}
+use Rattle.strm_mblk.proofs.chaining.Parted.{IsNodesParted-chained, divides, nodes_is, off, strand_there}
 use Rattle.strm_mblk.proofs.chains.Chains.divide.Goals as goal
 
 pub divide-requires : goal.divide-requires

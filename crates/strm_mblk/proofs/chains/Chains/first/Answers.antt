@@ -1,6 +1,6 @@
 use Rattle.std.proofs.Common.{ap, sym, ◌∙◌, arith}
 use Rattle.strm_links.specs.Rows.{first}
-use Rattle.strm_mblk.proofs.chaining.Readings.{heads_at, shelves_within}
+use Rattle.strm_mblk.proofs.chaining.Parted.{heads_at, shelves_within}
 use Rattle.strm_mblk.proofs.chains.Chains.first.Goals as goal
 
 pub front-requires : goal.front-requires

@@ -1,6 +1,4 @@
-use Rattle.strm_mblk.proofs.chaining.Parted.{IsNodesParted-chained}
-use Rattle.strm_mblk.proofs.chaining.Replaced.{freed}
-use Rattle.strm_mblk.proofs.chaining.Readings.{off, strand_there}
+use Rattle.strm_mblk.proofs.chaining.Parted.{IsNodesParted-chained, freed, off, strand_there}
 use Rattle.strm_mblk.proofs.chains.Chains.free.Goals as goal
 
 pub free-requires : goal.free-requires

@@ -1,9 +1,7 @@
 use Rattle.std.proofs.Common.{IsSome, length, ap, arith}
 use Rattle.strm_links.proofs.lists.Chains.{is_there}
 use Rattle.strm_mblk.specs.Messages.{held_in}
-use Rattle.strm_mblk.proofs.chaining.Parted.{IsNodesParted-chained}
-use Rattle.strm_mblk.proofs.chaining.Replaced.{frees_behind}
-use Rattle.strm_mblk.proofs.chaining.Readings.{nodes_is, off}
+use Rattle.strm_mblk.proofs.chaining.Parted.{IsNodesParted-chained, frees_behind, nodes_is, off}
 use Rattle.strm_mblk.proofs.chains.Chains.free_behind.Goals.{Start}
 use Rattle.strm_mblk.proofs.chains.Chains.free_behind.Goals as goal
 

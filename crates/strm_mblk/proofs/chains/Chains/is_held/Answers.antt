@@ -2,7 +2,7 @@ use Rattle.std.proofs.Common.{◌&&◌, ap, sym, ◌∙◌, arith, is_some}
 use Rattle.std.specs.Prelude.{not}
 use Rattle.std.proofs.Math.Bool.{true-and, false-and, not-not}
 use Rattle.strm_links.specs.Rows.{holder}
-use Rattle.strm_mblk.proofs.chaining.Readings.{is_held_at, within}
+use Rattle.strm_mblk.proofs.chaining.Parted.{is_held_at, within}
 use Rattle.strm_mblk.proofs.chains.Chains.is_held.Goals as goal
 
 pub begins_chain-requires : goal.begins_chain-requires

@@ -1,6 +1,4 @@
-use Rattle.strm_mblk.proofs.chaining.Parted.{IsNodesParted-chained}
-use Rattle.strm_mblk.proofs.chaining.Replaced.{joins}
-use Rattle.strm_mblk.proofs.chaining.Readings.{off, strand_there}
+use Rattle.strm_mblk.proofs.chaining.Parted.{IsNodesParted-chained, joins, off, strand_there}
 use Rattle.strm_mblk.proofs.chains.Chains.join.Goals as goal
 
 pub join-requires-clause-head : goal.join-requires-clause-head

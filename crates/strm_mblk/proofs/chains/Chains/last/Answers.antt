@@ -1,6 +1,6 @@
 use Rattle.std.proofs.Common.{ap, sym, ◌∙◌, arith}
 use Rattle.strm_links.specs.Rows.{last}
-use Rattle.strm_mblk.proofs.chaining.Readings.{heads_at, shelves_within}
+use Rattle.strm_mblk.proofs.chaining.Parted.{heads_at, shelves_within}
 use Rattle.strm_mblk.proofs.chains.Chains.last.Goals as goal
 
 pub back-requires : goal.back-requires

@@ -1,5 +1,5 @@
 use Rattle.std.proofs.Common.{◌∙◌, ap, sym, length}
-use Rattle.strm_mblk.proofs.chaining.Readings.{nodes_is, strand_there}
+use Rattle.strm_mblk.proofs.chaining.Parted.{nodes_is, strand_there}
 use Rattle.strm_mblk.proofs.chains.Chains.len.Goals as goal
 
 pub len-requires : goal.len-requires

@@ -1,4 +1,4 @@
-use Rattle.strm_mblk.proofs.chaining.Opened.{IsChained-opened, opened_is}
+use Rattle.strm_mblk.proofs.chaining.Seen.{IsChained-opened, opened_is}
 use Rattle.strm_mblk.proofs.chaining.Parted.{IsNodesParted-chained}
 use Rattle.strm_mblk.proofs.chains.Chains.new.Goals as goal
 

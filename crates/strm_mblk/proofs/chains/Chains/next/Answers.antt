@@ -1,6 +1,6 @@
 use Rattle.std.proofs.Common.{arith}
 use Rattle.std.proofs.lemmas.Option.{IfSome_then}
-use Rattle.strm_mblk.proofs.chaining.Readings.{next_held, within}
+use Rattle.strm_mblk.proofs.chaining.Parted.{next_held, within}
 use Rattle.strm_mblk.proofs.chains.Chains.next.Goals as goal
 
 pub next-requires : goal.next-requires

@@ -3,8 +3,8 @@ use Rattle.std.specs.Prelude.{slice_get}
 use Rattle.std.specs.Option.{unwrap_or}
 use Rattle.std.proofs.lemmas.Option.{slice_get-get_or, unwrap_or-slice_get}
 use Rattle.strm_mblk.specs.NodeLists.{nodes_at}
-use Rattle.strm_mblk.proofs.chaining.Readings.{next_held, within}
-use Rattle.strm_mblk.proofs.lists.Numbers.{below}
+use Rattle.strm_mblk.proofs.chaining.Parted.{next_held, within}
+use Rattle.strm_mblk.proofs.Lists.{below}
 use Rattle.strm_mblk.proofs.chains.Chains.onward.Goals as goal
 
 pub next-requires : goal.next-requires

@@ -1,5 +1,5 @@
 use Rattle.std.proofs.Common.{sym, ◌∙◌, arith}
-use Rattle.strm_mblk.proofs.chaining.Readings.{shelf_with_is, within}
+use Rattle.strm_mblk.proofs.chaining.Parted.{shelf_with_is, within}
 use Rattle.strm_mblk.proofs.chains.Chains.shelf_of.Goals as goal
 
 pub list_of-requires : goal.list_of-requires

@@ -2,9 +2,8 @@ use Rattle.std.proofs.Common.{ℕ, ◌≡◌, None, Some, refl, sym, ◌∙◌, 
 use Rattle.std.proofs.lemmas.Option.{none-some}
 use Rattle.strm_links.specs.Rows.{holder, list_at}
 use Rattle.strm_links.proofs.lists.AllLists.{holder_has}
-use Rattle.strm_mblk.proofs.chaining.OnShelves.{placed_in, reheaded_is, reheaded_laid, room_of}
-use Rattle.strm_mblk.proofs.chaining.Parted.{IsNodesParted-chained}
-use Rattle.strm_mblk.proofs.chaining.Readings.{head_node-strand, nodes_is, off, shelf_is, shelved_at, shelves_within, strand_there}
+use Rattle.strm_mblk.proofs.chaining.Seen.{placed_in, reheaded_is, reheaded_laid, room_of}
+use Rattle.strm_mblk.proofs.chaining.Parted.{IsNodesParted-chained, head_node-strand, nodes_is, off, shelf_is, shelved_at, shelves_within, strand_there}
 use Rattle.strm_mblk.proofs.chains.Chains.shelve.Goals.{After-self}
 use Rattle.strm_mblk.proofs.chains.Chains.shelve.Goals as goal
 use Rattle.strm_mblk.specs.Messages.{put_before_head, shelf_in}

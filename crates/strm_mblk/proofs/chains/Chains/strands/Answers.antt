@@ -1,5 +1,5 @@
 use Rattle.std.proofs.Common.{sym}
-use Rattle.strm_mblk.proofs.chaining.Readings.{nodes_is, strand_shelved, within}
+use Rattle.strm_mblk.proofs.chaining.Parted.{nodes_is, strand_shelved, within}
 use Rattle.strm_mblk.proofs.chains.Chains.strands.Goals as goal
 
 pub returns-clause-held : goal.returns-clause-held

@@ -3,9 +3,7 @@ use Rattle.std.specs.Prelude.{slice_get}
 use Rattle.std.proofs.lemmas.Option.{slice_get-get_or}
 use Rattle.strm_links.specs.StrandLists.{strand_at}
 use Rattle.strm_mblk.specs.NodeLists.{nodes_at}
-use Rattle.strm_mblk.proofs.chaining.Parted.{IsNodesParted-chained}
-use Rattle.strm_mblk.proofs.chaining.Replaced.{takes_out, there}
-use Rattle.strm_mblk.proofs.chaining.Readings.{nodes_is, off, strand_there}
+use Rattle.strm_mblk.proofs.chaining.Parted.{IsNodesParted-chained, takes_out, there, nodes_is, off, strand_there}
 use Rattle.strm_mblk.proofs.chains.Chains.take_out.Goals.{After-self}
 use Rattle.strm_mblk.proofs.chains.Chains.take_out.Goals as goal
 

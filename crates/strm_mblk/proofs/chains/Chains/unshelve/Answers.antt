@@ -5,10 +5,8 @@ use Rattle.strm_links.specs.Chains.{chain_in}
 use Rattle.strm_links.proofs.lists.AllLists.{holder_has, map-without}
 use Rattle.strm_mblk.specs.Messages.{shelf_in, with_head, without_head}
 use Rattle.strm_mblk.specs.NodeLists.{head_node}
-use Rattle.strm_mblk.proofs.chaining.OnShelves.{reheaded_is, reheaded_laid, with-map, without-map}
-use Rattle.strm_mblk.proofs.chaining.Parted.{IsNodesParted-chained}
-use Rattle.strm_mblk.proofs.chaining.Replaced.{there}
-use Rattle.strm_mblk.proofs.chaining.Readings.{head_node-strand, shelf_is, shelved_at}
+use Rattle.strm_mblk.proofs.chaining.Seen.{reheaded_is, reheaded_laid, with-map, without-map}
+use Rattle.strm_mblk.proofs.chaining.Parted.{IsNodesParted-chained, there, head_node-strand, shelf_is, shelved_at}
 use Rattle.strm_mblk.proofs.chains.Chains.unshelve.Goals.{After-remove, After-self}
 use Rattle.strm_mblk.proofs.chains.Chains.unshelve.Goals as goal
 use Rattle.std.proofs.lemmas.Grind.{common_steps}

@@ -4,7 +4,7 @@ use Rattle.strm_mblk.specs.Arena.{Arena, message_at, shelf_at, with_shelf, witho
 use Rattle.strm_mblk.specs.Block.{Message, head_of}
 use Rattle.strm_mblk.specs.Shelves.{shelve}
 use Rattle.strm_mblk.proofs.arena.Frame.{others_one}
-use Rattle.strm_mblk.proofs.arena.Tokens.{had_message}
+use Rattle.strm_mblk.proofs.arena.Counts.{had_message}
 use Rattle.strm_queue.specs.Flow.{bytes_on, hiwat_of}
 use Rattle.strm_queue.specs.Joining.{shelf_with}
 use Rattle.strm_queue.specs.QueuedBlocks.{AreInOrder, tally_at}

@@ -1,28 +1,31 @@
--- The first free message blocks become one held message.
-use Rattle.std.proofs.Common.{◌≡◌, ◌≢◌, ℕ, suc, ◌+◌, ◌<◌, ◌≤◌, List, [], ◌∷◌, map, length, get_or, set, Option, Some, None, refl, sym, ap, ◌∙◌, arith, get_or-set_same, get_or-set_other, length-set}
+-- Messages begun: the first free message blocks become a held message.
+use Rattle.std.proofs.Common.{◌≡◌, ◌≢◌, ℕ, suc, ◌+◌, ◌<◌, ◌≤◌, List, [], ◌∷◌, map, length, get_or, set, Option, Some, None, refl, sym, ap, ◌∙◌, arith, get_or-set_same, get_or-set_other, length-set, zero, true, Ok, subst}
 use Rattle.std.specs.Prelude.{count_by, drop, option_map, take}
 use Rattle.std.specs.List.{All}
 use Rattle.std.proofs.lemmas.List.{length-map, length-take-le, map-set, take-append-drop}
 use Rattle.std.proofs.lemmas.Option.{none-some, same_Some}
+use Rattle.std.proofs.lemmas.Bool.Decides.{eqb_tells}
 use Rattle.strm_links.specs.Rows.{first}
-use Rattle.strm_data.specs.CountedStore.{CountedStore, IsKept, count_of}
-use Rattle.strm_data.specs.DataStore.{DataStore, times}
+use Rattle.strm_data.specs.CountedStore.{CountedStore, IsKept, count_of, IsUnused, after_take}
+use Rattle.strm_data.specs.DataStore.{DataStore, times, take_data, with_data_taken}
 use Rattle.strm_links.proofs.lists.Counting.{times-append, times-cons, times_here, times_other}
+use Rattle.strm_data.specs.Classes.{fits_a_class}
 use Rattle.strm_mblk.specs.declared.blocks.Fields.{Fields}
 use Rattle.strm_mblk.specs.Arena.{Arena, held_at, references_to, shelved_blocks, with_held, with_free_left}
-use Rattle.strm_mblk.specs.Block.{Block, Message, head_of, uses_data}
-use Rattle.strm_mblk.specs.BlockCalls.{held_under, blocks_renumbered}
+use Rattle.strm_mblk.specs.Block.{Block, Message, head_of, uses_data, new_block}
+use Rattle.strm_mblk.specs.BlockCalls.{held_under, blocks_renumbered, allocb}
 use Rattle.strm_mblk.specs.BlocksLayout.{IsFilled, IsPlaced, arena_of, block_of, fields_at, fields_of, message_of, no_fields, with_fields}
 use Rattle.strm_mblk.specs.Messages.{blocks_held, blocks_on, blocks_of}
-use Rattle.strm_mblk.specs.NodeLists.{IsNodesParted, NodeLists}
+use Rattle.strm_mblk.specs.NodeLists.{IsNodesParted, NodeLists, after_begin}
 use Rattle.strm_mblk.proofs.layout.Shown.{AreAlike, alike_each, held-alike, held_at-seen, shelves-alike}
-use Rattle.strm_mblk.proofs.lists.Numbers.{first_rest}
-use Rattle.strm_mblk.proofs.chaining.Standing.{free_room, free_unheld, one_of_all}
-use Rattle.strm_mblk.proofs.making.BegunLists.{after_begin_all}
-use Rattle.strm_mblk.proofs.lists.Additive.{count_adds, count_one}
+use Rattle.strm_mblk.proofs.Lists.{first_rest, count_adds, count_one}
+use Rattle.strm_mblk.proofs.chaining.Seen.{free_room, free_unheld, one_of_all}
+use Rattle.strm_mblk.proofs.chaining.Parted.{after_begin_all, begun_first}
 use Rattle.strm_mblk.proofs.arena.Counts.{held_moves}
-use Rattle.strm_mblk.proofs.layout.Rooms.{HasRooms, placed-over, placed-set}
+use Rattle.strm_mblk.proofs.layout.Rooms.{HasRooms, placed-over, placed-set, count_of-set, rooms-taken}
 use Rattle.std.proofs.lemmas.Grind.{common_steps}
+
+-- ==== the first free message blocks become one held message
 
 -- ---- several message blocks say something else
 
@@ -184,3 +187,46 @@ module _ (id : ℕ) (s : CountedStore) (fields : List Fields) (v : NodeLists) (f
         others = λ k other. ap (λ (ms : List (Option Message)). get_or ms k None) held_is ∙ get_or-set_other old.held h k (Some m) None other;
         absent = unheld;
       }
+
+-- ==== `allocb`: a free message block over a data block just taken is held
+
+-- what the model gives if a block of each kind is free
+allocb_done : (a : Arena) (size n d : ℕ) (ns : List ℕ) → fits_a_class size a.store.classes ≡ true → a.free ≡ n ∷ ns → take_data size a.store ≡ Ok d
+    → allocb size a ≡ Ok (n, with_held (new_block n d ∷ []) (record (with_free_left ns a) { store = with_data_taken d a.store }))
+allocb_done a size n d ns fits is some = grind (arith, common_steps)
+
+-- a size takes a data block only where some class is as large
+pub taken_fits : (size d : ℕ) (s : DataStore) → take_data size s ≡ Ok d → fits_a_class size s.classes ≡ true
+taken_fits size d s some = grind (arith, common_steps)
+
+-- what is there once a message of one block n over d was allocated
+pub record IsAllocated (a : Arena) (t : CountedStore) (fields : List Fields) (w : NodeLists) (id size n d : ℕ) : Type 0 where
+  pub begun : IsBegunAll a t fields w id n (new_block n d ∷ [])
+  pub done : allocb size a ≡ Ok (n, arena_of id t.store fields w)
+
+module _ (id : ℕ) (s : CountedStore) (fields : List Fields) (v : NodeLists) (filled : IsFilled s fields v (arena_of id s.store fields v)) (n : ℕ) (begun : first v.free ≡ Some n)
+    (d : ℕ) (t : CountedStore) (w : NodeLists) (x : Fields) (fresh : IsUnused s d) (kept : IsKept t) (t_is : t ≡ after_take s (Ok d)) (w_is : w ≡ after_begin v v.free) (parted : IsNodesParted w)
+    (x_is : x ≡ record { data_number = d; offset = 0; len = 0; band = 0 }) where
+  rooms : HasRooms s.store t.store
+  rooms = subst (HasRooms s.store) (sym (ap (λ (c : CountedStore). c.store) t_is)) (rooms-taken s.store d)
+
+  named : (k : ℕ) → count_of t k ≡ count_of s k + count_by (uses_data k) (new_block n d ∷ [])
+  named k = grind (arith, common_steps, count_of-set, eqb_tells, count_one)
+
+  placed : All (λ b. IsPlaced t.store (fields_of b)) (new_block n d ∷ [])
+  placed zero other within = record { there = omega (arith, fresh.there, rooms.many); within = omega arith; banded = omega arith }
+  placed (suc i) other within = absurd (omega (arith, within))
+
+  free_is : v.free ≡ n ∷ drop 1 v.free
+  free_is = first_rest v.free n begun
+
+  said : with_fields (take 1 v.free) (fields_of (new_block n d) ∷ []) fields ≡ set fields n x
+  said = ap (λ ns. with_fields (take 1 ns) (fields_of (new_block n d) ∷ []) fields) free_is ∙ ap (set fields n) (sym x_is)
+
+  begins_new : IsBegunAll (arena_of id s.store fields v) t (set fields n x) w id n (new_block n d ∷ [])
+  begins_new =
+      subst (λ fs. IsBegunAll (arena_of id s.store fields v) t fs w id n (new_block n d ∷ [])) said
+      (begins_all id s fields v filled n begun (new_block n d ∷ []) (omega arith) (omega (arith, ap length free_is)) t w kept (w_is ∙ begun_first v n begun) parted rooms placed named)
+
+  pub allocates : (size : ℕ) → fits_a_class size s.store.classes ≡ true → take_data size s.store ≡ Ok d → IsAllocated (arena_of id s.store fields v) t (set fields n x) w id size n d
+  allocates size fits some = grind (arith, common_steps, begins_new, allocb_done, free_is)

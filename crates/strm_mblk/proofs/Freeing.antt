@@ -1,23 +1,27 @@
--- Names that blocks taken out of all messages had are dropped, one after the other.
-use Rattle.std.proofs.Common.{◌≡◌, ℕ, suc, ◌+◌, ◌<◌, ◌≤◌, ◌==◌, Bool, true, false, eqb, List, [], ◌∷◌, ◌++◌, length, Option, Some, refl, sym, ap, ◌∙◌, inl, inr, arith, if◌then◌else◌}
+-- Messages freed.
+use Rattle.std.proofs.Common.{◌≡◌, ℕ, suc, ◌+◌, ◌<◌, ◌≤◌, ◌==◌, Bool, true, false, eqb, List, [], ◌∷◌, ◌++◌, length, Option, Some, refl, sym, ap, ◌∙◌, inl, inr, arith, if◌then◌else◌, set, None, subst, length-set}
 use Rattle.std.proofs.lemmas.Option.{slice_get-map}
 use Rattle.std.specs.Prelude.{count_by, drop, reverse, slice_get, option_map}
 use Rattle.std.proofs.lemmas.Bool.{cases_lt, eq-eqb, ne_eqb}
 use Rattle.std.proofs.lemmas.Bool.Decides.{eqb_tells}
-use Rattle.std.proofs.lemmas.List.{append_assoc, get_or_past, reverse-append}
-use Rattle.strm_data.specs.CountedStore.{CountedStore, count_of, without_reference}
+use Rattle.std.proofs.lemmas.List.{append_assoc, get_or_past, reverse-append, map-set}
+use Rattle.strm_data.specs.CountedStore.{CountedStore, count_of, without_reference, IsKept}
 use Rattle.strm_data.specs.DataStore.{DataStore, times, with_data_freed}
 use Rattle.strm_links.proofs.lists.Counting.{one_if, times-cons}
 use Rattle.strm_mblk.specs.declared.blocks.Fields.{Fields}
-use Rattle.strm_mblk.specs.Arena.{Arena}
+use Rattle.strm_mblk.specs.Arena.{Arena, held_at, references_to, shelved_blocks, without_held}
 use Rattle.strm_mblk.specs.Block.{Message, uses_data}
-use Rattle.strm_mblk.specs.BlocksLayout.{block_at, fields_at, message_of, data_used_by, with_references_dropped}
-use Rattle.strm_mblk.specs.Freeing.{with_block_freed, with_blocks_freed}
-use Rattle.strm_mblk.specs.Messages.{blocks_held, blocks_on}
-use Rattle.strm_mblk.proofs.lists.Additive.{count_by-map}
-use Rattle.strm_mblk.proofs.lists.ListParts.{drop_from}
-use Rattle.strm_mblk.proofs.layout.Rooms.{HasRooms, count_of-set, rooms-both}
+use Rattle.strm_mblk.specs.BlocksLayout.{block_at, fields_at, message_of, data_used_by, with_references_dropped, IsFilled, arena_of}
+use Rattle.strm_mblk.specs.Freeing.{with_block_freed, with_blocks_freed, freemsg}
+use Rattle.strm_mblk.specs.Messages.{blocks_held, blocks_on, blocks_of, held_in}
+use Rattle.strm_mblk.specs.NodeLists.{IsNodesParted, NodeLists, nodes_at}
+use Rattle.strm_mblk.proofs.Lists.{count_by-map, drop_from, count_adds}
+use Rattle.strm_mblk.proofs.layout.Rooms.{HasRooms, count_of-set, rooms-both, placed-over}
+use Rattle.strm_mblk.proofs.arena.Counts.{held_moves, held_within}
+use Rattle.strm_mblk.proofs.layout.Shown.{blocks_of-mapped, held_at-seen, message_at-seen}
 use Rattle.std.proofs.lemmas.Grind.{common_steps}
+
+-- ==== names that blocks taken out of all messages had are dropped, one after the other
 
 -- the data block that a block of a list uses
 pub named-get : (fields : List Fields) (ns : List ℕ) (i n : ℕ) → slice_get ns i ≡ Some n → slice_get (data_used_by fields ns) i ≡ Some (fields_at fields n).data_number
@@ -120,3 +124,83 @@ module _ (id : ℕ) (fields : List Fields) (held : List (Option Message)) (shelv
         ap (with_blocks_freed (message_of fields ns)) (one_freed n ns s free counts)
         ∙ all_freed ns (without_reference d s) (n ∷ free) (counted_less s n ns counts)
         ∙ ap (over (with_references_dropped (data_used_by fields (n ∷ ns)) s)) (reverse_onto n ns free)
+
+-- ==== blocks of a held message are free, and their references are dropped: all of them, as `freemsg` does, or some
+
+-- a is what was there, and the lists are what is there once blocks of a message were freed, which b says
+pub record IsFreed (a b : Arena) (t : CountedStore) (fields : List Fields) (w : NodeLists) (id : ℕ) : Type 0 where
+  pub filled : IsFilled t fields w (arena_of id t.store fields w)
+  pub shelved : shelved_blocks (arena_of id t.store fields w) ≡ shelved_blocks a
+  pub after : arena_of id t.store fields w ≡ b
+
+module _ (id : ℕ) (s : CountedStore) (fields : List Fields) (v : NodeLists) (filled : IsFilled s fields v (arena_of id s.store fields v)) (h : ℕ) (held : held_in v.held h ≡ Some (nodes_at v h)) where
+  abbrev old : Arena
+  old = arena_of id s.store fields v
+
+  -- the message
+  message : held_at old h ≡ Some (message_of fields (nodes_at v h))
+  message = held_at-seen id s.store fields v h ∙ ap (option_map (message_of fields)) held
+
+  -- ---- `out` of its blocks are freed, and the others are all of what is held then
+
+  module _ (o : Option (List ℕ)) (out : List ℕ) (parts : (d : ℕ) → times d (data_used_by fields (nodes_at v h)) ≡ times d (data_used_by fields (blocks_of o)) + times d (data_used_by fields out)) where
+    -- the arena without the blocks that are freed
+    abbrev left : Arena
+    left = record old { held = set old.held h (option_map (message_of fields) o) }
+
+    -- these name data blocks beside those that messages name
+    loose : (d : ℕ) → count_of s d ≡ references_to left d + times d (data_used_by fields out)
+    loose d =
+        omega (
+          arith,
+          filled.counts d,
+          held_moves (count_adds (uses_data d)) old h (option_map (message_of fields) o) (held_within old h (message_of fields (nodes_at v h)) message),
+          ap (λ m. count_by (uses_data d) (blocks_of m)) message,
+          ap (count_by (uses_data d)) (blocks_of-mapped fields o),
+          naming-named fields d (nodes_at v h),
+          naming-named fields d (blocks_of o),
+          parts d,
+        )
+
+    module _ (t : CountedStore) (w : NodeLists) (t_is : t ≡ with_references_dropped (data_used_by fields out) s) (kept : IsKept t) (w_is : w ≡ record v { free = reverse out ++ v.free; held = set v.held h o }) (parted : IsNodesParted w) where
+      shows : arena_of id t.store fields w ≡ record left { store = t.store; free = reverse out ++ v.free }
+      shows = grind (arith, common_steps, map-set)
+
+      rooms : HasRooms s.store t.store
+      rooms = subst (HasRooms s.store) (sym (ap (λ (c : CountedStore). c.store) t_is)) (rooms-dropped (data_used_by fields out) s)
+
+      pub frees_some : IsFreed old (with_blocks_freed (message_of fields out) left) t fields w id
+      frees_some = record {
+        filled = record {
+          kept = kept;
+          parted = parted;
+          few = omega (arith, filled.few, many);
+          listed = omega (arith, filled.listed, many);
+          placed = λ n within. placed-over s.store t.store (fields_at fields n) rooms (filled.placed n within);
+          counts = λ d.
+              ap (λ (c : CountedStore). count_of c d) t_is ∙ counts_left id fields left.held old.shelves out s loose d
+              ∙ ap (λ a. references_to a d) (sym shows);
+        };
+        shelved = ap shelved_blocks shows;
+        after =
+            shows
+            ∙ ap (λ (c : CountedStore). record left { store = c.store; free = reverse out ++ v.free }) t_is
+            ∙ sym (all_freed id fields left.held old.shelves v.least out s v.free loose);
+      }
+        where
+          many : length w.held ≡ length v.held
+          many = ap (λ (l : NodeLists). length l.held) w_is ∙ length-set v.held h o
+
+  -- ---- all of them are
+
+  none_stay : (d : ℕ) → times d (data_used_by fields (nodes_at v h)) ≡ times d (data_used_by fields (blocks_of None)) + times d (data_used_by fields (nodes_at v h))
+  none_stay d = omega arith
+
+  pub enough : (d : ℕ) → times d (data_used_by fields (nodes_at v h)) ≤ count_of s d
+  enough d = omega (arith, loose None (nodes_at v h) none_stay d)
+
+  pub frees : (t : CountedStore) (w : NodeLists) → t ≡ with_references_dropped (data_used_by fields (nodes_at v h)) s → IsKept t → w ≡ record v { free = reverse (nodes_at v h) ++ v.free; held = set v.held h None } → IsNodesParted w
+      → IsFreed old (freemsg h old) t fields w id
+  frees t w t_is kept w_is parted =
+      subst (λ m. IsFreed old (with_blocks_freed m (without_held h old)) t fields w id) (sym (message_at-seen id s.store fields v h))
+      (frees_some None (nodes_at v h) none_stay t w t_is kept w_is parted)

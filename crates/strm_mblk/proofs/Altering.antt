@@ -1,18 +1,94 @@
--- Bytes are written over those of a message, block by block.
-use Rattle.std.proofs.Common.{◌≡◌, ℕ, ◌+◌, ◌-◌, ◌<◌, ◌≤◌, Bool, true, false, ◌&&◌, ◌||◌, List, [], ◌∷◌, ◌++◌, length, drop, take, get_or, None, Some, refl, sym, ap, ◌∙◌, subst, inl, inr, arith, get_or-set_same, get_or-set_other}
-use Rattle.std.specs.Prelude.{◌⊎◌, count_by, min, nat_lt, slice_get}
+-- Calls that alter a block.
+use Rattle.std.proofs.Common.{◌≡◌, ℕ, ◌+◌, ◌^◌, ◌<◌, ◌≤◌, List, length, Option, None, Ok, Some, refl, ap, ◌∙◌, arith, set, sym, subst, get_or-set_same, ◌-◌, Bool, true, false, ◌&&◌, ◌||◌, [], ◌∷◌, ◌++◌, drop, take, get_or, inl, inr, get_or-set_other}
+use Rattle.std.specs.Prelude.{ok_or, slice_get, ◌⊎◌, count_by, min, nat_lt}
+use Rattle.std.proofs.lemmas.Option.{same_Some}
 use Rattle.std.proofs.lemmas.Bool.{cases_eq, cases_lt, false≢true, lt-ltb}
 use Rattle.std.proofs.lemmas.List.{length-drop, set_past, take-append-drop}
 use Rattle.std.proofs.Math.Nat.{min-le_left, min-le_right}
-use Rattle.strm_data.specs.DataStore.{DataStore, data_block_at, no_data_block, with_bytes_written}
-use Rattle.strm_mblk.specs.Arena.{Arena, held_at, message_at, references_to, shelved_blocks, without_held}
+use Rattle.strm_data.specs.declared.refusal.Refusal.TheVariants.{NoSuchBlock}
+use Rattle.strm_data.specs.DataStore.{capacity_of, DataStore, data_block_at, no_data_block, with_bytes_written}
+use Rattle.strm_data.specs.CountedStore.{CountedStore}
+use Rattle.strm_mblk.specs.declared.blocks.Fields.{Fields}
+use Rattle.strm_mblk.specs.Arena.{Arena, message_at, with_message, held_at, references_to, shelved_blocks, without_held}
 use Rattle.strm_mblk.specs.Block.{Block, Message, uses_data}
+use Rattle.strm_mblk.specs.BlockCalls.{block_found, own_block, with_bytes, with_block}
+use Rattle.strm_mblk.specs.BlocksLayout.{Suits, IsFilled, IsPlaced, arena_of, block_at, block_of, no_fields}
+use Rattle.strm_mblk.specs.NodeLists.{NodeLists, nodes_at}
 use Rattle.strm_mblk.specs.InPlace.{bytes_within, store_overwritten, touches_shared}
 use Rattle.strm_mblk.specs.Messages.{blocks_of}
-use Rattle.strm_mblk.proofs.arena.Frame.{Leaves, held_named, leaves_data, naming_at, other_head, shelved_named}
-use Rattle.strm_mblk.proofs.arena.Moves.{out_of_held}
-use Rattle.strm_mblk.proofs.lists.Additive.{count_adds}
-use Rattle.strm_mblk.proofs.lists.ListParts.{drop_from}
+use Rattle.strm_mblk.proofs.arena.Frame.{own_is, Leaves, held_named, leaves_data, naming_at, other_head, shelved_named}
+use Rattle.strm_mblk.proofs.layout.Rooms.{rooms-written}
+use Rattle.strm_mblk.proofs.layout.Places.{IsAt, block_given, rewrite_filled, written_shows}
+use Rattle.strm_mblk.proofs.arena.Counts.{out_of_held}
+use Rattle.strm_mblk.proofs.Lists.{count_adds, drop_from}
+
+-- ==== a block that a call found gets other fields, also one that alone uses its data block
+
+some_of_ok : (o : Option Block) (x : Block) → ok_or o NoSuchBlock ≡ Ok x → o ≡ Some x
+some_of_ok None x is = absurd cc
+some_of_ok (Some b) x is = let same : b ≡ x = cc in ap (λ (c : Block). Some c) same
+
+pub found_at : (a : Arena) (h k : ℕ) (x : Block) → block_found h k a ≡ Ok x → slice_get (message_at a h) k ≡ Some x
+found_at a h k x is = some_of_ok (slice_get (message_at a h) k) x is
+
+pub suits_found : (a : Arena) (h k : ℕ) (x : Block) → slice_get (message_at a h) k ≡ Some x → (f : Fields) → f.data_number ≡ x.data_number → f.offset + f.len ≤ capacity_of a.store f.data_number → f.band < 2 ^ 8
+    → Suits a x.number f
+suits_found a h k x found f same room banded = record { head = h; place = k; block = x; found = found; number = refl; same = same; room = room; banded = banded }
+
+module _ (a : Arena) (h k : ℕ) (x : Block) (own : own_block h k a ≡ Ok x) where
+  pub found_own : slice_get (message_at a h) k ≡ Some x
+  found_own = (own_is a h k x own).found
+
+  pub suits_own : (f : Fields) → f.data_number ≡ x.data_number → f.offset + f.len ≤ capacity_of a.store f.data_number → f.band < 2 ^ 8 → Suits a x.number f
+  suits_own = suits_found a h k x found_own
+
+  -- also once bytes are in its data block
+  module _ (at : ℕ) (bytes : List ℕ) (b : Arena) (is : b ≡ with_bytes x.data_number at bytes a) where
+    pub found_written : slice_get (message_at b h) k ≡ Some x
+    found_written = ap (λ c. slice_get (message_at c h) k) is ∙ found_own
+
+    pub suits_written : at + length bytes ≤ capacity_of a.store x.data_number → (f : Fields) → f.data_number ≡ x.data_number → f.offset + f.len ≤ capacity_of a.store f.data_number → f.band < 2 ^ 8 → Suits b x.number f
+    suits_written within f same room banded = record {
+      head = h;
+      place = k;
+      block = x;
+      found = found_written;
+      number = refl;
+      same = same;
+      room = omega (arith, room, (rooms-written a.store x.data_number at bytes within).room f.data_number, ap (λ (c : Arena). capacity_of c.store f.data_number) is);
+      banded = banded;
+    }
+
+-- ==== a block of a held message gets other fields
+
+module _ (id : ℕ) (s : CountedStore) (fields : List Fields) (v : NodeLists) (filled : IsFilled s fields v (arena_of id s.store fields v)) (a : Arena) (is : arena_of id s.store fields v ≡ a)
+    (n h k : ℕ) (b : Block) (found : slice_get (message_at a h) k ≡ Some b) (number : b.number ≡ n) where
+  at : IsAt s fields v a h k n (nodes_at v h)
+  at = subst (λ m. IsAt s fields v a h k m (nodes_at v h)) number (block_given id s fields v filled a is h k b found)
+
+  pub number_there : n < length fields
+  number_there = at.there
+
+  -- the fields are those of the block
+  block_is : block_at fields n ≡ b
+  block_is = same_Some (block_at fields n) b (sym at.block ∙ found)
+
+  module _ (x : Fields) where
+    pub fields_show : arena_of id s.store (set fields n x) v ≡ with_block h k (block_of n x) a
+    fields_show =
+        written_shows id s fields v filled h k n (nodes_at v h) at.held at.at s.store x
+        ∙ (λ i. with_message h (set (sym at.message i) k (block_of n (get_or-set_same fields n x no_fields at.there i))) (is i))
+
+    pub fields_filled : x.data_number ≡ b.data_number → IsPlaced s.store x → IsFilled s (set fields n x) v (arena_of id s.store (set fields n x) v)
+    fields_filled same placed =
+        rewrite_filled id s fields v filled h k n (nodes_at v h) at.held at.at s x filled.kept refl (record { many = refl; room = λ d. refl }) placed
+        (same ∙ ap (λ (c : Block). c.data_number) (sym block_is))
+
+    -- its data block is there
+    pub data_there : x.data_number ≡ b.data_number → x.data_number < length s.store.blocks
+    data_there same = subst (λ d. d < length s.store.blocks) (ap (λ (c : Block). c.data_number) block_is ∙ sym same) at.placed.there
+
+-- ==== bytes are written over those of a message, block by block
 
 -- what is written is within the places of its block
 pub written_within : (offset len capacity skip n : ℕ) → offset + len ≤ capacity → offset + min skip len + min n (len - skip) ≤ capacity

@@ -1,4 +1,0 @@
--- Calls that alter a block.
-pub mod Placing
-pub mod Own
-pub mod Overwriting

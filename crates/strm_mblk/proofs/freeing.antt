@@ -1,3 +1,0 @@
--- Messages freed.
-pub mod Dropping
-pub mod Freemsg

@@ -1,5 +1,0 @@
--- Plain lists.
-pub mod ListParts
-pub mod Overlaid
-pub mod Additive
-pub mod Numbers

@@ -1,3 +1,0 @@
--- Calls that read.
-pub mod Bytes
-pub mod Summing

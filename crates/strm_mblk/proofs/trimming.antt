@@ -1,4 +1,0 @@
--- `adjmsg`.
-pub mod Runs
-pub mod Cutting
-pub mod Adjmsg
