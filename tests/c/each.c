@@ -1404,6 +1404,162 @@ static void test_several(void)
 	ANSWERS(strm_close(&pool), STRM_OK);
 }
 
+/* ---- bursts beside single calls */
+
+/* The longest burst, one more than the message blocks there are. Of each class fewer data blocks are there. */
+#define LONGEST 300
+
+enum burst { ALLOCATES, PUTS, TAKES, FREES };
+
+static int together(enum burst burst, struct strm_pool *pool, struct strm_msg *msgs, size_t length, size_t *count)
+{
+	switch (burst) {
+	case ALLOCATES: return strm_allocb_n(pool, 5, msgs, length, count);
+	case PUTS: return strm_putq_n(pool, 2, msgs, length, count);
+	case TAKES: return strm_getq_n(pool, 2, msgs, length, count);
+	default: return strm_freemsg_n(pool, msgs, length, count);
+	}
+}
+
+static int single(enum burst burst, struct strm_pool *pool, struct strm_msg *msg)
+{
+	switch (burst) {
+	case ALLOCATES: return strm_allocb(pool, 5, msg);
+	case PUTS: return strm_putq(pool, 2, *msg);
+	case TAKES: return strm_getq(pool, 2, msg);
+	default: return strm_freemsg(pool, *msg);
+	}
+}
+
+static int one_by_one(enum burst burst, struct strm_pool *pool, struct strm_msg *msgs, size_t length, size_t *count)
+{
+	int code = STRM_OK;
+
+	for (*count = 0; *count < length && code == STRM_OK; ++*count)
+		code = single(burst, pool, &msgs[*count]);
+	if (code == STRM_OK)
+		return STRM_OK;
+	--*count;
+	return *count > 0 ? STRM_OK : code;
+}
+
+/* Two pools of one id, on which the same calls were made, and their messages. */
+static struct strm_pool twins[2];
+static struct strm_msg held[2][LONGEST];
+
+/* Makes a call on several messages on one pool, and the single calls on the other. Returns how many were done. */
+static size_t burst(enum burst burst, size_t from, size_t length)
+{
+	size_t many = 77, counts = 77;
+	int code = together(burst, &twins[0], held[0] + from, length, &many);
+
+	ANSWERS(one_by_one(burst, &twins[1], held[1] + from, length, &counts), code);
+	CHECK(many == counts && memcmp(held[0], held[1], sizeof held[0]) == 0);
+	return many;
+}
+
+/* Whether calls report the same of both pools: blocks, queues with bands and run list. Takes the queues off the run list. */
+static int are_alike(void)
+{
+	struct strm_census census[2];
+	struct strm_queue_info info[2];
+	struct strm_band_info band[2];
+	struct strm_class_info class[2];
+	uint32_t next[2], fewest[2], i, k;
+
+	for (k = 0; k < 2; k++) {
+		ANSWERS(strm_census(&twins[k], &census[k]), STRM_OK);
+		ANSWERS(strm_least_free_blocks(&twins[k], &fewest[k]), STRM_OK);
+		ANSWERS(strm_queue_info(&twins[k], 2, &info[k]), STRM_OK);
+	}
+	if (memcmp(&census[0], &census[1], sizeof census[0]) != 0 || fewest[0] != fewest[1] || memcmp(&info[0], &info[1], sizeof info[0]) != 0)
+		return 0;
+	for (i = 0; i < 9; i++) {
+		for (k = 0; k < 2; k++)
+			ANSWERS(strm_band_info(&twins[k], 2, i, &band[k]), STRM_OK);
+		if (memcmp(&band[0], &band[1], sizeof band[0]) != 0)
+			return 0;
+	}
+	for (i = 0; i < 3; i++) {
+		for (k = 0; k < 2; k++)
+			ANSWERS(strm_class_info(&twins[k], i, &class[k]), STRM_OK);
+		if (memcmp(&class[0], &class[1], sizeof class[0]) != 0)
+			return 0;
+	}
+	while (strm_next_service(&twins[0], &next[0]) == STRM_OK)
+		if (strm_next_service(&twins[1], &next[1]) != STRM_OK || next[0] != next[1])
+			return 0;
+	return strm_next_service(&twins[1], &next[1]) == STRM_NONE;
+}
+
+/* Gives messages ranks and bytes: runs of equal ranks, longer and longer, and now and then high priority. */
+static void dress(size_t count, uint32_t run)
+{
+	size_t i;
+	int k;
+
+	for (i = 0; i < count; i++)
+		for (k = 0; k < 2; k++) {
+			ANSWERS(strm_setband(&twins[k], held[k][i], (uint32_t)(i / run * 7 % 9)), STRM_OK);
+			ANSWERS(strm_write(&twins[k], held[k][i], 0, (const uint8_t *)"bytes", i % 6), STRM_OK);
+			if (i % 23 == 22)
+				ANSWERS(strm_settype(&twins[k], held[k][i], 0, STRM_M_PCPROTO), STRM_OK);
+		}
+}
+
+/* Asks queue 0 of both whether each band has room at queue 2: those that have none are wanted there. */
+static void want(void)
+{
+	uint32_t band, yes, k;
+
+	for (band = 0; band < 9; band++)
+		for (k = 0; k < 2; k++)
+			ANSWERS(strm_bcanput(&twins[k], 0, band, &yes), STRM_OK);
+}
+
+/* Bursts of each length do what as many single calls do on a twin of the pool. */
+static void test_bursts(void)
+{
+	static const struct strm_class_spec three[] = { { 5, 120 }, { 16, 80 }, { 64, 150 } };
+	static const struct strm_queue_spec chain[] = { { 10, 4, 1, 1 }, { 10, 4, 0, 2 }, { 60, 20, 1, STRM_NO_QUEUE } };
+	struct strm_config config = config_of(LONGEST - 1);
+	size_t length, count, put, got;
+	int k;
+
+	config.classes = three;
+	config.class_count = 3;
+	config.queues = chain;
+	memset(held, 0, sizeof held);
+	for (k = 0; k < 2; k++) {
+		memset(&twins[k], 0, sizeof twins[k]);
+		ANSWERS(strm_open(&twins[k], &config), STRM_OK);
+	}
+	for (length = 0; length <= LONGEST; length++) {
+		count = burst(ALLOCATES, 0, length);
+		CHECK(count == (length < LONGEST ? length : LONGEST - 1));
+		dress(count, 1 + (uint32_t)length / 20);
+		put = burst(PUTS, 0, count / 2);
+		want();
+		put += burst(PUTS, put, count - put);
+		CHECK(put == count && are_alike());
+		want();
+		got = burst(TAKES, 0, length - length / 3);
+		CHECK(are_alike());
+		got += burst(TAKES, got, length - got);
+		CHECK(got == count && are_alike());
+		/* a name in the middle is not valid any more */
+		if (count > 2 && length % 4 == 0) {
+			ANSWERS(burst(FREES, count / 2, 1) == 1 ? STRM_OK : STRM_INVALID, STRM_OK);
+			CHECK(burst(FREES, 0, count) == count / 2);
+			CHECK(burst(FREES, count / 2 + 1, count - count / 2 - 1) == count - count / 2 - 1);
+		} else
+			CHECK(burst(FREES, 0, count) == count);
+		CHECK(are_alike());
+	}
+	for (k = 0; k < 2; k++)
+		ANSWERS(strm_close(&twins[k]), STRM_OK);
+}
+
 /* A queue with exactly as many messages as are asked for has no want-to-read mark afterwards; one with fewer has it. */
 static void test_all_of_a_queue(void)
 {
@@ -1799,6 +1955,7 @@ int main(void)
 	test_looks_at_queues();
 	test_report();
 	test_several();
+	test_bursts();
 	test_all_of_a_queue();
 	test_specs();
 	test_flush();

@@ -1,9 +1,10 @@
 -- Calls that alter a block.
-use Rattle.std.proofs.Common.{◌≡◌, ℕ, ◌+◌, ◌^◌, ◌<◌, ◌≤◌, List, length, Option, None, Ok, Some, refl, ap, ◌∙◌, arith, set, sym, subst, get_or-set_same, ◌-◌, Bool, true, false, ◌&&◌, ◌||◌, [], ◌∷◌, ◌++◌, drop, take, get_or, inl, inr, get_or-set_other}
+use Rattle.std.proofs.Common.{◌≡◌, ℕ, ◌+◌, ◌^◌, ◌<◌, ◌≤◌, List, length, Option, None, Ok, Some, refl, ap, ◌∙◌, arith, set, sym, subst, get_or-set_same, ◌-◌, Bool, true, false, ◌&&◌, ◌||◌, [], ◌∷◌, ◌++◌, drop, take, inl, inr, get_or-set_other}
 use Rattle.std.specs.Prelude.{ok_or, slice_get, ◌⊎◌, count_by, min, nat_lt}
 use Rattle.std.proofs.lemmas.Option.{same_Some}
 use Rattle.std.proofs.lemmas.Bool.{cases_eq, cases_lt, false≢true, lt-ltb}
-use Rattle.std.proofs.lemmas.List.{length-drop, set_past, take-append-drop}
+use Rattle.std.proofs.Math.Seq.{drop-nil, take-nil}
+use Rattle.std.proofs.lemmas.List.{length-drop, set-get_or, take-append-drop}
 use Rattle.std.proofs.Math.Nat.{min-le_left, min-le_right}
 use Rattle.strm_data.specs.declared.refusal.Refusal.TheVariants.{NoSuchBlock}
 use Rattle.strm_data.specs.DataStore.{capacity_of, DataStore, data_block_at, no_data_block, with_bytes_written}
@@ -112,17 +113,27 @@ module _ (m : Message) (k : ℕ) (b : Block) (is : slice_get m k ≡ Some b) whe
 -- ---- data blocks that stay
 
 -- where nothing is written nothing changes
-written_nothing : (s : DataStore) (d p : ℕ) → data_block_at (with_bytes_written d p [] s) d ≡ data_block_at s d
-written_nothing s d p =
-    elim (cases_lt d (length s.blocks)) [
-      | inl there ↦ get_or-set_same s.blocks d _ no_data_block there ∙ ap (λ bytes. record (data_block_at s d) { bytes = bytes }) same
-      | inr past ↦ ap (λ xs. get_or xs d no_data_block) (set_past s.blocks d _ past)
-    ]
-  where
-    same : take p (data_block_at s d).bytes ++ drop (p + 0) (data_block_at s d).bytes ≡ (data_block_at s d).bytes
-    same =
-        let start : p + 0 ≡ p = omega arith in
-        ap (λ n. take p (data_block_at s d).bytes ++ drop n (data_block_at s d).bytes) start ∙ take-append-drop p (data_block_at s d).bytes
+unwritten : (s : DataStore) (d p : ℕ) → with_bytes_written d p [] s ≡ s
+unwritten s d p =
+    let b = data_block_at s d in
+    let start : p + 0 ≡ p = omega arith in
+    let same : take p b.bytes ++ drop (p + 0) b.bytes ≡ b.bytes = ap (λ n. take p b.bytes ++ drop n b.bytes) start ∙ take-append-drop p b.bytes in
+    ap (λ bytes. record s { blocks = set s.blocks d (record b { bytes = bytes }) }) same ∙ ap (λ xs. record s { blocks = xs }) (set-get_or s.blocks d no_data_block)
+
+pub overwritten_nothing : (at : ℕ) (m : Message) (s : DataStore) → store_overwritten at [] m s ≡ s
+overwritten_nothing at [] s = refl
+overwritten_nothing at (b ∷ bs) s =
+    let n = bytes_within at 0 b in
+    (λ i. store_overwritten (at - b.len) (drop-nil n i) bs (with_bytes_written b.data_number (b.offset + min at b.len) (take-nil n i) s))
+    ∙ ap (store_overwritten (at - b.len) [] bs) (unwritten s b.data_number (b.offset + min at b.len))
+    ∙ overwritten_nothing (at - b.len) bs s
+
+-- and no data block is touched
+pub touches_nothing : (a : Arena) (at : ℕ) (m : Message) → touches_shared a at 0 m ≡ false
+touches_nothing a at [] = refl
+touches_nothing a at (b ∷ bs) =
+    let none : bytes_within at 0 b ≡ 0 = omega (arith, min-le_left 0 (b.len - at)) in
+    ap (λ n. (nat_lt 0 n && nat_lt 1 (references_to a b.data_number)) || touches_shared a (at - b.len) (0 - n) bs) none ∙ touches_nothing a (at - b.len) bs
 
 either : (b c : Bool) → (b || c) ≡ false → (b ≡ false) × (c ≡ false)
 either true c is = absurd cc
@@ -164,7 +175,7 @@ other_stays a d at bytes (b ∷ bs) s none why =
     here n few (inl same) =
         let nothing = none_here n (references_to a b.data_number) few (subst (λ e. 1 < references_to a e) (sym same) (used same why)) in
         subst (λ e. data_block_at (with_bytes_written e (b.offset + min at b.len) (take n bytes) s) d ≡ data_block_at s d) (sym same)
-        (ap (λ k. data_block_at (with_bytes_written d (b.offset + min at b.len) (take k bytes) s) d) nothing ∙ written_nothing s d (b.offset + min at b.len))
+        (ap (λ k. data_block_at (with_bytes_written d (b.offset + min at b.len) (take k bytes) s) d) nothing ∙ ap (λ x. data_block_at x d) (unwritten s d (b.offset + min at b.len)))
 
 -- what a call leaves that writes over bytes of the message held at h
 module _ (a : Arena) (h : ℕ) (m : Message) (is : held_at a h ≡ Some m) (at : ℕ) (bytes : List ℕ) (none : touches_shared a at (length bytes) m ≡ false) where

@@ -7,7 +7,7 @@ use Rattle.std.specs.Option.{IfSome, unwrap_or}
 use Rattle.std.proofs.lemmas.Option.{same_Some, none-some}
 use Rattle.std.proofs.lemmas.Bool.Decides.{eqb_tells}
 use Rattle.std.proofs.lemmas.Bool.{cases_lt}
-use Rattle.std.proofs.lemmas.List.{append-nil, drop-drop, drop-take, drop_all, length-drop, take-take, drop_at, drop_min, length-take-le, take-append-drop, take_at, take_min}
+use Rattle.std.proofs.lemmas.List.{append-nil, drop-drop, drop-take, drop_all, length-drop, nil_from_length, take-take, drop_at, drop_min, length-take-le, take-append-drop, take_at, take_min}
 use Rattle.std.proofs.Math.Nat.{min_comm}
 use Rattle.std.proofs.Math.Seq.{drop-append-add, drop-nil, take-append-add, take-nil}
 use Rattle.strm_links.proofs.lists.Counting.{one_if, times-cons, times_here}
@@ -164,6 +164,11 @@ got_behind [] (suc n) d = refl
 got_behind (x ∷ xs) zero d = let same : d ≡ 0 + d = omega arith in ap (slice_get (x ∷ xs)) same
 got_behind (x ∷ xs) (suc n) d = let next : suc (n + d) ≡ suc n + d = omega arith in got_behind xs n d ∙ ap (slice_get (x ∷ xs)) next
 
+-- a list of one item
+pub one_item : {X : Type 0} (xs : List X) (x : X) → slice_get xs 0 ≡ Some x → length xs ≡ 1 → xs ≡ x ∷ []
+one_item [] x is long = absurd (omega (arith, long))
+one_item (y ∷ ys) x is long = ap (λ zs. y ∷ zs) (nil_from_length ys (omega (arith, long))) ∙ ap (λ z. z ∷ []) (same_Some y x is)
+
 -- ==== lists laid over the front of another, as far as there is room for them; and laid there piece by piece
 
 -- a list once another is laid over its front
@@ -226,3 +231,14 @@ laid_on all ps rest old now new done n laid count is =
 -- all is laid there
 pub laid_all : {X : Type 0} (all rest old now : List X) (done : ℕ) → rest ≡ [] → IsLaid all rest old now done → (done ≡ min (length old) (length all)) × (now ≡ take done all ++ drop done old)
 laid_all all rest old now done none laid = grind (arith, common_steps, take-append-drop, overlaid-nil, overlaid_min)
+
+-- where there is no more room, nothing more is laid there
+pub laid_full : {X : Type 0} (all rest old now : List X) (done : ℕ) → done ≡ length now → IsLaid all rest old now done → IsLaid all [] old now done
+laid_full all rest old now done full laid =
+    let past : drop done now ≡ [] = drop_all done now (omega (arith, full)) in
+    let nothing : overlaid rest [] ≡ [] = drop-nil (length rest) in
+    record {
+      within = laid.within;
+      list = ap (λ xs. take done now ++ overlaid [] xs) past ∙ sym (ap (λ xs. take done now ++ overlaid rest xs) past ∙ ap (λ xs. take done now ++ xs) nothing) ∙ laid.list;
+      count = omega (arith, full, laid.count);
+    }

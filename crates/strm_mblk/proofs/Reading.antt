@@ -1,8 +1,7 @@
 -- Calls that read.
 use Rattle.std.proofs.Common.{◌≡◌, ℕ, suc, ◌+◌, ◌-◌, ◌<◌, ◌≤◌, List, [], ◌∷◌, ◌++◌, length, take, drop, true, Some, None, refl, sym, ap, ◌∙◌, inl, inr, arith, length-append, ◌*◌, ◌^◌, Bool, false}
 use Rattle.std.specs.Prelude.{min, slice_get, sum_by, ◌||◌, if◌then◌else◌}
-use Rattle.std.proofs.Math.Seq.{drop-nil}
-use Rattle.std.proofs.lemmas.List.{drop_all, get_or_past, length-drop, length-map}
+use Rattle.std.proofs.lemmas.List.{append-nil, drop_all, get_or_past, length-drop, length-map}
 use Rattle.std.proofs.lemmas.Bool.{cases_lt}
 use Rattle.std.proofs.lemmas.List.Sums.{sum_by-append}
 use Rattle.std.proofs.lemmas.Option.{none-some, same_Some}
@@ -79,10 +78,18 @@ sized s fields placed (n ∷ ns) =
           | inr past ↦ let none = get_or_past fields n no_fields past in ap (λ (f : Fields). length (bytes_of_block s (block_of n f))) none ∙ sym (ap (λ (f : Fields). f.len) none)
         ]
 
--- once the bytes of a message from a place on are laid there block by block, they are read
-pub read_all : (s : DataStore) (m : Message) → length (bytes_of s m) ≡ size_of m → (at skip k done : ℕ) (old now : List ℕ) → drop k m ≡ [] → IsLaid (drop at (bytes_of s m)) (drop skip (bytes_of s (drop k m))) old now done
-    → IsRead s m at old now done
-read_all s m many at skip k done old now none laid = grind (arith, common_steps, laid_all, drop-nil, length-drop)
+-- once the bytes of a message from a place on are laid there, they are read
+pub read_all : (s : DataStore) (m : Message) → length (bytes_of s m) ≡ size_of m → (at done : ℕ) (rest old now : List ℕ) → rest ≡ [] → IsLaid (drop at (bytes_of s m)) rest old now done → IsRead s m at old now done
+read_all s m many at done rest old now none laid = grind (arith, common_steps, laid_all, length-drop)
+
+-- once those of its only block are, too
+pub read_one : (s : DataStore) (b : Block) (at count : ℕ) (old now : List ℕ) → count ≡ min (length old) (b.len - at) → now ≡ take count (drop at (bytes_of_block s b)) ++ drop count old → IsRead s (b ∷ []) at old now count
+read_one s b at count old now counted is =
+    let size : b.len ≡ size_of (b ∷ []) = omega arith in
+    record {
+      count = counted ∙ ap (λ n. min (length old) (n - at)) size;
+      bytes = is ∙ ap (λ bs. take count (drop at bs) ++ drop count old) (sym (append-nil (bytes_of_block s b)));
+    }
 
 module _ (id : ℕ) (s : CountedStore) (fields : List Fields) (v : NodeLists) (filled : IsFilled s fields v (arena_of id s.store fields v)) (a : Arena) (is : arena_of id s.store fields v ≡ a) (t : TokenValue) (had : has a t ≡ true) where
   -- each block of a held message has as many bytes as it says

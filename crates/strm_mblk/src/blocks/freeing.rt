@@ -6,7 +6,7 @@ ghost use Rattle.strm_mblk.specs.Arena.{has};
 ghost use Rattle.strm_mblk.specs.BlockCalls as model;
 ghost use Rattle.strm_mblk.specs.BlocksLayout.{fields_at, data_used_by, with_references_dropped};
 ghost use Rattle.strm_mblk.specs.Calls.{Frees, Spends, itself};
-ghost use Rattle.strm_mblk.specs.Freeing.{with_token_spent};
+ghost use Rattle.strm_mblk.specs.Freeing.{freemsg, with_token_spent};
 ghost use Rattle.strm_mblk.specs.NodeLists.{nodes_at};
 
 use super::{Blocks, Fields};
@@ -55,18 +55,28 @@ impl Blocks {
     pub fn freemsg(&mut self, token: Token)
         ensures { Spends itself token (with_token_spent self.old token) self.old self.new }
     {
-        let has = self.has(&token);
-        let token = token.spend();
-        if has {
-            drop_references(
-                &self.chains,
-                &self.blocks,
-                &mut self.data,
-                token.head,
-                token.blocks,
-            );
-            self.chains.free(token.head);
+        if self.has(&token) {
+            self.free_held(token);
+        } else {
+            token.forget();
         }
+    }
+
+    /// Frees a message as [`Blocks::freemsg`] does, where these blocks have its token. That saves the test.
+    #[inline(always)]
+    pub fn free_held(&mut self, token: Token)
+        requires { IsTrue (has self.old token) }
+        ensures { Spends itself token (freemsg token.head self.old) self.old self.new }
+    {
+        let token = token.spend();
+        drop_references(
+            &self.chains,
+            &self.blocks,
+            &mut self.data,
+            token.head,
+            token.blocks,
+        );
+        self.chains.free(token.head);
     }
 
     /// Frees the first block of a message, to the front of the free list. If its data block loses its last reference, it

@@ -1,8 +1,9 @@
 //! Bytes of a held message are overwritten in place, across its blocks.
-ghost use Rattle.std.specs.Prelude.{◌≡◌, ◌<◌, ℕ, IsTrue, Some, length, slice_get};
+ghost use Rattle.std.specs.Prelude.{◌≡◌, ◌<◌, ℕ, IsTrue, Some, length, nat_lt, slice_get};
 ghost use Rattle.strm_data.specs.CountedStore.{IsKept};
 ghost use Rattle.strm_data.specs.DataStore.{capacity_of};
 ghost use Rattle.strm_mblk.specs.Arena.{has, message_at};
+ghost use Rattle.strm_mblk.specs.Block.{size_of};
 ghost use Rattle.strm_mblk.specs.BlocksLayout.{IsPlaced, fields_at, message_of};
 ghost use Rattle.strm_mblk.specs.Calls.{Alters, itself};
 ghost use Rattle.strm_mblk.specs.InPlace as model;
@@ -40,6 +41,9 @@ fn overwrite_blocks(
     let mut rest = bytes;
     let mut node = head;
     for _block in 0..count {
+        if rest.len() == 0 {
+            return;
+        }
         let fields = blocks[node as usize];
         let here = rest.len().min(fields.len.saturating_sub(skip) as usize);
         let (now, behind) = rest.split_at(here);
@@ -55,6 +59,24 @@ fn overwrite_blocks(
 }
 
 impl Blocks {
+    // Whether a message has fewer bytes than this. Takes a step for each block up to the one that has the last of so many.
+    fn is_shorter(&self, token: &Token, count: usize) -> bool
+        requires { IsTrue (has self.now token.now) }
+        ensures { result ≡ nat_lt (size_of (message_at self.now token.now.head)) count }
+    {
+        let mut left = count;
+        let mut node = token.head();
+        for _block in 0..token.blocks() {
+            let len = self.blocks[node as usize].len as usize;
+            if left <= len {
+                return false;
+            }
+            left -= len;
+            node = self.chains.onward(node);
+        }
+        left > 0
+    }
+
     // Whether one of `count` bytes of a message, from place `at` on, is in a data block that another block uses.
     fn touches_shared(&self, token: &Token, at: u32, count: usize) -> bool
         requires { IsTrue (has self.now token.now) }
@@ -64,6 +86,9 @@ impl Blocks {
         let mut left = count;
         let mut node = token.head();
         for _block in 0..token.blocks() {
+            if left == 0 {
+                return false;
+            }
             let fields = self.blocks[node as usize];
             let here = left.min(fields.len.saturating_sub(skip) as usize);
             if here > 0 && self.data.count(fields.data_number) > 1 {
@@ -81,15 +106,14 @@ impl Blocks {
     ///
     /// Refused as `Short` if `at` and the number of bytes to write are together more than the message has. Then refused as
     /// `Shared` if another message block, also one of this message, refers to the data block of one of the bytes. On an
-    /// error nothing changes. Takes at most three steps for each block, and a copy of the bytes. In STREAMS, modules do this
-    /// by hand (`b_rptr`, `b_cont`).
+    /// error nothing changes. Takes at most three steps for each block up to the last one that is written, and a copy of the
+    /// bytes. In STREAMS, modules do this by hand (`b_rptr`, `b_cont`).
     pub fn overwrite(&mut self, token: &Token, at: u32, bytes: &[u8]) -> Result<(), Refusal>
         requires { IsTrue (has self.old token.now) }
         ensures { Alters itself token.now token.now (model.overwrite token.now.head at bytes.now self.old)
             self.old self.new result }
     {
-        let size = self.size(token);
-        if at > size || bytes.len() > (size - at) as usize {
+        if self.is_shorter(token, at as usize + bytes.len()) {
             return Err(Refusal::Short);
         }
         if self.touches_shared(token, at, bytes.len()) {

@@ -65,8 +65,32 @@ fn read_block(stored: &Data, fields: Fields, at: u32, into: &mut [u8]) -> usize
 }
 
 // Copies the bytes of a message from place `at` on into `into`, as far as both reach, and returns their number. Takes a
-// step and at most one slice copy for each block.
+// step and at most one slice copy for each block up to the last one that is read.
+// Most messages have one block, for which no loop runs.
 pub(super) fn read_bytes(
+    strands: &Strands,
+    blocks: &[Fields],
+    stored: &Data,
+    head: u32,
+    at: u32,
+    into: &mut [u8],
+) -> usize
+    requires { IsReadable strands.now blocks.now stored.now head }
+    ensures count { result ≡ min (length into.old)
+        (size_of (message_of blocks.now (strand_at strands.now head)) - at) }
+    ensures bytes { into.new ≡ take result
+        (drop at (bytes_of stored.now.store (message_of blocks.now (strand_at strands.now head))))
+        ++ drop result into.old }
+{
+    if strands.len(head) == 1 {
+        return read_block(stored, blocks[head as usize], at, into);
+    }
+    read_across(strands, blocks, stored, head, at, into)
+}
+
+// Does what `read_bytes` does, block by block.
+#[inline(never)]
+fn read_across(
     strands: &Strands,
     blocks: &[Fields],
     stored: &Data,
@@ -85,6 +109,9 @@ pub(super) fn read_bytes(
     let mut done = 0;
     let mut node = head;
     for _block in 0..strands.len(head) {
+        if done == into.len() {
+            return done;
+        }
         let fields = blocks[node as usize];
         done += read_block(stored, fields, skip, &mut into[done..]);
         skip = skip.saturating_sub(fields.len);
@@ -127,7 +154,7 @@ impl Blocks {
 
     /// Copies the bytes of a message from place `at` on into `into`, as far as both reach, and returns their number.
     /// Places count over all blocks. The rest of `into` stays unchanged, and nothing else changes. Takes a step and at
-    /// most one slice copy for each block.
+    /// most one slice copy for each block up to the last one that is read.
     pub fn read(&self, token: &Token, at: u32, into: &mut [u8]) -> usize
         requires { IsTrue (has self.now token.now) }
         ensures count { result ≡ min (length into.old) (size_of (message_at self.now token.now.head) - at) }

@@ -1,8 +1,7 @@
-use Rattle.std.proofs.Common.{◌≡◌, ◌+◌, ◌≤◌, true, false, [], ◌∷◌, length, Ok, Some, sym, ap, ◌∙◌, subst, arith}
-use Rattle.std.proofs.lemmas.Bool.{cond-false, le-ltb}
+use Rattle.std.proofs.Common.{◌≡◌, true, false, [], ◌∷◌, length, Ok, Some, sym, ap, ◌∙◌, subst}
+use Rattle.std.proofs.lemmas.Bool.{cond-false}
 use Rattle.strm_data.specs.CountedStore.{CountedStore}
 use Rattle.strm_mblk.specs.Arena.{Arena, has, held_at, message_at}
-use Rattle.strm_mblk.specs.Block.{size_of}
 use Rattle.strm_mblk.specs.BlocksLayout.{arena_of, message_of}
 use Rattle.strm_mblk.specs.InPlace.{overwrite, store_overwritten, touches_shared}
 use Rattle.strm_mblk.specs.Messages.{blocks_of}
@@ -31,7 +30,6 @@ returns c =
     let bytes = c.args.bytes.now in
     let message = had_message a c.args.token.now c.requires in
     let held : held_at a h ≡ Some m = message.1.held ∙ ap Some (sym (ap blocks_of message.1.held)) in
-    let small : c.args.at + length bytes ≤ size_of m = omega (arith, c.if-at-size.false, c.if-bytes-size.false, c.size-size.ensures) in
     let none : touches_shared a c.args.at (length bytes) m ≡ false = sym c.touches_shared.ensures ∙ c.if-touches_shared.false in
     let now : arena_of c.self.inside.id c.overwrite_blocks.new.stored.store c.self.inside.blocks.items c.self.inside.chains ≡ record a { store = store_overwritten c.args.at bytes m a.store } =
     ap (λ (s : CountedStore). arena_of c.self.inside.id s.store c.self.inside.blocks.items c.self.inside.chains) c.overwrite_blocks.ensures.after
@@ -39,6 +37,6 @@ returns c =
     ∙ (λ i. arena_of c.self.inside.id (store_overwritten c.args.at bytes (sym (message_at-seen c.self.inside.id c.self.inside.data.store c.self.inside.blocks.items c.self.inside.chains h) i) c.self.inside.data.store) c.self.inside.blocks.items c.self.inside.chains)
     ∙ ap (λ (x : Arena). record x { store = store_overwritten c.args.at bytes (message_at x h) x.store }) c.self.view_is in
     alters_to a _ c.args.token.now (overwrite h c.args.at bytes a) tt
-    (cond-false _ _ _ (le-ltb _ _ small) ∙ cond-false _ _ _ none ∙ ap (λ (x : Arena). Ok (tt, x)) (sym now))
+    (cond-false _ _ _ (sym c.is_shorter.ensures ∙ c.if-is_shorter.false) ∙ cond-false _ _ _ none ∙ ap (λ (x : Arena). Ok (tt, x)) (sym now))
     (subst (λ x. has x c.args.token.now ≡ true) (sym now) c.requires)
     (subst (Leaves (h ∷ []) a) (sym now) (leaves_overwritten a h m held c.args.at bytes none))

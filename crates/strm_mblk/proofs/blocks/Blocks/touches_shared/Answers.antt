@@ -8,7 +8,7 @@ use Rattle.strm_mblk.specs.Arena.{message_at, references_to}
 use Rattle.strm_mblk.specs.BlocksLayout.{block_at, fields_at, no_fields}
 use Rattle.strm_mblk.specs.InPlace.{bytes_within, touches_shared}
 use Rattle.strm_mblk.specs.NodeLists.{nodes_at}
-use Rattle.strm_mblk.proofs.Altering.{and_false, touches_next}
+use Rattle.strm_mblk.proofs.Altering.{and_false, touches_next, touches_nothing}
 use Rattle.strm_mblk.proofs.layout.Places.{IsAt, block_reached, reached_head}
 use Rattle.strm_mblk.proofs.Reading.{past_last}
 use Rattle.strm_mblk.proofs.blocks.Blocks.touches_shared.Goals.{else-here-gt0-via-then-here-gt0+else-count-gt1, else-here-gt0-via-else-here-gt0, In-loop-block, After-min-here}
@@ -28,7 +28,7 @@ is_at c =
     c.args.token.now refl c.requires c.loop-block.node c.loop-block.invariant.at (omega (arith, c.loop-block-test.true, c.blocks-block-end.ensures))
 
 pub index-fields-requires : goal.index-fields-requires
-index-fields-requires c = omega (arith, (is_at c).there, c.self.inside.blocks.ok.0)
+index-fields-requires c = omega (arith, (is_at (goal.at.index-fields-requires c).In-loop-block).there, c.self.inside.blocks.ok.0)
 
 module _ (c : After-min-here) (at : IsAt c.self.inside.data c.self.inside.blocks.items c.self.inside.chains c.args.self.now c.args.token.now.head c.loop-block._block c.loop-block.node (nodes_at c.self.inside.chains c.args.token.now.head)) where
   read : c.index-fields.result.now ≡ fields_at c.self.inside.blocks.items c.loop-block.node
@@ -47,6 +47,11 @@ module _ (c : After-min-here) (at : IsAt c.self.inside.data c.self.inside.blocks
       ∙ ap (λ n. (nat_lt 0 n && nat_lt 1 (references_to c.args.self.now (fields_at c.self.inside.blocks.items c.loop-block.node).data_number))
       || touches_shared c.args.self.now (c.loop-block.skip - (fields_at c.self.inside.blocks.items c.loop-block.node).len) (c.loop-block.left - n) (drop (c.loop-block._block + 1) (message_at c.args.self.now c.args.token.now.head)))
       (sym here)
+
+pub returns-then-left-eq0 : goal.returns-then-left-eq0
+returns-then-left-eq0 c =
+    let behind = drop c.loop-block._block (message_at c.args.self.now c.args.token.now.head) in
+    sym (c.loop-block.invariant.rest ∙ ap (λ n. touches_shared c.args.self.now c.loop-block.skip n behind) c.if-left-eq0.true ∙ touches_nothing c.args.self.now c.loop-block.skip behind)
 
 pub count-requires : goal.count-requires
 count-requires c =

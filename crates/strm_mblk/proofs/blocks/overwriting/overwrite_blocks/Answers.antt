@@ -1,6 +1,6 @@
 use Rattle.std.proofs.Common.{◌≡◌, ◌+◌, ◌<◌, ◌≤◌, [], Some, drop, length, take, refl, sym, ap, ◌∙◌, arith, subst}
 use Rattle.std.specs.Prelude.{min, option_map, slice_get}
-use Rattle.std.proofs.lemmas.List.{drop_all, length-map}
+use Rattle.std.proofs.lemmas.List.{drop_all, length-map, nil_from_length}
 use Rattle.std.proofs.lemmas.Option.{slice_get-map}
 use Rattle.strm_data.specs.CountedStore.{CountedStore}
 use Rattle.strm_data.specs.DataStore.{capacity_of, with_bytes_written}
@@ -8,7 +8,7 @@ use Rattle.strm_mblk.specs.Block.{Message}
 use Rattle.strm_mblk.specs.BlocksLayout.{IsPlaced, block_at, fields_at, message_of}
 use Rattle.strm_mblk.specs.InPlace.{bytes_within, store_overwritten}
 use Rattle.strm_mblk.specs.NodeLists.{nodes_at}
-use Rattle.strm_mblk.proofs.Altering.{overwritten_next, written_within}
+use Rattle.strm_mblk.proofs.Altering.{overwritten_next, overwritten_nothing, written_within}
 use Rattle.strm_mblk.proofs.layout.Places.{nodes_room}
 use Rattle.std.proofs.Math.Nat.{min-le_right}
 use Rattle.strm_data.proofs.store.Kept.{capacity_range}
@@ -42,7 +42,15 @@ module _ (c : In-loop-block) where
   block = slice_get-map (block_at c.args.blocks.now) (nodes_at c.args.chains.now c.args.head) c.loop-block._block ∙ ap (option_map (block_at c.args.blocks.now)) at
 
 pub bounds-blocks-node : goal.bounds-blocks-node
-bounds-blocks-node c = there c
+bounds-blocks-node c = there (goal.at.bounds-blocks-node c).In-loop-block
+
+pub returns-then-rest-eq0-clause-after : goal.returns-then-rest-eq0-clause-after
+returns-then-rest-eq0-clause-after c =
+    let behind = drop c.loop-block._block (message_of c.args.blocks.now (nodes_at c.args.chains.now c.args.head)) in
+    let store = c.loop-block.invariant.rest
+    ∙ ap (λ bytes. store_overwritten c.loop-block.skip bytes behind c.loop-block.stored.store) (nil_from_length c.loop-block.rest.now c.if-rest-eq0.true)
+    ∙ overwritten_nothing c.loop-block.skip behind c.loop-block.stored.store in
+    λ i. record { store = sym store i; counts = c.loop-block.invariant.counts i }
 
 pub overflow_add-fields : goal.overflow_add-fields
 overflow_add-fields c =

@@ -4,7 +4,7 @@ use Rattle.strm_links.specs.StrandLists.{strand_at}
 use Rattle.strm_mblk.specs.Block.{bytes_of}
 use Rattle.strm_mblk.specs.BlocksLayout.{message_of}
 use Rattle.strm_mblk.proofs.Lists.{IsLaid}
-use Rattle.strm_mblk.proofs.blocks.reading.read_bytes.Given as goal
+use Rattle.strm_mblk.proofs.blocks.reading.read_across.Given as goal
 
 -- the block at this step, and the bytes so far, which with those to come are all
 abbrev pub invariant-loop-block : goal.invariant-loop-block
