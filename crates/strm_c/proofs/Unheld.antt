@@ -15,7 +15,7 @@ use Rattle.strm_mblk.specs.BlockCalls.{allocb, allocb_from, held_new}
 use Rattle.strm_mblk.specs.Messages.{blocks_of, blocks_on}
 use Rattle.strm_mblk.proofs.arena.Counts.{blocks_in_adds, times-all, head_counts, held_among, held_within, number_is}
 use Rattle.strm_queue.specs.QueueCalls.{get_first, getq, has_queue}
-use Rattle.strm_queue.proofs.shelf.Across.{some_here}
+use Rattle.strm_queue.proofs.Shelf.{some_here}
 use Rattle.strm_pool.specs.PoolValue.{PoolValue, on_arena, on_queues, queued_blocks_of}
 use Rattle.strm_pool.proofs.Tokens.{err_not_ok, same_ok, same_some, some_not_none}
 use Rattle.strm_named.specs.NamedCalls.{outcome_of}

@@ -1,4 +1,4 @@
 mod Constants
-pub mod lists
+pub mod Lists
 pub mod store
 mod layout

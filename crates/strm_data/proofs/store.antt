@@ -1,6 +1,4 @@
 -- What a contract sees: the classes, the data blocks and their counts.
 pub mod Lawful
-pub mod Fitting
 pub mod Kept
 pub mod Opening
-pub mod Least

@@ -1,9 +1,7 @@
 -- Chains in one arena: what each changing call of `Strands` leaves.
 pub mod Laid
-pub mod Opened
 pub mod Begun
 pub mod Joined
 pub mod Divided
 pub mod TakenOut
 pub mod Freed
-pub mod BehindFreed

@@ -3,4 +3,3 @@ pub mod OneList
 pub mod AllLists
 pub mod Counting
 pub mod ListLinks
-pub mod Chains

@@ -5,7 +5,7 @@ use Rattle.std.proofs.lemmas.List.{append-nil, drop_all, get_or_past, length-dro
 use Rattle.std.proofs.lemmas.Bool.{cases_lt}
 use Rattle.std.proofs.lemmas.List.Sums.{sum_by-append}
 use Rattle.std.proofs.lemmas.Option.{none-some, same_Some}
-use Rattle.strm_data.proofs.lists.Tables.{length-part}
+use Rattle.strm_data.proofs.Lists.{length-part}
 use Rattle.strm_data.specs.CountedStore.{CountedStore}
 use Rattle.strm_data.specs.DataStore.{DataStore, data_block_at}
 use Rattle.strm_data.specs.declared.msg_type.MsgType.TheVariants.{MData}

@@ -1,25 +1,51 @@
--- When a call on registers is a step: by what it does to the tokens of the registers that it names.
-use Rattle.std.proofs.Common.{◌≡◌, ℕ, ◌<◌, Bool, true, false, List, [], length, set, Option, Some, None, refl, sym, ap, ◌∙◌, subst, if◌then◌else◌}
+-- Registers of which tokens are taken, and when a call on registers is a step.
+use Rattle.std.proofs.Common.{◌≡◌, ℕ, zero, suc, true, List, [], ◌∷◌, set, Option, None, refl, ap, ◌∙◌, ◌<◌, Bool, false, length, Some, sym, subst, if◌then◌else◌}
+use Rattle.std.proofs.lemmas.Bool.{and_from, and_parts}
+use Rattle.std.proofs.lemmas.List.{set-set, set-get_or}
+use Rattle.std.specs.Option.{option_map_or}
 use Rattle.std.specs.Prelude.{option_map}
-use Rattle.std.proofs.lemmas.List.{set-get_or}
+use Rattle.strm_mblk.specs.declared.token.TokenValue.{TokenValue}
+use Rattle.strm_mblk.specs.Arena.{has, Arena, token_of}
 use Rattle.strm_data.specs.declared.refusal.Refusal.TheVariants.{NoSuchQueue}
 use Rattle.strm_links.specs.Rows.{IsApart}
-use Rattle.strm_links.specs.Rows as rows
-use Rattle.strm_mblk.specs.declared.token.TokenValue.{TokenValue}
-use Rattle.strm_mblk.specs.Arena.{Arena, has, token_of}
 use Rattle.strm_mblk.specs.Frame.{LeavesOthers}
 use Rattle.strm_mblk.proofs.arena.Counts.{had_is}
+use Rattle.strm_pool.specs.PoolValue.{PoolValue, owns}
+use Rattle.strm_pool.specs.Registers.{register, AreAccounted, AreDistinct, RegisterTable, entries_of, table_of}
 use Rattle.strm_pool.specs.declared.call.Call.{Call}
 use Rattle.strm_pool.specs.declared.reply.Reply.{Reply}
 use Rattle.strm_pool.specs.declared.reply.Reply.TheVariants.{Empty, Taken, Refused}
 use Rattle.strm_pool.specs.Names.{registers_in}
-use Rattle.strm_pool.specs.PoolValue.{PoolValue, owns}
-use Rattle.strm_pool.specs.Registers.{AreAccounted, AreDistinct, RegisterTable, entries_of, register, table_of}
 use Rattle.strm_pool.specs.Shapes.{IsReady, refusal_of}
 use Rattle.strm_pool.specs.Step.{Applies, act, is_named, is_taken, misses_queue, misses_token, names_of, replying, step}
+use Rattle.strm_pool.proofs.Tokens.{cleared, Each, Moves, same_some}
 use Rattle.strm_pool.proofs.Accounts.{Balanced, accounted_balanced, accounted_distinct, owned_balanced, owned_token, table-at}
 use Rattle.strm_pool.proofs.Moved.{Changes, moves_balanced, moves_had, news, olds, registers_of, with_new, with_other, with_tokens}
-use Rattle.strm_pool.proofs.Tokens.{Each, Moves, same_some}
+use Rattle.strm_links.specs.Rows as rows
+
+-- ---- registers from which tokens are taken, and into which they are put
+
+-- a pool owns registers that hold a token less
+pub owns_less : (v : PoolValue) (rs : List (Option TokenValue)) (x : ℕ) → owns v rs ≡ true → owns v (set rs x None) ≡ true
+owns_less v [] x owned = refl
+owns_less v (r ∷ rs) zero owned = (and_parts _ _ owned).1
+owns_less v (r ∷ rs) (suc x) owned =
+    let parts = and_parts (option_map_or (has v.arena) r true) (owns v rs) owned in
+    and_from _ _ parts.0 (owns_less v rs x parts.1)
+
+-- two registers from which tokens are taken hold none
+pub emptied : (rs : List (Option TokenValue)) (x y : ℕ) → register (set (set rs x None) y None) x ≡ None
+emptied [] x y = refl
+emptied (r ∷ rs) zero zero = refl
+emptied (r ∷ rs) zero (suc y) = refl
+emptied (r ∷ rs) (suc x) zero = cleared rs x
+emptied (r ∷ rs) (suc x) (suc y) = emptied rs x y
+
+-- a token is put back into the register that it was taken from
+pub put_in_place : (rs : List (Option TokenValue)) (x : ℕ) (o : Option TokenValue) {ss us : List (Option TokenValue)} → us ≡ set ss x o → ss ≡ set rs x None → us ≡ set rs x o
+put_in_place rs x o is empty = is ∙ ap (λ (l : List (Option TokenValue)). set l x o) empty ∙ set-set rs x None o
+
+-- ---- when a call on registers is a step: by what it does to the tokens of the registers that it names
 
 -- which of three tests comes first
 first_of : {X Y : Type 0} (f : X → Y) (one two three : Bool) (x y z : X) (rest : Y) {w : X} → (if one then Some x else (if two then Some y else (if three then Some z else None))) ≡ Some w

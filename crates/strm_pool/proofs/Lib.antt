@@ -1,11 +1,8 @@
 mod Constants
 mod OnParts
-mod Reading
+mod Replays
 pub mod Accounts
 pub mod Tokens
 mod Moved
 mod Applied
 mod Shaped
-mod Wishing
-mod Acting
-pub mod Replays

@@ -13,7 +13,7 @@ use Rattle.strm_mblk.proofs.arena.Frame.{leaves_same}
 use Rattle.strm_queue.specs.Taking.{AreHanded, Hands, heads_taken}
 use Rattle.strm_queue.specs.QueuedBlocks as on
 use Rattle.strm_queue.specs.QueuedBlocks.{Agrees, QueuedBlocks, QueuesValue}
-use Rattle.strm_queue.proofs.agreeing.Agreeing.{agrees_left}
+use Rattle.strm_queue.proofs.Agreeing.{agrees_left}
 use Rattle.strm_pool.specs.PoolValue.{PoolValue, arena, on_arena, on_queues, queued_blocks_of, with_token_spent, with_arena, with_queued}
 
 -- ---- on message blocks

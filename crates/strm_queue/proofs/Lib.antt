@@ -1,10 +1,10 @@
 mod Constants
 pub mod Lists
 pub mod bands
-pub mod shelf
+pub mod Shelf
 pub mod order
-mod counting
-pub mod layout
-pub mod agreeing
-pub mod flow
+mod Counting
+pub mod Laid
+pub mod Agreeing
+pub mod Flow
 mod moving

@@ -1,4 +1,3 @@
 -- Sets of bands, stored as the bits of four words.
-pub mod Bits
-pub mod Bands
 pub mod Used
+pub mod Bands

@@ -1,6 +1,4 @@
 -- Ranks of messages, priority order, and the place of a message by its rank.
-pub mod Ranks
 pub mod Order
 pub mod Ends
 pub mod Places
-pub mod Fits

@@ -175,7 +175,7 @@ impl BandSet {
 }
 
 // The place of the lowest 1 of a word from this place on, if any.
-#[tactic(auto, using(crate::proofs::bands::Bits::none_from))]
+#[tactic(auto, using(crate::proofs::bands::Used::none_from))]
 fn lowest_from(word: u64, place: u8) -> Option<u8>
     requires { place < 64 }
     ensures some { IfSome result (λ found. IsLowestFrom word place found) }
@@ -189,7 +189,7 @@ fn lowest_from(word: u64, place: u8) -> Option<u8>
 }
 
 // The place of the highest 1 of a word up to this place, if any.
-#[tactic(auto, using(crate::proofs::bands::Bits::none_up_to, crate::proofs::bands::Bits::zeros_up_to))]
+#[tactic(auto, using(crate::proofs::bands::Used::none_up_to, crate::proofs::bands::Used::zeros_up_to))]
 fn highest_to(word: u64, place: u8) -> Option<u8>
     requires { place < 64 }
     ensures some { IfSome result (λ found. IsHighestTo word place found) }

@@ -221,7 +221,7 @@ impl Queues {
     }
 
     /// Law: queues that agree with message blocks are in priority order, and what is stored of them is true. Does nothing.
-    #[tactic(auto, using(crate::proofs::layout::Running::run_short))]
+    #[tactic(auto, using(crate::proofs::Laid::run_short))]
     pub fn lawful(&self, blocks: &Blocks)
         requires { Agrees self.now blocks.now }
         // The specs are lawful. There are at most `MOST_QUEUES` queues. Each has flags, with a wanted mark for each band, and

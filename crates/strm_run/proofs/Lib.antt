@@ -1,7 +1,5 @@
-mod Faults
-mod Stopping
-mod Merges
 mod Texts
+mod Merges
 mod Totals
 mod Holding
 mod Working

@@ -1,5 +1,7 @@
--- The text of a trace is that of its merge, and one section has one merge.
-use Rattle.std.proofs.Common.{◌≡◌, ◌≢◌, ℕ, List, [], ◌∷◌, ◌++◌, length, map, refl, sym, ap, ◌∙◌, subst, inl, inr, arith, append-nil}
+-- Texts of traces, their faults, and where a run stops.
+use Rattle.std.proofs.Common.{◌≡◌, Bool, false, ◌||◌, Result, Ok, Err, refl, sym, ap, ◌∙◌, ◌≢◌, ℕ, List, [], ◌∷◌, ◌++◌, length, map, subst, inl, inr, arith, append-nil}
+use Rattle.std.specs.Result.{IsErrAnd}
+use Rattle.std.proofs.Math.Bool.{or-false}
 use Rattle.std.specs.List.{flat_map}
 use Rattle.std.proofs.lemmas.Bool.{cases_eq, eq-eqb, ne_eqb}
 use Rattle.std.proofs.lemmas.List.{get_or_past}
@@ -12,7 +14,34 @@ use Rattle.strm_shared.specs.Chronicle.{calls_of}
 use Rattle.strm_script.specs.declared.script.Script.{Script}
 use Rattle.strm_script.specs.Merge.{Served, IsMerge, by_worker, merge_of, part_of, serial_merge}
 use Rattle.strm_script.specs.Text.{desk_calls, entry_text, report_text, text_from, transcript}
+use Rattle.strm_run.specs.declared.fault.RunFault.{RunFault}
+use Rattle.strm_run.specs.declared.fault.TextFault.{TextFault}
+use Rattle.strm_run.specs.Told.{errs, is_write, run_fault_of_text}
+use Rattle.strm_run.specs.Watched.{Observed, Stops, is_over}
 use Rattle.strm_run.specs.Outcome.{IsMergedText, IsSerialText, IsTextUnder}
+use Rattle.strm_run.specs.declared.fault.TextFault.TheVariants as text_faults
+
+-- ---- the fault of a text is none of the writer
+
+is_write-text : (fault : TextFault) → is_write (run_fault_of_text fault) ≡ false
+is_write-text (text_faults.Script found) = refl
+is_write-text (text_faults.Config which) = refl
+is_write-text text_faults.Memory = refl
+is_write-text (text_faults.Refused why) = refl
+
+-- a text's fault is none of the writer
+pub errs-text : (failed : Bool) (result : Result (Unit {0}) RunFault) (fault : TextFault) → IsErrAnd result (λ e. e ≡ run_fault_of_text fault) → failed ≡ (failed || errs is_write result)
+errs-text failed (Ok x) fault is = sym (or-false failed)
+errs-text failed (Err e) fault is = rw (is, is_write-text fault) (sym (or-false failed))
+
+-- ---- no call comes after one that failed, nor after a read that found the end
+
+-- one call more, where none has failed and no end was found since the first
+pub stops_more : {T : Type 0} (first old new : Observed T) → Stops first old → old.failed ≡ first.failed → old.ended ≡ first.ended → new.past ≡ (old.past || is_over old) → Stops first new
+stops_more first old new stops failed ended past over =
+    past ∙ ap (λ b. old.past || b) (ap (λ b. b || old.ended) failed ∙ ap (λ b. first.failed || b) ended ∙ over) ∙ or-false old.past ∙ stops over
+
+-- ---- the text of a trace is that of its merge, and one section has one merge
 
 -- ---- a trace
 

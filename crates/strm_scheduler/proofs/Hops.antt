@@ -13,8 +13,8 @@ use Rattle.strm_links.specs.Rows.{is_some_of}
 use Rattle.strm_queue.specs.declared.queue_spec.QueueSpec.{QueueSpec}
 use Rattle.strm_queue.specs.Flow.{behind, no_spec, spec_at, target, target_within, waker, waker_from, waker_within}
 use Rattle.strm_queue.specs.QueueSpecs.{are_lawful, next_fits, times_next}
-use Rattle.strm_queue.proofs.flow.Targets.{IsAhead, NoneBehind, behind_found, next_ahead}
-use Rattle.strm_queue.proofs.layout.Lawful.{nexts_lawful}
+use Rattle.strm_queue.proofs.Flow.{IsAhead, NoneBehind, behind_found, next_ahead}
+use Rattle.strm_queue.proofs.Laid.{nexts_lawful}
 use Rattle.strm_scheduler.specs.Sides.{AreSides, next_of}
 
 -- ---- counts

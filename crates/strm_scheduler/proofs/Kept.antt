@@ -14,7 +14,7 @@ use Rattle.strm_queue.specs.QueueCalls.{ask_for_room, bcanput, flags_of, get_fir
 use Rattle.strm_queue.specs.QueueLooks as looks
 use Rattle.strm_queue.specs.QueuedBlocks.{QueuedBlocks}
 use Rattle.strm_queue.specs.Rank.{put_behind, rank_of}
-use Rattle.strm_queue.proofs.order.Ranks.{rank_of-queued}
+use Rattle.strm_queue.proofs.order.Order.{rank_of-queued}
 use Rattle.strm_scheduler.specs.Awake.{is_awake}
 use Rattle.strm_scheduler.specs.Laws.{AreKeptAwake}
 use Rattle.strm_scheduler.specs.Sides.{AreSides, next_of}

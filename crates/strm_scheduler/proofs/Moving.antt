@@ -19,7 +19,7 @@ use Rattle.strm_queue.specs.Limits.{high_rank}
 use Rattle.strm_queue.specs.QueueCalls.{flags_left, get_first, getq, has_relieved, putbq, putq, waker_enabled_where, with_got}
 use Rattle.strm_queue.specs.QueuedBlocks.{QueuedBlocks}
 use Rattle.strm_queue.specs.Rank.{as_queued, is_ordered, put_ahead, rank_of}
-use Rattle.strm_queue.proofs.agreeing.Agreeing.{enabled_alone}
+use Rattle.strm_queue.proofs.Agreeing.{enabled_alone}
 use Rattle.strm_scheduler.specs.Handing.{hand_first, with_first_off, with_leave_asked, with_one_placed, with_one_put, with_one_put_back}
 use Rattle.strm_scheduler.specs.Forwarding.{Goes, HandsOn, KeepsRest, Stays, has_leave, may_go, with_put_either, with_put, with_put_back}
 

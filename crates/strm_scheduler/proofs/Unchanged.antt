@@ -16,7 +16,7 @@ use Rattle.strm_mblk.specs.declared.token.TokenValue.{TokenValue}
 use Rattle.strm_pool.specs.PoolValue.{PoolValue, arena, on_arena, queued_blocks_of, with_token_spent}
 use Rattle.strm_queue.specs.Flow.{QueueState, flags_at, has_band}
 use Rattle.strm_queue.specs.Limits.{high_rank}
-use Rattle.strm_queue.proofs.agreeing.Agreeing.{rank_of-same}
+use Rattle.strm_queue.proofs.Agreeing.{rank_of-same}
 use Rattle.strm_scheduler.specs.Awake.{is_awake, may_rest}
 use Rattle.strm_scheduler.specs.Laws.{AreKeptAwake, KeepsQueued}
 use Rattle.strm_scheduler.specs.Sides.{AreSides, next_of}

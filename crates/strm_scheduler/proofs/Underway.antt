@@ -16,7 +16,7 @@ use Rattle.strm_queue.specs.QueueCalls.{flags_left, flags_of, messages_on, with_
 use Rattle.strm_queue.specs.QueuedBlocks.{QueuedBlocks}
 use Rattle.strm_queue.specs.QueueSpecs.{are_lawful}
 use Rattle.strm_queue.specs.Rank.{as_queued, is_ordered, put_ahead, rank_of}
-use Rattle.strm_queue.proofs.order.Ranks.{low_queued, rank_of-queued}
+use Rattle.strm_queue.proofs.order.Order.{low_queued, rank_of-queued}
 use Rattle.strm_scheduler.specs.Awake.{is_awake, may_rest}
 use Rattle.strm_scheduler.specs.Sides.{AreSides, next_of}
 use Rattle.strm_scheduler.proofs.Hops.{hop_ahead, hop_within, target_is}

@@ -1,10 +1,6 @@
 mod Constants
 mod Words
 mod Forms
-mod Cuts
-mod Shapes
 mod Drafts
-mod Reading
 mod Scripts
-mod Digits
 mod Reports

@@ -10,7 +10,7 @@ use Rattle.std.proofs.lemmas.List.FromFn.{get_or-range_with_len, length-range_wi
 use Rattle.std.proofs.lemmas.Option.{none-some, slice_get_cases, slice_get_past, slice_get-get_or, slice_get_within, get_or_from_slice_get}
 use Rattle.strm_data.specs.declared.refusal.Refusal.{Refusal}
 use Rattle.strm_data.specs.declared.refusal.Refusal.TheVariants.{NoSuchQueue}
-use Rattle.strm_data.proofs.lists.Repeated.{range_with_len_more}
+use Rattle.strm_data.proofs.Lists.{range_with_len_more}
 use Rattle.strm_mblk.specs.Given.{answer_of}
 use Rattle.strm_queue.specs.declared.band_info.BandInfo.{BandInfo}
 use Rattle.strm_queue.specs.declared.queue_info.QueueInfo.{QueueInfo}

@@ -1,8 +1,8 @@
--- Desks that met the lock in the order of their numbers: their registers are what the book knows.
-use Rattle.std.proofs.Common.{◌≡◌, ℕ, zero, suc, ◌+◌, ◌-◌, ◌<◌, ◌≤◌, List, [], ◌∷◌, length, map, get_or, refl, sym, ap, ◌∙◌, subst, arith, IsTrue}
-use Rattle.std.specs.List.{All}
+-- Desks in memory, and desks that met the lock in the order of their numbers.
+use Rattle.std.proofs.Common.{ℕ, ◌<◌, List, [], ◌∷◌, length, map, sym, arith, ◌≡◌, zero, suc, ◌+◌, ◌-◌, ◌≤◌, get_or, refl, ap, ◌∙◌, subst, IsTrue}
 use Rattle.std.specs.List.Sorted.{IsNonDecreasingBy}
-use Rattle.std.proofs.lemmas.List.{ext_get_or, get_or-map, length-map}
+use Rattle.std.proofs.lemmas.List.{get_or-map, length-map, ext_get_or}
+use Rattle.std.specs.List.{All}
 use Rattle.strm_links.specs.Counting.{times}
 use Rattle.strm_links.proofs.lists.Counting.{times-cons, times_here, times_some}
 use Rattle.strm_pool.specs.PoolValue.{PoolValue, owns}
@@ -12,7 +12,18 @@ use Rattle.strm_shared.specs.declared.views.History.{History}
 use Rattle.strm_shared.specs.Desks.{DeskValue, no_desk, with_pair_seen}
 use Rattle.strm_shared.specs.Pairs.{Pair}
 use Rattle.strm_shared.specs.SeatsLayout.{IsDeskOfHistory}
-use Rattle.strm_shared.proofs.Listing.{sorted-map}
+
+-- ---- lists of desks as they lie in memory
+
+module _ {X Y : Type 0} (f : X → Y) where
+  -- sorted by what is seen of each element, the list of that is sorted
+  pub sorted-map : (n : Y → ℕ) (xs : List X) → IsNonDecreasingBy (λ x. n (f x)) xs → IsNonDecreasingBy n (map f xs)
+  sorted-map n [] sorted i j d le lt = absurd (omega (arith, lt))
+  sorted-map n (x ∷ xs) sorted i j d le lt =
+      let low : j < length (x ∷ xs) = rw (sym (length-map (x ∷ xs) f)) lt in
+      rw (get_or-map f (x ∷ xs) i x d (omega (arith, le, low)), get_or-map f (x ∷ xs) j x d low) (sorted i j x le low)
+
+-- ---- desks that met the lock in the order of their numbers: their registers are what the book knows
 
 -- ---- the order of the numbers
 

@@ -1,12 +1,10 @@
 mod Constants
-mod Listing
+mod Gathering
 pub mod Opening
 pub mod Refusing
 mod Weighing
 mod Turning
 mod Telling
-mod Tracing
 mod Batching
 mod Crews
-mod Gathering
 mod seats

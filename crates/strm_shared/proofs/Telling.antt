@@ -1,11 +1,14 @@
--- The served calls, from the first on: a replay of them gives pool, tables and replies, and the chronicle gives the pairs.
-use Rattle.std.proofs.Common.{◌≡◌, ℕ, zero, suc, ◌+◌, ◌<◌, ◌≤◌, List, [], ◌∷◌, ◌++◌, Option, Some, None, length, map, replicate, get_or, take, refl, sym, ap, ◌∙◌, subst, arith}
-use Rattle.std.specs.Prelude.{All, slice_set}
+-- The trace with one call more, and what a replay of the served calls gives.
+use Rattle.std.proofs.Common.{◌≡◌, ℕ, ◌≤◌, false, List, [], ◌∷◌, ◌++◌, length, Option, Some, None, refl, sym, ◌∙◌, arith, zero, suc, ◌+◌, ◌<◌, map, replicate, get_or, take, ap, subst}
+use Rattle.std.specs.Prelude.{IfSome, ◌==◌, All, slice_set}
+use Rattle.std.specs.Option.{option_map_or}
+use Rattle.std.proofs.lemmas.Bool.{eqb-false}
+use Rattle.std.proofs.lemmas.List.{length_push, length-map, map_push, map-set}
 use Rattle.std.specs.List.{take-map}
 use Rattle.std.proofs.Math.ListN.{get_or-map}
-use Rattle.std.proofs.lemmas.List.{length-map, length_push, map_push, map-set}
 use Rattle.std.proofs.lemmas.List.Elements.{All-nil, All-push}
-use Rattle.strm_data.proofs.lists.Repeated.{map-replicate}
+use Rattle.strm_pool.specs.declared.line.Entry.{Entry}
+use Rattle.strm_data.proofs.Lists.{map-replicate}
 use Rattle.strm_mblk.specs.declared.token.TokenValue.{TokenValue}
 use Rattle.strm_pool.specs.declared.call.Call.{Call}
 use Rattle.strm_pool.specs.declared.reply.Reply.{Reply}
@@ -14,11 +17,47 @@ use Rattle.strm_pool.specs.PoolValue.{PoolValue}
 use Rattle.strm_pool.specs.Registers.{Entries, RegisterTable, entries_of, table_of}
 use Rattle.strm_pool.specs.Step.{DeskCall, Replay, Stepped, empty_tables, replay, replay_from, step, table_at}
 use Rattle.strm_pool.proofs.Replays.{replay_more, replay_push}
-use Rattle.strm_pool.specs.declared.line.Entry.{Entry}
+use Rattle.strm_shared.specs.Traces.{IsTraceOf, TraceValue, entries_kept, is_full}
 use Rattle.strm_shared.specs.Books.{BookValue, IsServed}
 use Rattle.strm_shared.specs.Chronicle.{AreTold, calls_of, chronicle_from, entry_of, heads_listed}
 use Rattle.strm_shared.specs.Desks.{DeskValue}
 use Rattle.strm_shared.specs.Pairs.{Pair, no_pair, pair_at}
+
+-- ---- the trace, once one call more was served
+
+-- before the first call
+none_kept : (most : Option ℕ) → [] ≡ entries_kept most []
+none_kept None = refl
+none_kept (Some n) = refl
+
+none_few : (most : Option ℕ) → IfSome most (λ n. 0 ≤ n)
+none_few None = tt
+none_few (Some n) = omega arith
+
+pub trace_first : (most : Option ℕ) (t : TraceValue) → t.most ≡ most → t.entries ≡ [] → IsTraceOf most [] t
+trace_first most t is none = record { most = is; entries = none ∙ none_kept most; few = none_few most }
+
+-- a call more
+module _ (es : List Entry) (e : Entry) (t u : TraceValue) where
+  kept_next : (most : Option ℕ) → t.most ≡ most → t.entries ≡ entries_kept most es → u.entries ≡ t.entries ++ entries_kept t.most (e ∷ []) → u.entries ≡ entries_kept most (es ++ e ∷ [])
+  kept_next None is kept more = more ∙ (λ i. kept i ++ entries_kept (is i) (e ∷ []))
+  kept_next (Some n) is kept more = more ∙ (λ i. kept i ++ entries_kept (is i) (e ∷ []))
+
+  few_next : (most : Option ℕ) → t.most ≡ most → t.entries ≡ entries_kept most es → is_full t ≡ false → IfSome most (λ n. length es ≤ n) → IfSome most (λ n. length (es ++ e ∷ []) ≤ n)
+  few_next None is kept left few = tt
+  few_next (Some n) is kept left few =
+      let other = eqb-false (length es) n (sym (λ i. option_map_or (λ k. length (kept i) == k) (is i) false) ∙ left) in
+      omega (arith, few, other, length_push es e)
+
+  -- it has the entry too, if it keeps any, and no more than it may
+  pub trace_next : (most : Option ℕ) → IsTraceOf most es t → is_full t ≡ false → u.most ≡ t.most → u.entries ≡ t.entries ++ entries_kept t.most (e ∷ []) → IsTraceOf most (es ++ e ∷ []) u
+  trace_next most is left same more = record {
+    most = same ∙ is.most;
+    entries = kept_next most is.most is.entries more;
+    few = few_next most is.most is.entries left is.few;
+  }
+
+-- ---- the served calls, from the first on: a replay of them gives pool, tables and replies, and the chronicle gives the pairs
 
 -- the chronicle has one pair more, that of the pool once the last call is done
 chronicle_push : (v : PoolValue) (ts : List RegisterTable) (k : ℕ) (calls : List DeskCall) (last : DeskCall)

@@ -4,5 +4,4 @@ pub mod Numbers
 pub mod Keeping
 pub mod Seated
 pub mod Desks
-pub mod Books
 pub mod Served

@@ -13,8 +13,7 @@ use Rattle.strm_data.specs.DataLayout.{no_class, block_at, class_at, store_of_pa
 use Rattle.strm_data.specs.DataStore.{IsLeast, IsTakenFrom, least_of, take_data, data_block_at, capacity_of, class_of, free_of, with_kind, with_data_freed, class_spec_at}
 use Rattle.strm_data.proofs.store.Kept.{first_unused}
 use Rattle.strm_data.proofs.layout.Least.{AreAlike, AreAlike-noted, IsPlaced-alike, least_is, least_noted, seen_alike}
-use Rattle.strm_data.proofs.layout.Members.{get_or_first}
-use Rattle.strm_data.proofs.layout.Laid.{block_within, block_is, class_of_is, count_is, seen_altered, seen_recounted, IsPlaced-altered}
+use Rattle.strm_data.proofs.layout.Laid.{get_or_first, block_within, block_is, class_of_is, count_is, seen_altered, seen_recounted, IsPlaced-altered}
 
 -- b is data block d
 module _ (a : Inside) (v : CountedStore) (view : store_of a ≡ v) (laid : IsSound a) (d : ℕ) (there : d < length v.store.blocks) (b : DataBlock) (read : b ≡ get_or a.blocks.items d b) where

@@ -1,22 +1,46 @@
--- What a contract sees of the data blocks once one of them, a region or a free list is written to in memory.
-use Rattle.std.proofs.Common.{◌≡◌, ◌≢◌, ℕ, zero, suc, ◌+◌, ◌-◌, ◌*◌, ◌<◌, ◌≤◌, List, [], ◌∷◌, length, get_or, set, map, refl, sym, ap, ◌∙◌, subst, inl, inr, arith, Some, None, length-set, get_or-set_same, get_or-set_other}
+-- Data blocks as they lie in memory, and what a contract sees once one of them, a region or a free list is written to.
+use Rattle.std.proofs.Common.{◌≡◌, ℕ, ◌<◌, List, [], ◌∷◌, get_or, Some, None, inl, inr, arith, ◌≢◌, zero, suc, ◌+◌, ◌-◌, ◌*◌, ◌≤◌, length, set, map, refl, sym, ap, ◌∙◌, subst, length-set, get_or-set_same, get_or-set_other}
 use Rattle.std.proofs.lemmas.Bool.{cases_eq, cases_lt}
+use Rattle.std.proofs.lemmas.Option.{none-some, same_Some, slice_get-get_or, slice_get_past}
 use Rattle.std.proofs.lemmas.List.{map-set, get_or-map, length-map, set-get_or, get_or_past, get_or_default}
-use Rattle.std.proofs.lemmas.Option.{slice_get-get_or, slice_get_past}
 use Rattle.std.proofs.Math.Nat.{mul-le-mul_right}
 use Rattle.std.specs.Prelude.{option_map, slice_get}
 use Rattle.std.specs.List.{zip}
+use Rattle.strm_links.specs.Rows.{holder, first}
+use Rattle.strm_links.proofs.lists.AllLists.{holder_is}
+use Rattle.strm_links.proofs.lists.Counting.{absent}
+use Rattle.strm_data.specs.CountedStore.{CountedStore, IsKept, count_of}
+use Rattle.strm_data.specs.DataStore.{times, free_of, class_infos, no_data_block, data_block_at, class_of, capacity_of, bytes_overwritten, class_spec_at, no_class_spec}
 use Rattle.strm_data.specs.declared.class_info.ClassInfo.{ClassInfo}
 use Rattle.strm_data.specs.declared.class_spec.ClassSpec.{ClassSpec}
 use Rattle.strm_data.specs.declared.data.Class.{Class}
 use Rattle.strm_data.specs.declared.data.Data.TheInside.{Inside}
 use Rattle.strm_data.specs.declared.data.DataBlock.{DataBlock}
-use Rattle.strm_data.specs.CountedStore.{CountedStore, IsKept, count_of}
 use Rattle.strm_data.specs.DataLayout.{no_class, no_block, class_at, block_at, region_at, start_in, bytes_in, data_block_of, values_below, store_of_parts, store_of, IsPlaced}
+use Rattle.strm_data.proofs.store.Kept.{listed_unnamed, free_within}
+use Rattle.strm_data.proofs.Lists.{length-tabulated, get_or-tabulated, tabulated-set, length-part, length-overwritten, part_before, part_behind, part_over}
 use Rattle.strm_data.specs.DataStore as store
-use Rattle.strm_data.specs.DataStore.{class_infos, no_data_block, data_block_at, class_of, capacity_of, bytes_overwritten, class_spec_at, no_class_spec}
-use Rattle.strm_data.proofs.lists.Tables.{length-tabulated, get_or-tabulated, tabulated-set, length-part, length-overwritten, part_before, part_behind, part_over}
-use Rattle.strm_data.proofs.store.Kept.{free_within}
+
+-- ---- free lists as contracts of `Stacks` see them. A free data block is only in the list of its class
+
+-- the first item is the one at place 0
+pub get_or_first : (xs : List ℕ) (n : ℕ) → first xs ≡ Some n → get_or xs 0 0 ≡ n
+get_or_first [] n is = absurd (none-some n is)
+get_or_first (x ∷ xs) n is = same_Some x n is
+
+module _ (s : CountedStore) (kept : IsKept s) where
+  -- a data block that is in use is in no list
+  pub holder_unlisted : (nodes d : ℕ) → 0 < count_of s d → holder d (record { nodes = nodes; lists = s.store.free }) ≡ None
+  holder_unlisted nodes d used =
+      holder_is d (record { nodes = nodes; lists = s.store.free }) None
+      (λ c within. absent d (free_of s.store c)
+      (elim (cases_eq (times d (free_of s.store c)) 0) [
+        | inl none ↦ none
+        | inr some ↦ absurd (omega (arith, listed_unnamed s kept c d (omega (arith, some)), used))
+      ]))
+      (λ c is. absurd (none-some c is))
+
+-- ---- what a contract sees of the data blocks once one of them, a region or a free list is written to in memory
 
 -- ---- where the bytes of a data block are
 

@@ -5,7 +5,7 @@ use Rattle.strm_data.specs.declared.class_spec.ClassSpec.{ClassSpec}
 use Rattle.strm_data.specs.declared.data.Class.{Class}
 use Rattle.strm_data.specs.declared.data.DataBlock.{DataBlock}
 use Rattle.strm_data.specs.DataLayout.{no_class, block_at, class_at, region_at, values_below, store_of_parts, IsPlaced}
-use Rattle.strm_data.proofs.store.Least.{get_or-map_all}
+use Rattle.strm_data.proofs.store.Kept.{get_or-map_all}
 
 -- classes that differ in these numbers alone
 pub record AreAlike (new old : List Class) : Type 0 where

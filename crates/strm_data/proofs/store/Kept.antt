@@ -1,18 +1,23 @@
--- A data block is taken, gets or loses a reference, or is written to: `IsKept` still holds.
-use Rattle.std.proofs.Common.{◌≡◌, ◌≢◌, ℕ, ◌+◌, ◌-◌, ◌<◌, ◌≤◌, true, false, ◌&&◌, ◌==◌, List, [], ◌∷◌, length, get_or, set, drop, Ok, refl, sym, ap, ◌∙◌, inl, inr, subst, arith, if◌then◌else◌, length-set, get_or-set_same, get_or-set_other, count_by, suc}
+-- A data block is taken, gets or loses a reference, or is written to: what still holds, and the fewest that were free.
+use Rattle.std.proofs.Common.{◌≡◌, ◌≢◌, ℕ, ◌+◌, ◌-◌, ◌<◌, ◌≤◌, true, false, ◌&&◌, ◌==◌, List, [], ◌∷◌, length, get_or, set, drop, Ok, refl, sym, ap, ◌∙◌, inl, inr, subst, arith, if◌then◌else◌, length-set, get_or-set_same, get_or-set_other, count_by, suc, zero, min, map}
 use Rattle.std.specs.Prelude.{nat_lt}
-use Rattle.std.specs.List.{zip}
+use Rattle.std.specs.List.{zip, range_with_len}
 use Rattle.std.proofs.lemmas.Bool.{cases_eq, cases_lt, cond-true, cond-false, cond_both, eq-eqb, ne_eqb, lt-ltb, and_left, and_right, and_parts, ltb-true, eqb-true}
 use Rattle.std.proofs.lemmas.List.{length-map, set_past, set-get_or}
 use Rattle.std.proofs.lemmas.Slice.Zip.{length-zip}
 use Rattle.std.proofs.lemmas.List.Sums.{sum_by-cons}
+use Rattle.std.proofs.Math.Nat.{min-le_right}
+use Rattle.std.proofs.lemmas.List.FromFn.{length-range_with_len}
+use Rattle.strm_links.proofs.lists.Counting.{times_here, times_other, times_rest_same, times_rest_other, times_some, few_of}
 use Rattle.strm_data.specs.CountedStore.{CountedStore, count_of, is_unused, IsUnused, IsKept, after_take, with_reference, without_reference}
-use Rattle.strm_data.specs.DataStore.{class_infos, times, DataBlock, no_data_block, class_of, free_of, IsTakenFrom, take_data, blocks_in, class_spec_at, capacity_of, no_class_spec}
+use Rattle.strm_data.specs.DataStore.{class_infos, times, DataBlock, no_data_block, class_of, free_of, IsTakenFrom, take_data, blocks_in, class_spec_at, capacity_of, no_class_spec, DataStore, IsLeast, least_of, numbers_from, opening_store, with_data_freed, with_data_reset, with_data_taken}
 use Rattle.strm_data.specs.Classes.{are_lawful}
 use Rattle.strm_data.specs.Limits.{most_data_block_bytes, most_references}
-use Rattle.strm_links.proofs.lists.Counting.{times_here, times_other, times_rest_same, times_rest_other, times_some, few_of}
-use Rattle.strm_data.proofs.lists.Tables.{tabulated-get_or}
+use Rattle.strm_data.specs.declared.class_spec.ClassSpec.{ClassSpec}
+use Rattle.strm_data.proofs.Lists.{tabulated-get_or}
 use Rattle.strm_data.proofs.store.Lawful.{lawful_size}
+
+-- ---- a data block is taken, gets or loses a reference, or is written to: `IsKept` still holds
 
 -- ---- how many data blocks are of a class
 
@@ -250,3 +255,79 @@ capacity_range s d kept there =
 -- there is a `class_info` for each class
 pub length-class_infos : (s : CountedStore) → IsKept s → length (class_infos s.store) ≡ length s.store.classes
 length-class_infos s kept = length-map (zip s.store.classes s.store.free) _ ∙ omega (arith, length-zip s.store.classes s.store.free, kept.lists)
+
+-- ---- the fewest data blocks of a class that were free: no more than are free
+
+-- an item of a list of values is the value of an item, also past the end
+pub get_or-map_all : {X Y : Type 0} (f : X → Y) (xs : List X) (i : ℕ) (d : X) → f (get_or xs i d) ≡ get_or (map f xs) i (f d)
+get_or-map_all f [] i d = refl
+get_or-map_all f (x ∷ xs) zero d = refl
+get_or-map_all f (x ∷ xs) (suc i) d = get_or-map_all f xs i d
+
+pub IsLeast-taken : (s : DataStore) (d : ℕ) → class_of s d < length s.classes → length s.free ≡ length s.classes → IsLeast s → IsLeast (with_data_taken d s)
+IsLeast-taken s d within lists least =
+    let c = class_of s d in
+    let rest = drop 1 (free_of s c) in
+    let fewest = min (least_of s c) (length rest) in
+    let there : c < length s.least = omega (arith, least.each) in
+    let listed : c < length s.free = omega (arith, lists) in
+    record {
+      each = length-set s.least c fewest ∙ least.each;
+      fewest = λ e. elim (cases_eq e c) [
+        | inl same ↦
+            omega (
+              arith,
+              min-le_right (least_of s c) (length rest),
+              ap (λ j. get_or (set s.least c fewest) j 0) same ∙ get_or-set_same s.least c fewest 0 there,
+              ap (λ j. length (get_or (set s.free c rest) j [])) same ∙ ap length (get_or-set_same s.free c rest [] listed),
+            )
+        | inr other ↦
+            omega (arith, get_or-set_other s.least c e fewest 0 other, ap length (get_or-set_other s.free c e rest [] other), least.fewest e)
+      ];
+    }
+
+-- a free list only grows
+IsLeast-freed : (s : DataStore) (d : ℕ) → class_of s d < length s.free → IsLeast s → IsLeast (with_data_freed d s)
+IsLeast-freed s d within least =
+    let c = class_of s d in
+    let more = d ∷ free_of s c in
+    record {
+      each = least.each;
+      fewest = λ e. elim (cases_eq e c) [
+        | inl same ↦
+            omega (
+              arith,
+              ap (λ j. length (get_or (set s.free c more) j [])) same ∙ ap length (get_or-set_same s.free c more [] within),
+              ap (λ j. least_of s j) same,
+              least.fewest c,
+            )
+        | inr other ↦ omega (arith, ap length (get_or-set_other s.free c e more [] other), least.fewest e)
+      ];
+    }
+
+pub IsLeast-take : (size : ℕ) (s : CountedStore) (c : ℕ) → IsTakenFrom size s.store c → IsKept s → IsLeast s.store → IsLeast (after_take s (take_data size s.store)).store
+IsLeast-take size s c from kept least =
+    let first = first_unused s kept c from.some in
+    subst (λ r. IsLeast (after_take s r).store) (sym from.front) (IsLeast-taken s.store (get_or (free_of s.store c) 0 0) first.1.classed kept.lists least)
+
+pub IsLeast-without_name : (s : CountedStore) (d : ℕ) → IsKept s → d < length s.store.blocks → IsLeast s.store → IsLeast (without_reference d s).store
+IsLeast-without_name s d kept there least =
+    cond_both (count_of s d == 1) (with_data_freed d s.store) s.store IsLeast
+    (λ _. IsLeast-freed s.store d (omega (arith, kept.classed d there, kept.lists)) least) (λ _. least)
+
+pub IsLeast-reset : (s : DataStore) → length s.free ≡ length s.classes → IsLeast (with_data_reset s)
+IsLeast-reset s lists = record {
+  each = length-map s.free length ∙ lists;
+  fewest = λ c. omega (arith, get_or-map_all length s.free c []);
+}
+
+opening_free : (first : ℕ) (cs : List ClassSpec) (c : ℕ) → get_or (map (λ (x : ClassSpec). x.count) cs) c 0 ≡ length (get_or (numbers_from first cs) c [])
+opening_free first [] c = refl
+opening_free first (x ∷ xs) zero = sym (length-range_with_len first x.count)
+opening_free first (x ∷ xs) (suc c) = opening_free (first + x.count) xs c
+
+pub IsLeast-opening : (cs : List ClassSpec) → IsLeast (opening_store cs)
+IsLeast-opening cs = record {
+  each = length-map cs (λ (x : ClassSpec). x.count);
+  fewest = λ c. omega (arith, opening_free 0 cs c);
+}

@@ -1,11 +1,17 @@
--- What lawful classes are: how many, of which sizes, and of how many data blocks.
-use Rattle.std.proofs.Common.{ℕ, zero, suc, ◌<◌, ◌≤◌, List, [], ◌∷◌, length, get_or, arith, ◌&&◌}
-use Rattle.std.specs.Prelude.{IsTrue, nat_lt, nat_le}
-use Rattle.std.proofs.lemmas.Bool.{and_parts, ltb-true, leb-true}
+-- Lawful classes, and the first that fits a size.
+use Rattle.std.proofs.Common.{ℕ, zero, suc, ◌<◌, ◌≤◌, List, [], ◌∷◌, length, get_or, arith, ◌&&◌, ◌≡◌, ◌+◌, Bool, true, false, ◌||◌, Some, Err, map, ◌++◌, drop, refl, ap, ◌∙◌, if◌then◌else◌}
+use Rattle.std.specs.Prelude.{IsTrue, nat_lt, nat_le, ok_or, slice_get}
+use Rattle.std.proofs.lemmas.Bool.{and_parts, ltb-true, leb-true, cond-true, cond-false, lt-leb, le-leb}
+use Rattle.std.specs.List.{flat_map, zip, list_any}
+use Rattle.std.proofs.lemmas.List.{drop_more}
+use Rattle.std.proofs.lemmas.List.Folds.{list_any_at}
 use Rattle.strm_data.specs.declared.class_spec.ClassSpec.{ClassSpec}
 use Rattle.strm_data.specs.Classes.{total_of, are_lawful, sizes_rise, each_has_blocks}
-use Rattle.strm_data.specs.DataStore.{no_class_spec}
+use Rattle.strm_data.specs.DataStore.{no_class_spec, DataStore, free_of, fitting_blocks, IsTakenFrom, class_spec_at}
 use Rattle.strm_data.specs.Limits.{most_classes, most_data_block_bytes, most_data_blocks}
+use Rattle.strm_data.specs.declared.refusal.Refusal.TheVariants.{NoData, TooLarge}
+
+-- ---- what lawful classes are: how many, of which sizes, and of how many data blocks
 
 -- a size is above the ones before, and most_data_block_bytes at most
 size_within : (below : ℕ) (specs : List ClassSpec) (c : ℕ) → c < length specs → IsTrue (sizes_rise below specs)
@@ -58,3 +64,61 @@ module _ (specs : List ClassSpec) (lawful : IsTrue (are_lawful specs)) where
   -- no class before another has larger data blocks
   pub lawful_rise : (c e : ℕ) → c ≤ e → e < length specs → (get_or specs c no_class_spec).size ≤ (get_or specs e no_class_spec).size
   lawful_rise c e before within = size_rises 0 specs c e before within (and_parts (sizes_rise 0 specs) _ rising).0
+
+-- ---- the search for the first class that fits a size and has a free data block
+
+-- the free blocks of a class, if it fits
+abbrev pub if_fits : ℕ → ClassSpec × List ℕ → List ℕ
+if_fits size p = if nat_le size p.0.size then p.1 else []
+
+-- what the classes from i on give
+abbrev pub fitting_from : ℕ → DataStore → ℕ → List ℕ
+fitting_from size s i = flat_map (if_fits size) (zip (drop i s.classes) (drop i s.free))
+
+-- class i, and those behind it
+fitting_from-here : (size : ℕ) (s : DataStore) (i : ℕ) (d : ClassSpec) → i < length s.classes → i < length s.free
+    → fitting_from size s i ≡ if_fits size (get_or s.classes i d, free_of s i) ++ fitting_from size s (i + 1)
+fitting_from-here size s i d in_classes in_free = rw (drop_more s.classes i d in_classes, drop_more s.free i [] in_free) refl
+
+same_either : {X : Type 0} (b : Bool) (x : X) → (if b then x else x) ≡ x
+same_either true x = refl
+same_either false x = refl
+
+-- a class that doesn't fit gives nothing, and neither does one with no free block
+pub if_fits-small : (size : ℕ) (c : ClassSpec) (xs : List ℕ) → c.size < size → if_fits size (c, xs) ≡ []
+if_fits-small size c xs small = cond-false _ xs [] (lt-leb size c.size small)
+
+pub if_fits-empty : (size : ℕ) (c : ClassSpec) (xs : List ℕ) → length xs ≡ 0 → if_fits size (c, xs) ≡ []
+if_fits-empty size c [] none = same_either (nat_le size c.size) []
+if_fits-empty size c (x ∷ xs) none = absurd (omega arith)
+
+-- the search goes on behind a class that gives nothing
+pub fitting_from_next : (size : ℕ) (s : DataStore) (i : ℕ) (d : ClassSpec) → i < length s.classes → i < length s.free
+    → if_fits size (get_or s.classes i d, free_of s i) ≡ [] → fitting_blocks size s ≡ fitting_from size s i → fitting_blocks size s ≡ fitting_from size s (i + 1)
+fitting_from_next size s i d in_classes in_free none left =
+    left ∙ fitting_from-here size s i d in_classes in_free ∙ ap (λ xs. xs ++ fitting_from size s (i + 1)) none
+
+-- what is first in front of more
+first_of_both : (xs ys : List ℕ) → 0 < length xs → slice_get (xs ++ ys) 0 ≡ Some (get_or xs 0 0)
+first_of_both [] ys some = absurd (omega arith)
+first_of_both (x ∷ xs) ys some = refl
+
+-- the search ends at a class that fits and has a free data block
+pub IsTakenFrom-found : (size : ℕ) (s : DataStore) (i : ℕ) → i < length s.classes → i < length s.free
+    → size ≤ (class_spec_at s i).size → 0 < length (free_of s i) → fitting_blocks size s ≡ fitting_from size s i → IsTakenFrom size s i
+IsTakenFrom-found size s i in_classes in_free wide some left =
+    let fits : nat_le size (class_spec_at s i).size ≡ true = le-leb size _ wide in
+    let found : fitting_blocks size s ≡ free_of s i ++ fitting_from size s (i + 1) =
+    cc (left, fitting_from-here size s i no_class_spec in_classes in_free, cond-true _ (free_of s i) [] fits) in
+    record {
+      wide = wide;
+      some = some;
+      front =
+          cond-true _ (ok_or (slice_get (fitting_blocks size s) 0) NoData) (Err TooLarge) (list_any_at (λ c. nat_le size c.size) s.classes i no_class_spec in_classes fits)
+          ∙ ap (λ xs. ok_or (slice_get xs 0) NoData) found ∙ ap (λ o. ok_or o NoData) (first_of_both (free_of s i) (fitting_from size s (i + 1)) some);
+    }
+
+-- a test on what a function gives
+pub list_any-map : {X Y : Type 0} (f : X → Y) (p : Y → Bool) (xs : List X) → list_any p (map f xs) ≡ list_any (λ x. p (f x)) xs
+list_any-map f p [] = refl
+list_any-map f p (x ∷ xs) = ap (λ b. p (f x) || b) (list_any-map f p xs)

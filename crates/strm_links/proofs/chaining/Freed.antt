@@ -1,20 +1,24 @@
--- All nodes of a chain become free, the last one first.
-use Rattle.std.proofs.Common.{◌≡◌, ◌≢◌, ℕ, suc, ◌+◌, ◌<◌, ◌≤◌, true, false, ◌==◌, List, [], ◌∷◌, ◌++◌, length, reverse, get_or, set, take, drop, Option, Some, None, IsSome, if◌then◌else◌, refl, sym, ap, ◌∙◌, subst, arith, length-append, length-set, drop-cons, get_or-set_same, get_or-set_other}
-use Rattle.std.proofs.lemmas.Bool.{false≢true}
+-- Chains freed, whole and behind a node.
+use Rattle.std.proofs.Common.{◌≡◌, ◌≢◌, ℕ, suc, ◌+◌, ◌<◌, ◌≤◌, true, false, ◌==◌, List, [], ◌∷◌, ◌++◌, length, reverse, get_or, set, take, drop, Option, Some, None, IsSome, if◌then◌else◌, refl, sym, ap, ◌∙◌, subst, arith, length-append, length-set, drop-cons, get_or-set_same, get_or-set_other, ◌-◌}
+use Rattle.std.proofs.lemmas.Bool.{false≢true, false_from_ne_true}
 use Rattle.std.proofs.lemmas.Bool.Decides.{nat_tests}
-use Rattle.std.proofs.lemmas.List.{drop_all, get_or_read, reverse-append, take_all, take_more}
+use Rattle.std.proofs.lemmas.List.{drop_all, get_or_read, reverse-append, take_all, take_more, length-drop, length-take-le, set-get_or, take-append-drop}
 use Rattle.std.proofs.lemmas.Option.{none-some}
-use Rattle.strm_links.specs.Rows.{has, IsApart, first_or, last}
+use Rattle.std.specs.Prelude.{is_none}
+use Rattle.strm_links.specs.Rows.{has, IsApart, first_or, last, first}
 use Rattle.strm_links.specs.Layout.{LeadsOn}
 use Rattle.strm_links.specs.Chains.{chain_in}
-use Rattle.strm_links.specs.StrandLists.{StrandLists, strand_at}
-use Rattle.strm_links.specs.StrandLayout.{IsSound, IsStrand, next_at, no_node, no_span, node_at, span_at}
+use Rattle.strm_links.specs.StrandLists.{StrandLists, strand_at, with_behind_freed}
+use Rattle.strm_links.specs.StrandLayout.{IsSound, IsStrand, next_at, no_node, no_span, node_at, span_at, node_onward, path}
 use Rattle.strm_links.specs.declared.strands.Node.{Node}
 use Rattle.strm_links.specs.declared.strands.Span.{Span}
-use Rattle.strm_links.proofs.lists.ListLinks.{LeadsOn-kept, absent_take, link_at}
-use Rattle.strm_links.proofs.lists.Counting.{has_times, times-reverse, times_has}
-use Rattle.strm_links.proofs.lists.OneList.{first_or-append, absent_both, absent_parts}
-use Rattle.strm_links.proofs.chaining.Laid.{IsSound-out, strand_laid, write_elsewhere, write_here, freed_few}
+use Rattle.strm_links.specs.Counting.{times}
+use Rattle.strm_links.proofs.lists.ListLinks.{LeadsOn-kept, absent_take, link_at, LeadsOn-parts, walk_is, last_without, onward-end}
+use Rattle.strm_links.proofs.lists.Counting.{has_times, times-reverse, times_has, split_behind, times-append}
+use Rattle.strm_links.proofs.lists.OneList.{first_or-append, absent_both, absent_parts, first_alone, ApartParts, IsApart-parts, differ, has_left, has_right, has_tail}
+use Rattle.strm_links.proofs.chaining.Laid.{IsSound-out, strand_laid, write_elsewhere, write_here, freed_few, head_in, some_items, apart_from, strand_apart, strand_low}
+
+-- ---- all nodes of a chain become free, the last one first
 
 -- the last node is first in the reverse
 first_or-reverse : (b : Option ℕ) (xs : List ℕ) (t : ℕ) → last xs ≡ Some t → first_or b (reverse xs) ≡ Some t
@@ -118,3 +122,151 @@ module _ (old now : List Node) (beyond end : Option ℕ) (xs : List ℕ) (i : �
             spans = λ k. grind (arith, nat_tests, new, known, same k, reverses.spans k);
             len = ap length write ∙ length-set now n (record y { next = onto }) ∙ reverses.len;
           }
+
+-- ---- the nodes after the first of a chain become free, the last one first
+
+-- ---- the parts of a list
+
+-- the front of two lists is that of the first, unless it is empty
+front_left : (xs ys : List ℕ) → 0 < length xs → first (xs ++ ys) ≡ first xs
+front_left [] ys some = absurd (omega (arith, some))
+front_left (x ∷ xs) ys some = refl
+
+front_some : (xs : List ℕ) → 0 < length xs → IsSome (first xs)
+front_some [] some = absurd (omega (arith, some))
+front_some (x ∷ xs) some = refl
+
+module _ (nodes : List Node) (first_free : Option ℕ) (free_len : ℕ) (v : StrandLists) (laid : IsSound nodes first_free free_len v) (h : ℕ) (some_h : IsSome (chain_in v.chains h)) where
+  -- ---- `out` follow the head h
+
+  module _ (out post : List ℕ) (split : strand_at v h ≡ h ∷ (out ++ post)) where
+    chained : IsStrand (next_at nodes) (span_at nodes h) h (h ∷ (out ++ post))
+    chained = subst (IsStrand (next_at nodes) (span_at nodes h) h) split (strand_laid nodes first_free free_len v laid h some_h)
+
+    apart : IsApart (h ∷ (out ++ post))
+    apart = subst IsApart split (strand_apart v laid.once h)
+
+    parts : ApartParts out post
+    parts = IsApart-parts out post apart.1
+
+    leads : LeadsOn (next_at nodes) out (first post) × LeadsOn (next_at nodes) post None
+    leads = LeadsOn-parts (next_at nodes) out post None chained.leads.1
+
+    -- a node after h is not h
+    off_head : (k : ℕ) → has k (out ++ post) ≡ true → k ≢ h
+    off_head k there same = differ h k (out ++ post) apart.0 there (sym same)
+
+    in_strand : (k : ℕ) → has k out ≡ true → has k (strand_at v h) ≡ true
+    in_strand k there = ap (has k) split ∙ has_tail h k (out ++ post) (has_left k out post there)
+
+    -- what h leads on to
+    head_next : next_at nodes h ≡ first_or (first post) out
+    head_next = chained.leads.0 ∙ first_or-append None out post
+
+    -- the links from there lead through `out`, and then to `post`
+    path_out : path nodes (length out) (next_at nodes h) ≡ out
+    unfolding path
+    path_out = ap (path nodes (length out)) head_next ∙ walk_is (next_at nodes) out (first post) leads.0
+
+    onward_out : node_onward (next_at nodes) (length out) (next_at nodes h) ≡ first post
+    onward_out = ap (node_onward (next_at nodes) (length out)) head_next ∙ onward-end (next_at nodes) out (first post) leads.0
+
+    module _ (new : List Node) (long : length new ≡ length nodes) (reversed : LeadsOn (next_at new) (reverse out) first_free) (now : next_at new h ≡ first post)
+        (links : (k : ℕ) → k ≢ h → has k out ≡ false → next_at new k ≡ next_at nodes k)
+        (spans : (k : ℕ) → span_at new k
+        ≡ (if h == k then record { last = (if is_none (first post) then h else (span_at nodes h).last); len = (span_at nodes h).len - length out } else span_at nodes k)) where
+      links_off : (k : ℕ) → has k (strand_at v h) ≡ false → next_at new k ≡ next_at nodes k
+      links_off k absent =
+          links k (apart_from k h (strand_at v h) (head_in nodes first_free free_len v laid h some_h) absent)
+          (false_from_ne_true _ (λ there. false≢true (sym absent ∙ in_strand k there)))
+
+      here : IsStrand (next_at new) (record { last = (if is_none (first post) then h else (span_at nodes h).last); len = (span_at nodes h).len - length out }) h (h ∷ post)
+      here = record {
+        head = refl;
+        last = last_without (h ∷ []) out post h (span_at nodes h).last refl chained.last;
+        len = omega (arith, chained.len, length-append out post);
+        leads = (
+          now,
+          LeadsOn-kept (next_at nodes) (next_at new) post None
+              (λ k there. links k (off_head k (has_right k out post there)) (false_from_ne_true _ (λ before. false≢true (sym (parts.cross k before) ∙ there))))
+              leads.1,
+        );
+      }
+
+      IsSound-parted : (free_len' : ℕ) → free_len' ≡ free_len + length out → IsSound new (first_or first_free (reverse out)) free_len' (record { free = reverse out ++ v.free; chains = set v.chains h (Some (h ∷ post)) })
+      IsSound-parted free_len' counts =
+          let strand = subst (λ s. IsStrand (next_at new) s h (h ∷ post)) (sym (spans h ∙ write_here h _ _)) here in
+          IsSound-out nodes first_free free_len v laid h new long links_off out (Some (h ∷ post)) _ free_len' some_h reversed (λ g other. spans g ∙ write_elsewhere h g _ _ other) strand
+          (λ k. omega (arith, ap (times k) split, times-append k (h ∷ []) (out ++ post), times-append k (h ∷ []) post, times-append k out post)) refl counts
+
+  -- ---- the `count` nodes after the head
+
+  begins : first (strand_at v h) ≡ Some h
+  begins = (strand_laid nodes first_free free_len v laid h some_h).head
+
+  -- freeing 0 nodes changes nothing
+  pub none_freed : with_behind_freed h 0 (strand_at v h) v ≡ v
+  none_freed =
+      let same : take 1 (strand_at v h) ++ drop 1 (strand_at v h) ≡ strand_at v h = take-append-drop 1 (strand_at v h) in
+      let there : Some (strand_at v h) ≡ chain_in v.chains h = sym (some_items (chain_in v.chains h) some_h) in
+      λ i. record { free = v.free; chains = (ap (λ xs. set v.chains h (Some xs)) same ∙ ap (set v.chains h) there ∙ set-get_or v.chains h None) i }
+
+  module _ (count : ℕ) (some : 0 < count) (within : count < length (strand_at v h)) where
+    -- the nodes that become free, and those after them
+    abbrev out_of : List ℕ
+    out_of = take count (drop 1 (strand_at v h))
+
+    abbrev rest_of : List ℕ
+    rest_of = drop (count + 1) (strand_at v h)
+
+    split : strand_at v h ≡ h ∷ (out_of ++ rest_of)
+    split = split_behind (strand_at v h) count ∙ ap (λ xs. xs ++ (out_of ++ rest_of)) (first_alone h (strand_at v h) begins)
+
+    pub behind_count : length out_of ≡ count
+    behind_count = length-take-le count (drop 1 (strand_at v h)) (omega (arith, within, length-drop 1 (strand_at v h)))
+
+    any : 0 < length out_of
+    any = omega (arith, behind_count, some)
+
+    -- with them there are at most as many free nodes as nodes, and the chain is longer than `count`
+    pub behind_room : free_len + count ≤ length v.chains
+    behind_room = omega (arith, within, freed_room nodes first_free free_len v laid h some_h, (strand_laid nodes first_free free_len v laid h some_h).len)
+
+    pub behind_len : count ≤ (span_at nodes h).len
+    behind_len = omega (arith, within, (strand_laid nodes first_free free_len v laid h some_h).len)
+
+    -- a node follows the head
+    pub behind_some : IsSome (next_at nodes h)
+    behind_some = subst IsSome (sym ((chained out_of rest_of split).leads.0 ∙ front_left out_of rest_of any)) (front_some out_of any)
+
+    module _ (n : ℕ) (on : next_at nodes h ≡ Some n) where
+      -- the links from it on lead through the nodes that become free
+      pub behind_path : path nodes count (Some n) ≡ out_of
+      behind_path = (λ i. path nodes (sym behind_count i) (sym on i)) ∙ path_out out_of rest_of split
+
+      pub behind_onward : node_onward (next_at nodes) count (Some n) ≡ first rest_of
+      behind_onward = (λ i. node_onward (next_at nodes) (sym behind_count i) (sym on i)) ∙ onward_out out_of rest_of split
+
+      pub behind_first : first out_of ≡ Some n
+      behind_first = sym (front_left out_of rest_of any) ∙ sym (chained out_of rest_of split).leads.0 ∙ on
+
+    -- none of them is there twice, and each is a node
+    pub behind_apart : IsApart out_of
+    behind_apart = (parts out_of rest_of split).left
+
+    pub behind_low : (k : ℕ) → has k out_of ≡ true → k < length v.chains
+    behind_low k there = strand_low v laid.once h k (in_strand out_of rest_of split k there)
+
+    pub behind_off : has h out_of ≡ false
+    behind_off = false_from_ne_true _ (λ there. off_head out_of rest_of split h (has_left h out_of rest_of there) refl)
+
+    pub IsSound-behind_freed : (new : List Node) → length new ≡ length nodes → LeadsOn (next_at new) (reverse out_of) first_free → next_at new h ≡ first rest_of
+        → ((k : ℕ) → k ≢ h → has k out_of ≡ false → next_at new k ≡ next_at nodes k)
+        → ((k : ℕ) → span_at new k ≡ (if h == k then record { last = (if is_none (first rest_of) then h else (span_at nodes h).last); len = (span_at nodes h).len - count } else span_at nodes k))
+        → IsSound new (first_or first_free (reverse out_of)) (free_len + count) (with_behind_freed h count (strand_at v h) v)
+    IsSound-behind_freed new long reversed now links spans =
+        let only : (h ∷ []) ++ rest_of ≡ take 1 (strand_at v h) ++ rest_of = ap (λ xs. xs ++ rest_of) (sym (first_alone h (strand_at v h) begins)) in
+        subst (λ xs. IsSound new (first_or first_free (reverse out_of)) (free_len + count) (record { free = reverse out_of ++ v.free; chains = set v.chains h (Some xs) })) only
+        (IsSound-parted out_of rest_of split new long reversed now links
+        (λ k. spans k ∙ ap (λ n. if h == k then record { last = (if is_none (first rest_of) then h else (span_at nodes h).last); len = (span_at nodes h).len - n } else span_at nodes k) (sym behind_count))
+        (free_len + count) (omega (arith, behind_count)))

@@ -15,8 +15,7 @@ use Rattle.strm_links.specs.Layout.{walk, LeadsOn}
 use Rattle.strm_links.specs.StrandLayout.{IsHeadOf, IsSound, IsStrand, next_at, no_node, node_at, path, span_at, strand, strands_of}
 use Rattle.strm_links.specs.declared.strands.Node.{Node}
 use Rattle.strm_links.specs.declared.strands.Span.{Span}
-use Rattle.strm_links.proofs.lists.Counting.{times-reverse, apart_once, has_times, times-append, times_has}
-use Rattle.strm_links.proofs.lists.Chains.{Changes-one, Changes-two, times-set, times-set_two, some_chain, times_one, times_two, Changes}
+use Rattle.strm_links.proofs.lists.Counting.{times-reverse, apart_once, has_times, times-append, times_has, Changes-one, Changes-two, times-set, times-set_two, some_chain, times_one, times_two, Changes}
 use Rattle.strm_links.proofs.lists.OneList.{first_or-append, length_below, after-get, has_get}
 use Rattle.strm_links.proofs.lists.ListLinks.{LeadsOn-append, LeadsOn-kept, next_is, walk_is, has_first, has_last}
 

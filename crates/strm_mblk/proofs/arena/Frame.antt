@@ -11,7 +11,7 @@ use Rattle.strm_data.specs.declared.refusal.Refusal.{Refusal}
 use Rattle.strm_data.specs.declared.refusal.Refusal.TheVariants.{NoData, NoMblk, NoSuchBlock, Shared, Short, TooLarge}
 use Rattle.strm_data.specs.Classes.{fits_a_class}
 use Rattle.strm_data.specs.DataStore.{DataBlock, DataStore, capacity_of, class_of, data_block_at, fitting_blocks, free_of, no_data_block, take_data, times, with_bytes_written, with_data_taken, with_kind}
-use Rattle.strm_data.proofs.store.Fitting.{if_fits}
+use Rattle.strm_data.proofs.store.Lawful.{if_fits}
 use Rattle.strm_links.proofs.lists.Counting.{one_if, times-append, times-cons, times_here}
 use Rattle.strm_links.specs.Rows.{has}
 use Rattle.strm_links.proofs.lists.OneList.{has_head}

@@ -10,11 +10,10 @@ use Rattle.strm_data.specs.declared.msg_type.MsgType.{MsgType}
 use Rattle.strm_data.specs.declared.msg_type.MsgType.TheVariants.{MData}
 use Rattle.strm_data.specs.CountedStore.{CountedStore, IsKept, count_of, opening_counted}
 use Rattle.strm_data.specs.DataStore.{DataStore, DataBlock, bytes_overwritten, data_block_at, capacity_of, with_bytes_written, with_data_taken, with_kind, with_data_reset}
-use Rattle.strm_data.proofs.lists.Tables.{length-overwritten}
+use Rattle.strm_data.proofs.Lists.{length-overwritten, copies-at, flat_map-replicate, map-replicate}
 use Rattle.strm_data.specs.declared.class_spec.ClassSpec.{ClassSpec}
 use Rattle.strm_data.specs.Classes.{are_lawful, total_of}
 use Rattle.strm_data.proofs.store.Opening.{length-blocks_from}
-use Rattle.strm_data.proofs.lists.Repeated.{copies-at, flat_map-replicate, map-replicate}
 use Rattle.strm_mblk.specs.declared.blocks.Fields.{Fields}
 use Rattle.strm_mblk.specs.BlocksLayout.{IsFilled, IsPlaced, arena_of, fields_at, no_fields}
 use Rattle.strm_mblk.specs.NodeLists.{NodeLists, IsNodesParted, opening_nodes}

@@ -14,11 +14,10 @@ use Rattle.strm_data.specs.declared.refusal.Refusal.TheVariants.{NoData, TooLarg
 use Rattle.strm_data.specs.Classes.{fits_a_class}
 use Rattle.strm_data.specs.CountedStore.{CountedStore, IsKept, IsUnused, after_take}
 use Rattle.strm_data.specs.DataStore.{DataStore, IsTakenFrom, class_infos, class_spec_at, fitting_blocks, free_of, no_class_spec, take_data, capacity_of, class_of, data_block_at, bytes_overwritten, with_data_taken, with_kind}
-use Rattle.strm_data.proofs.store.Fitting.{IsTakenFrom-found, fitting_from, fitting_from_next, if_fits, if_fits-empty, if_fits-small}
+use Rattle.strm_data.proofs.store.Lawful.{IsTakenFrom-found, fitting_from, fitting_from_next, if_fits, if_fits-empty, if_fits-small, lawful_rise, lawful_some}
 use Rattle.strm_data.proofs.store.Kept.{length-class_infos, IsKept-altered, IsKept-take, first_unused}
 use Rattle.strm_data.specs.declared.refusal.Refusal.{Refusal}
-use Rattle.strm_data.proofs.store.Lawful.{lawful_rise, lawful_some}
-use Rattle.strm_data.proofs.lists.Tables.{length-overwritten}
+use Rattle.strm_data.proofs.Lists.{length-overwritten}
 use Rattle.strm_mblk.specs.Copying.{AreLeft, IsLeft, with_copy}
 use Rattle.strm_mblk.specs.Block.{Block, bytes_of_block, kind_of}
 use Rattle.strm_mblk.specs.BlockCalls.{blocks_copied, copied_from, fits_classes, store_with_copy}

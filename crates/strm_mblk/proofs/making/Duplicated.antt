@@ -15,7 +15,7 @@ use Rattle.strm_links.proofs.lists.Counting.{one_if, times-append, times-cons, t
 use Rattle.strm_data.specs.Limits.{most_references}
 use Rattle.strm_links.specs.Rows.{first}
 use Rattle.strm_data.specs.declared.refusal.Refusal.TheVariants.{RefMax}
-use Rattle.strm_data.proofs.store.Fitting.{list_any-map}
+use Rattle.strm_data.proofs.store.Lawful.{list_any-map}
 use Rattle.strm_mblk.specs.BlocksLayout.{exceeds_counts, with_references_dropped, with_references_given, IsFilled, arena_of, fields_at, no_fields, with_fields, IsPlaced, block_at, fields_of, message_of, data_used_by}
 use Rattle.strm_mblk.specs.declared.blocks.Fields.{Fields}
 use Rattle.strm_mblk.specs.declared.token.TokenValue.{TokenValue}

@@ -31,9 +31,8 @@ use Rattle.strm_queue.specs.Flush.{carries_data, is_flushed, is_picked, with_fre
 use Rattle.strm_queue.specs.QueuedBlocks.{Agrees, AreMarksLawful, QueuesValue}
 use Rattle.strm_queue.proofs.order.Ends.{of_rank-append, of_rank-refused}
 use Rattle.strm_queue.proofs.order.Order.{around}
-use Rattle.strm_queue.proofs.shelf.Across.{shelved_message_at}
-use Rattle.strm_queue.proofs.agreeing.Agreeing.{marks_left_lawful, marks_other, rank_of-same}
-use Rattle.strm_queue.proofs.shelf.OnShelf.{FirstParts, after-head, at_there, first_of, heads, unshelved}
+use Rattle.strm_queue.proofs.Shelf.{shelved_message_at, FirstParts, after-head, at_there, first_of, heads, unshelved}
+use Rattle.strm_queue.proofs.Agreeing.{marks_left_lawful, marks_other, rank_of-same}
 use Rattle.strm_mblk.proofs.pulling.Drained.{freed_held, freed_id}
 
 -- ---- by the first block of a message

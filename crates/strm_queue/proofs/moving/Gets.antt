@@ -20,8 +20,7 @@ use Rattle.strm_queue.specs.HeadCalls.{place_of, rmvq_head}
 use Rattle.strm_queue.specs.QueueCalls.{getq, get_at, get_first, messages_on, rmvq, with_queue_settled, with_got, with_state}
 use Rattle.strm_queue.specs.QueueLooks.{queue_of}
 use Rattle.strm_queue.specs.QueuedBlocks.{Agrees, AreMarksLawful, QueuedBlocks, QueuesValue, queued_blocks}
-use Rattle.strm_queue.proofs.shelf.Across.{shelf_has}
-use Rattle.strm_queue.proofs.shelf.OnShelf.{FirstParts, IsPlacedAt, first_of, place_there, unshelved}
+use Rattle.strm_queue.proofs.Shelf.{shelf_has, FirstParts, IsPlacedAt, first_of, place_there, unshelved}
 
 module _ (v : QueuesValue) (a : Arena) (agrees : Agrees v a) (parted : IsParted a) (q : ℕ) (there : nat_lt q (length v.state.specs) ≡ true) (h : ℕ) where
   abbrev both : QueuedBlocks

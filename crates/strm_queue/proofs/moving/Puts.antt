@@ -19,13 +19,13 @@ use Rattle.strm_queue.specs.HeadCalls.{insq_before, place_before}
 use Rattle.strm_queue.specs.QueueCalls.{has_queue, insq, flags_of, messages_on, putbq, putq, rank_put, with_put, with_state}
 use Rattle.strm_queue.specs.QueuedBlocks.{QueuedBlocks, QueuesValue, queued_blocks}
 use Rattle.strm_queue.specs.Rank.{as_queued, is_ordered, put_ahead, put_at, put_behind, rank_of}
-use Rattle.strm_queue.proofs.shelf.OnShelf.{first_at, heads, place_missing, place_there, placed-between}
+use Rattle.strm_queue.proofs.Shelf.{first_at, heads, place_missing, place_there, placed-between}
 use Rattle.std.specs.List.{All, flat_map}
 use Rattle.strm_mblk.specs.BlockCalls.{with_band, setband}
 use Rattle.strm_mblk.proofs.Lists.{flat_map-set_adds, length_adds}
 use Rattle.strm_mblk.proofs.arena.Counts.{held_within}
 use Rattle.strm_queue.specs.Limits.{high_rank}
-use Rattle.strm_queue.proofs.order.Ranks.{low_queued}
+use Rattle.strm_queue.proofs.order.Order.{low_queued}
 
 module _ (v : QueuesValue) (a : Arena) (q h : ℕ) (there : nat_lt q (length v.state.specs) ≡ true) where
   -- the message, as a queue has it

@@ -20,7 +20,7 @@ use Rattle.strm_mblk.specs.Shelves.{heads_at, unshelve}
 use Rattle.strm_mblk.proofs.arena.Counts.{had_message}
 use Rattle.strm_queue.specs.Taking.{AreHanded, Hands, first_picked, heads_taken, left_after, with_all_held}
 use Rattle.strm_queue.proofs.moving.Flushing.{IsFlushing, IsOffShelf, IsPassed, flushing_gone, flushing_kept, flushing_none, flushing_on, next, next_is, passed_more, picked_passed}
-use Rattle.strm_queue.proofs.shelf.OnShelf.{FirstParts, heads, unshelved}
+use Rattle.strm_queue.proofs.Shelf.{FirstParts, heads, unshelved}
 
 -- ---- messages that are held
 

@@ -14,7 +14,7 @@ use Rattle.strm_mblk.specs.Block.{Message, head_of}
 use Rattle.strm_queue.specs.Ends.{first_of_rank, last_of_rank, of_rank}
 use Rattle.strm_queue.specs.Rank.{is_ordered}
 use Rattle.strm_queue.specs.Tallies.{end_after_joining, end_after_leaving}
-use Rattle.strm_queue.proofs.shelf.OnShelf.{first_none, heads, last_none, last_of}
+use Rattle.strm_queue.proofs.Shelf.{first_none, heads, last_none, last_of}
 use Rattle.strm_queue.proofs.order.Order.{around, ordered_last}
 
 -- ---- the ends of messages in two parts

@@ -12,7 +12,7 @@ use Rattle.strm_mblk.specs.Messages.{put_before_head}
 use Rattle.strm_queue.specs.Ends.{first_of_rank, last_of_rank, of_rank}
 use Rattle.strm_queue.specs.Rank.{is_ordered, put_ahead, put_behind}
 use Rattle.strm_queue.proofs.order.Ends.{first_of_rank-has, first_of_rank-none, first_of_rank-parts, first_of_rank-some, has_of_rank, last_of_rank-has, none_ahead, none_behind, of_rank-refused, of_rank-other}
-use Rattle.strm_queue.proofs.shelf.OnShelf.{after-head, heads, no_other, parts_of, placed-between, first_there}
+use Rattle.strm_queue.proofs.Shelf.{after-head, heads, no_other, parts_of, placed-between, first_there}
 use Rattle.strm_queue.proofs.order.Order.{are_above, are_below, around, put_ahead-at, put_ahead-last, put_behind-at, put_behind-front}
 use Rattle.strm_queue.specs.Limits.{ranks}
 use Rattle.strm_queue.specs.Tallies.{AreEndsOf, Tally, has_rank}

@@ -60,7 +60,7 @@ impl Queues {
     /// Says whether a band has room at the target: the first queue with a service procedure from this one on, or else the
     /// last one. If the band is full there, this sets its wanted mark and returns false. Refused as `NoSuchQueue`; then
     /// nothing changes. Takes a step for each queue that is passed.
-    #[tactic(auto, using(strm_mblk::proofs::arena::Calls::leaves_blocks, crate::proofs::flow::Settling::agrees_wanted))]
+    #[tactic(auto, using(strm_mblk::proofs::arena::Calls::leaves_blocks, crate::proofs::Flow::agrees_wanted))]
     pub fn bcanput(&mut self, blocks: &Blocks, queue: u8, band: u8) -> Result<bool, Refusal>
         requires { Agrees self.old blocks.now }
         ensures does { LeavesBlocks arena (model.bcanput queue band (queued_blocks self.old blocks.now))
@@ -127,7 +127,7 @@ impl Queues {
 
     /// Returns the queue at a place of the run list, counted from 0, or none if the list is shorter. Takes at most
     /// `place` steps. This project's own call.
-    #[tactic(auto, using(crate::proofs::layout::Running::run_within, crate::proofs::layout::Running::run_step))]
+    #[tactic(auto, using(crate::proofs::Laid::run_within, crate::proofs::Laid::run_step))]
     pub fn run_at(&self, place: u32) -> Option<u8>
         ensures { (arena : Arena) → result ≡ model.run_at place (queued_blocks self.now arena) }
     {

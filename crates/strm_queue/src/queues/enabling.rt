@@ -10,7 +10,7 @@ use crate::limits::HIGH_RANK;
 
 impl Queues {
     // The first queue with a service procedure from this one on, or else the last one. Takes a step for each queue passed.
-    #[tactic(auto, using(crate::proofs::flow::Targets::target_next))]
+    #[tactic(auto, using(crate::proofs::Flow::target_next))]
     pub(super) fn target(&self, queue: u8) -> u8
         requires { queue < length self.now.state.specs }
         ensures value { result ≡ flow.target self.now.state.specs queue }
@@ -31,7 +31,7 @@ impl Queues {
     }
 
     // The queue whose next is this one, if any. Takes a step for each queue of lower number.
-    #[tactic(auto, using(crate::proofs::flow::Targets::behind_found, crate::proofs::flow::Targets::behind_none, crate::proofs::flow::Targets::names_is))]
+    #[tactic(auto, using(crate::proofs::Flow::behind_found, crate::proofs::Flow::behind_none, crate::proofs::Flow::names_is))]
     fn behind(&self, queue: u8) -> Option<u8>
         requires { queue < length self.now.state.specs }
         ensures value { result ≡ flow.behind self.now.state.specs queue }
@@ -116,7 +116,7 @@ impl Queues {
     }
 
     // Takes the first queue off the run list, if any.
-    #[tactic(auto, using(crate::proofs::layout::Running::lawful_left, crate::proofs::layout::Running::run_left))]
+    #[tactic(auto, using(crate::proofs::Laid::lawful_left, crate::proofs::Laid::run_left))]
     pub(super) fn take_first(&mut self) -> Option<u8>
         ensures value { result ≡ rows.first self.old.state.run }
         ensures state { self.new ≡ record self.old {

@@ -43,7 +43,7 @@ pub(super) fn held_rank(blocks: &Blocks, token: &Token) -> u16
 }
 
 // The rank of a message on a queue.
-#[tactic(auto, using(crate::proofs::order::Ranks::rank_asked, crate::proofs::shelf::Across::shelved_message_at))]
+#[tactic(auto, using(crate::proofs::order::Order::rank_asked, crate::proofs::Shelf::shelved_message_at))]
 pub(super) fn queued_rank(blocks: &Blocks, head: BlockNo) -> u16
     requires { IsSome (shelf_of blocks.now head) }
     ensures value { (queue : ℕ) (pre post : List Message) (m : Message) → shelf_at blocks.now queue ≡ pre ++ m ∷ post
@@ -70,7 +70,7 @@ pub(super) fn head_at(blocks: &Blocks, queue: u8, place: u32) -> Option<BlockNo>
 }
 
 // Whether the message with this head is on this queue; true if no head is given.
-#[tactic(auto, using(crate::proofs::shelf::Across::shelf_asked, crate::proofs::shelf::Across::shelf_absent))]
+#[tactic(auto, using(crate::proofs::Shelf::shelf_asked, crate::proofs::Shelf::shelf_absent))]
 pub(super) fn is_at(blocks: &Blocks, queue: u8, at: Option<BlockNo>) -> bool
     ensures none { at ≡ None → result ≡ true }
     ensures some { ForSome at (λ head. result ≡ is_on blocks.now queue head) }

@@ -16,7 +16,7 @@ use Rattle.strm_shared.specs.declared.views.View.{View}
 use Rattle.strm_shared.specs.Pairs.{Pair, count_in, pair_at}
 use Rattle.strm_shared.specs.Seats.{IsOf, history_after, known_after}
 use Rattle.strm_shared.specs.SeatsLayout.{AreEntered, IsKeptBy, IsNextOf, IsSeated, history_at, known_at}
-use Rattle.strm_shared.proofs.seats.Books.{history_is, kept_more, next_pair}
+use Rattle.strm_shared.proofs.seats.Seated.{history_is, kept_more, next_pair}
 use Rattle.strm_shared.proofs.seats.Desks.{known_is, seated, served_later, served_shown}
 use Rattle.strm_shared.proofs.seats.Histories.{last_after, length-served_from}
 

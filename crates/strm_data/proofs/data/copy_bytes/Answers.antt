@@ -3,7 +3,7 @@ use Rattle.std.specs.Vec.{with_items}
 use Rattle.std.proofs.lemmas.List.{map-set}
 use Rattle.strm_data.specs.DataLayout.{bytes_of, region_at}
 use Rattle.strm_data.specs.DataStore.{bytes_overwritten}
-use Rattle.strm_data.proofs.layout.Regions.{high_region, high_set, low_region, low_set, over_region, part, region_of}
+use Rattle.strm_data.proofs.layout.Copying.{high_region, high_set, low_region, low_set, over_region, part, region_of}
 use Rattle.strm_data.proofs.data.copy_bytes.Goals as goal
 
 pub returns-then-from-into : goal.returns-then-from-into

@@ -1,6 +1,6 @@
 use Rattle.std.proofs.Common.{◌≡◌, ◌+◌, ◌-◌, set, ap, ◌∙◌, arith}
 use Rattle.std.specs.List.{range_with_len}
-use Rattle.strm_data.proofs.layout.Filling.{filled_more}
+use Rattle.strm_data.proofs.layout.Opened.{filled_more}
 use Rattle.strm_data.proofs.data.fill.Goals as goal
 
 pub loop-number-preserved : goal.loop-number-preserved

@@ -3,7 +3,7 @@ use Rattle.std.specs.List.{range_with_len}
 use Rattle.strm_links.specs.Rows.{Rows, holder}
 use Rattle.strm_links.proofs.lists.AllLists.{holder-empty}
 use Rattle.strm_data.specs.DataStore.{no_class_spec}
-use Rattle.strm_data.proofs.layout.Filling.{length-filled, filled-next, filled-more, total_of_next, total_of_more}
+use Rattle.strm_data.proofs.layout.Opened.{length-filled, filled-next, filled-more, total_of_next, total_of_more}
 use Rattle.strm_data.proofs.data.free_lists.Goals as goal
 
 pub loop-number-init : goal.loop-number-init

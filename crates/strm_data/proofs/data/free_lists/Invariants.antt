@@ -1,7 +1,7 @@
 use Rattle.std.proofs.Common.{◌≡◌, ℕ, ◌≤◌, None, take}
 use Rattle.strm_links.specs.Rows.{holder}
 use Rattle.strm_data.specs.Classes.{total_of}
-use Rattle.strm_data.proofs.layout.Filling.{filled}
+use Rattle.strm_data.proofs.layout.Opened.{filled}
 use Rattle.strm_data.proofs.data.free_lists.Given as goal
 
 -- the lists of the classes so far are filled, and the nodes from here on are in none

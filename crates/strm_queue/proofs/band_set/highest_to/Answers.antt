@@ -1,5 +1,5 @@
 use Rattle.std.proofs.Common.{refl, rules}
-use Rattle.strm_queue.proofs.bands.Bits.{highest_of}
+use Rattle.strm_queue.proofs.bands.Used.{highest_of}
 use Rattle.strm_queue.proofs.band_set.highest_to.Goals as goal
 
 pub returns-clause-some : goal.returns-clause-some

@@ -1,5 +1,5 @@
 use Rattle.std.proofs.Common.{refl, rules}
-use Rattle.strm_queue.proofs.bands.Bits.{lowest_of}
+use Rattle.strm_queue.proofs.bands.Used.{lowest_of}
 use Rattle.strm_queue.proofs.band_set.lowest_from.Goals as goal
 
 pub returns-clause-some : goal.returns-clause-some

@@ -1,4 +1,4 @@
-use Rattle.strm_queue.proofs.agreeing.Agreeing.{agrees_left}
+use Rattle.strm_queue.proofs.Agreeing.{agrees_left}
 use Rattle.strm_queue_tests.proofs.tests.free.Goals as goal
 
 pub returns : goal.returns

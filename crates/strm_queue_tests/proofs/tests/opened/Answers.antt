@@ -2,7 +2,7 @@ use Rattle.std.proofs.Common.{◌≡◌, length, subst, sym}
 use Rattle.std.specs.Result.{IfOk}
 use Rattle.strm_mblk.specs.Arena.{opening_arena}
 use Rattle.strm_queue.specs.QueuedBlocks.{Agrees, opening_value}
-use Rattle.strm_queue.proofs.agreeing.Agreeing.{agrees_new}
+use Rattle.strm_queue.proofs.Agreeing.{agrees_new}
 use Rattle.strm_queue_tests.proofs.tests.opened.Goals as goal
 
 pub returns : goal.returns

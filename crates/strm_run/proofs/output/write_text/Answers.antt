@@ -2,7 +2,7 @@ use Rattle.std.proofs.Common.{rules, arith, ◌∙◌, length-drop}
 use Rattle.std.proofs.Math.Seq.{take-add}
 use Rattle.std.proofs.lemmas.List.{take_rest}
 use Rattle.std.proofs.KnownBytes.{Appends-trans}
-use Rattle.strm_run.proofs.Stopping.{stops_more}
+use Rattle.strm_run.proofs.Texts.{stops_more}
 use Rattle.strm_run.proofs.output.write_text.Goals as goal
 
 pub loop-written-preserved : goal.loop-written-preserved

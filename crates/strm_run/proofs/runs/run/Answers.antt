@@ -1,4 +1,4 @@
-use Rattle.strm_run.proofs.Faults.{errs-text}
+use Rattle.strm_run.proofs.Texts.{errs-text}
 use Rattle.strm_run.proofs.runs.run.Goals as goal
 
 pub returns-in_err-text-clause-writer : goal.returns-in_err-text-clause-writer

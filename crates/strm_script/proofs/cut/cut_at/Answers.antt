@@ -1,5 +1,5 @@
 use Rattle.std.proofs.Common.{◌==◌, sym, ◌∙◌}
-use Rattle.strm_script.proofs.Cuts.{slice_split-None, slice_split-Some}
+use Rattle.strm_script.proofs.Words.{slice_split-None, slice_split-Some}
 use Rattle.strm_script.proofs.cut.cut_at.Goals as goal
 
 pub returns-in-Some : goal.returns-in-Some

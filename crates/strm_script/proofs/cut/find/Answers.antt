@@ -1,5 +1,5 @@
 use Rattle.std.proofs.Common.{◌==◌, sym}
-use Rattle.strm_script.proofs.Cuts.{position-first}
+use Rattle.strm_script.proofs.Words.{position-first}
 use Rattle.strm_script.proofs.cut.find.Goals as goal
 
 pub returns-clause-place : goal.returns-clause-place

@@ -1,6 +1,6 @@
 -- The exits at a word that isn't of its form.
 use Rattle.std.proofs.Common.{refl}
-use Rattle.strm_script.proofs.Shapes.{exits, goes_on, four_words}
+use Rattle.strm_script.proofs.Words.{exits, goes_on, four_words}
 use Rattle.strm_script.proofs.shape.four.Goals as goal
 
 pub returns-in_err-read-3 : goal.returns-in_err-read-3

@@ -1,6 +1,6 @@
 use Rattle.std.proofs.Common.{◌==◌, arith, sym}
 use Rattle.std.proofs.lemmas.List.Splits.{length-slice_split}
-use Rattle.strm_script.proofs.Shapes.{read_none-some}
+use Rattle.strm_script.proofs.Words.{read_none-some}
 use Rattle.strm_script.proofs.shape.none.Goals as goal
 
 pub returns-in-Some : goal.returns-in-Some

@@ -3,7 +3,7 @@ use Rattle.std.proofs.lemmas.List.{length-map, get_or-map}
 use Rattle.strm_data.specs.declared.data.Class.{Class}
 use Rattle.strm_data.specs.DataLayout.{store_of, no_class}
 use Rattle.strm_data.specs.DataStore.{IsTakenFrom, free_of, no_class_spec}
-use Rattle.strm_data.proofs.store.Fitting.{if_fits-small, if_fits-empty, fitting_from_next, IsTakenFrom-found}
+use Rattle.strm_data.proofs.store.Lawful.{if_fits-small, if_fits-empty, fitting_from_next, IsTakenFrom-found}
 use Rattle.strm_data.proofs.data.Data.class_for.Goals as goal
 use Rattle.strm_data.proofs.data.Data.class_for.Goals.{In-loop-number, else-class-size-via-then-class-size+else-len-gt0, else-class-size-via-else-class-size}
 

@@ -1,7 +1,7 @@
 use Rattle.std.proofs.Common.{◌≡◌}
 use Rattle.strm_data.specs.DataLayout.{store_of}
 use Rattle.strm_data.specs.DataStore.{fitting_blocks}
-use Rattle.strm_data.proofs.store.Fitting.{fitting_from}
+use Rattle.strm_data.proofs.store.Lawful.{fitting_from}
 use Rattle.strm_data.proofs.data.Data.class_for.Given as goal
 
 -- the classes seen give nothing

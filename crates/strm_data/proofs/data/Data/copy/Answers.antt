@@ -6,7 +6,7 @@ use Rattle.strm_data.specs.DataLayout.{bytes_of, store_of_parts, region_at, IsPl
 use Rattle.strm_data.specs.DataStore.{capacity_of, data_block_at, bytes_overwritten, with_bytes_written}
 use Rattle.strm_data.proofs.layout.Copying.{IsPlaceOf, in_region, overwrites, part_is, IsPlaced-overwrites}
 use Rattle.strm_data.proofs.store.Kept.{IsKept-altered, capacity_range}
-use Rattle.strm_data.proofs.lists.Tables.{length-overwritten, length-part}
+use Rattle.strm_data.proofs.Lists.{length-overwritten, length-part}
 use Rattle.strm_data.proofs.data.Data.copy.Goals as goal
 use Rattle.strm_data.proofs.data.Data.copy.Goals.{After-deref_mut}
 

@@ -4,10 +4,8 @@ use Rattle.strm_data.specs.CountedStore.{CountedStore, IsKept, IsInUse, without_
 use Rattle.strm_data.specs.DataLayout.{store_of}
 use Rattle.strm_data.specs.DataStore.{IsLeast}
 use Rattle.strm_data.proofs.layout.Alterations.{lowered, released, IsSound-altered}
-use Rattle.strm_data.proofs.store.Kept.{IsKept-without_name}
-use Rattle.strm_data.proofs.store.Least.{IsLeast-without_name}
-use Rattle.strm_data.proofs.layout.Laid.{count_is, list_within}
-use Rattle.strm_data.proofs.layout.Members.{holder_unlisted}
+use Rattle.strm_data.proofs.store.Kept.{IsKept-without_name, IsLeast-without_name}
+use Rattle.strm_data.proofs.layout.Laid.{count_is, list_within, holder_unlisted}
 use Rattle.strm_data.proofs.data.Data.drop_name.Goals as goal
 use Rattle.strm_data.proofs.data.Data.drop_name.Goals.{After-index_mut-block}
 

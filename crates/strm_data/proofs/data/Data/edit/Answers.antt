@@ -7,7 +7,7 @@ use Rattle.strm_data.specs.DataLayout.{bytes_of, region_at, store_of_parts, IsPl
 use Rattle.strm_data.specs.DataStore.{bytes_at, bytes_overwritten, capacity_of, with_bytes_written}
 use Rattle.strm_data.proofs.layout.Copying.{IsPlaceOf, in_region, overwrites, part_is, region_is, IsPlaced-overwrites}
 use Rattle.strm_data.proofs.store.Kept.{IsKept-altered}
-use Rattle.strm_data.proofs.lists.Tables.{length-overwritten}
+use Rattle.strm_data.proofs.Lists.{length-overwritten}
 use Rattle.strm_data.proofs.data.Data.edit.Given.{Over}
 use Rattle.strm_data.proofs.data.Data.edit.Goals as goal
 use Rattle.strm_data.proofs.data.Data.edit.Goals.{After-deref_mut}

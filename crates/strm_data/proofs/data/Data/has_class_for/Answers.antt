@@ -1,7 +1,7 @@
 use Rattle.std.specs.Prelude.{nat_le}
 use Rattle.strm_data.specs.declared.class_spec.ClassSpec.{ClassSpec}
 use Rattle.strm_data.specs.declared.data.Class.{Class}
-use Rattle.strm_data.proofs.store.Fitting.{list_any-map}
+use Rattle.strm_data.proofs.store.Lawful.{list_any-map}
 use Rattle.strm_data.proofs.data.Data.has_class_for.Goals as goal
 
 pub returns : goal.returns

@@ -8,10 +8,9 @@ use Rattle.strm_data.specs.declared.msg_type.MsgType.TheVariants.{MData}
 use Rattle.strm_data.specs.CountedStore.{CountedStore, IsKept}
 use Rattle.strm_data.specs.DataLayout.{store_of_parts}
 use Rattle.strm_data.specs.DataStore.{no_class_spec, IsLeast}
-use Rattle.strm_data.proofs.layout.Filling.{total_of_more}
-use Rattle.strm_data.proofs.layout.Opened.{AreOpened, AreOpened-push, length_opened, classes_opened, opened_is}
+use Rattle.strm_data.proofs.layout.Opened.{total_of_more, AreOpened, AreOpened-push, length_opened, classes_opened, opened_is}
 use Rattle.strm_data.proofs.store.Lawful.{lawful_few, lawful_total}
-use Rattle.strm_data.proofs.store.Least.{IsLeast-opening}
+use Rattle.strm_data.proofs.store.Kept.{IsLeast-opening}
 use Rattle.strm_data.proofs.store.Opening.{IsKept-opening}
 use Rattle.strm_data.proofs.data.Data.new.Goals as goal
 use Rattle.strm_data.proofs.data.Data.new.Goals.{After-loop-spec}

@@ -5,7 +5,7 @@ use Rattle.strm_data.specs.declared.data.Class.{Class}
 use Rattle.strm_data.specs.CountedStore.{CountedStore}
 use Rattle.strm_data.specs.DataLayout.{bytes_of}
 use Rattle.strm_data.specs.DataStore.{class_bytes}
-use Rattle.strm_data.proofs.layout.Regions.{region_of}
+use Rattle.strm_data.proofs.layout.Copying.{region_of}
 use Rattle.strm_data.proofs.layout.Whole.{class_bytes_are}
 use Rattle.strm_data.proofs.data.Data.region.Goals as goal
 

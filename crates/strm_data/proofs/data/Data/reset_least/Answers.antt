@@ -6,8 +6,7 @@ use Rattle.strm_data.specs.CountedStore.{CountedStore, IsKept}
 use Rattle.strm_data.specs.DataLayout.{bytes_of, store_of, store_of_parts, IsPlaced}
 use Rattle.strm_data.specs.DataStore.{IsLeast, with_data_reset}
 use Rattle.strm_data.proofs.layout.Least.{AreAlike, IsPlaced-alike, seen_alike}
-use Rattle.strm_data.proofs.store.Kept.{IsKept-least}
-use Rattle.strm_data.proofs.store.Least.{IsLeast-reset}
+use Rattle.strm_data.proofs.store.Kept.{IsKept-least, IsLeast-reset}
 use Rattle.strm_data.proofs.data.Data.reset_least.Goals as goal
 use Rattle.strm_data.proofs.data.Data.reset_least.Goals.{After-reset}
 

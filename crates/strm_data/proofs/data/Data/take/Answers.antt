@@ -4,8 +4,7 @@ use Rattle.strm_data.specs.declared.msg_type.MsgType.TheVariants.{MData}
 use Rattle.strm_data.specs.CountedStore.{CountedStore, IsKept}
 use Rattle.strm_data.specs.DataStore.{IsLeast}
 use Rattle.strm_data.proofs.layout.Alterations.{unused, room, taken, placed_taken}
-use Rattle.strm_data.proofs.store.Kept.{IsKept-take}
-use Rattle.strm_data.proofs.store.Least.{IsLeast-take}
+use Rattle.strm_data.proofs.store.Kept.{IsKept-take, IsLeast-take}
 use Rattle.strm_data.proofs.data.Data.take.Goals as goal
 use Rattle.strm_data.proofs.data.Data.take.Goals.{After-unwrap-number}
 

@@ -8,9 +8,8 @@ use Rattle.strm_links.specs.Chains.{chain_in}
 use Rattle.strm_links.specs.StrandLists.{strand_at, with_behind_freed}
 use Rattle.strm_links.specs.StrandLayout.{IsSound, next_at, node_at, path}
 use Rattle.strm_links.proofs.lists.ListLinks.{LeadsOn-kept}
-use Rattle.strm_links.proofs.lists.Chains.{is_there}
-use Rattle.strm_links.proofs.chaining.BehindFreed.{IsSound-behind_freed, behind_apart, behind_count, behind_first, behind_len, behind_low, behind_off, behind_onward, behind_path, behind_room, behind_some, none_freed}
-use Rattle.strm_links.proofs.chaining.Freed.{has-reverse}
+use Rattle.strm_links.proofs.lists.Counting.{is_there}
+use Rattle.strm_links.proofs.chaining.Freed.{IsSound-behind_freed, behind_apart, behind_count, behind_first, behind_len, behind_low, behind_off, behind_onward, behind_path, behind_room, behind_some, none_freed, has-reverse}
 use Rattle.strm_links.proofs.chaining.Laid.{IsSound-stored, head_low, node_read, IsParted-laid, IsSound-lists, strands_of_is, write_elsewhere, write_here}
 use Rattle.strm_links.proofs.strands.Strands.free_behind.Goals as goal
 use Rattle.strm_links.proofs.strands.Strands.free_behind.Goals.{Start, After-index, After-keep, After-number}

@@ -1,5 +1,5 @@
 use Rattle.strm_links.proofs.chaining.Laid.{IsSound-stored, IsParted-laid, strands_of_is}
-use Rattle.strm_links.proofs.chaining.Opened.{IsSound-opened}
+use Rattle.strm_links.proofs.chaining.Begun.{IsSound-opened}
 use Rattle.strm_links.proofs.strands.Strands.new.Goals as goal
 
 pub invariant_of-result : goal.invariant_of-result

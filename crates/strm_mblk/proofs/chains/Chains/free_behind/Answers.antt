@@ -1,5 +1,5 @@
 use Rattle.std.proofs.Common.{IsSome, length, ap, arith}
-use Rattle.strm_links.proofs.lists.Chains.{is_there}
+use Rattle.strm_links.proofs.lists.Counting.{is_there}
 use Rattle.strm_mblk.specs.Messages.{held_in}
 use Rattle.strm_mblk.proofs.chaining.Parted.{IsNodesParted-chained, frees_behind, nodes_is, off}
 use Rattle.strm_mblk.proofs.chains.Chains.free_behind.Goals.{Start}

@@ -1,6 +1,6 @@
 use Rattle.std.proofs.Common.{refl}
 use Rattle.strm_mblk.specs.BlockCalls as blocks
-use Rattle.strm_pool.proofs.Acting.{put_in_place}
+use Rattle.strm_pool.proofs.Applied.{put_in_place}
 use Rattle.strm_pool.proofs.Shaped.{leaves_one}
 use Rattle.strm_pool.proofs.pool.Pool.act_freeb.Goals as goal
 

@@ -7,7 +7,7 @@ use Rattle.strm_pool.specs.declared.reply.Reply.TheVariants.{Done}
 use Rattle.strm_pool.specs.PoolValue.{owns, with_arena}
 use Rattle.strm_pool.specs.Registers.{register, table_of}
 use Rattle.strm_pool.specs.Step.{Applies, replying}
-use Rattle.strm_pool.proofs.Acting.{emptied, owns_less}
+use Rattle.strm_pool.proofs.Applied.{emptied, owns_less}
 use Rattle.strm_pool.proofs.Shaped.{head_is, links, sources_apart}
 use Rattle.strm_pool.proofs.pool.Pool.act_linkb.Goals as goal
 

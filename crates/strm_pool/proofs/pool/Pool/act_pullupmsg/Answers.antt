@@ -4,7 +4,7 @@ use Rattle.strm_mblk.specs.Trimming as trimming
 use Rattle.strm_pool.specs.declared.call.Call.TheVariants.{Pullupmsg}
 use Rattle.strm_pool.specs.Registers.{table_of}
 use Rattle.strm_pool.specs.Step.{act}
-use Rattle.strm_pool.proofs.Acting.{put_in_place}
+use Rattle.strm_pool.proofs.Applied.{put_in_place}
 use Rattle.strm_pool.proofs.Shaped.{alters}
 use Rattle.strm_pool.proofs.pool.Pool.act_pullupmsg.Goals as goal
 

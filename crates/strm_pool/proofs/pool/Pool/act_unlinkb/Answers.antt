@@ -1,7 +1,7 @@
 use Rattle.std.proofs.Common.{Ok, Some, refl, ap, ◌∙◌}
 use Rattle.strm_mblk.specs.BlockCalls as blocks
 use Rattle.strm_pool.specs.Shapes.{any_given_to}
-use Rattle.strm_pool.proofs.Acting.{put_in_place}
+use Rattle.strm_pool.proofs.Applied.{put_in_place}
 use Rattle.strm_pool.proofs.Shaped.{unlinks}
 use Rattle.strm_pool.proofs.pool.Pool.act_unlinkb.Goals as goal
 

@@ -1,6 +1,6 @@
 use Rattle.std.proofs.Common.{rules, subst, sym}
 use Rattle.strm_queue.specs.QueuedBlocks.{Agrees, QueuesValue, opening_value}
-use Rattle.strm_queue.proofs.agreeing.Agreeing.{agrees_new}
+use Rattle.strm_queue.proofs.Agreeing.{agrees_new}
 use Rattle.strm_pool.proofs.pool.Pool.build.Goals as goal
 
 pub invariant_of-result : goal.invariant_of-result

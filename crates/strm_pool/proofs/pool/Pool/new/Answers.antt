@@ -1,6 +1,6 @@
 -- A pool that was just opened holds nothing.
 use Rattle.std.proofs.Common.{length, None, refl, ap, ◌∙◌}
-use Rattle.strm_data.proofs.lists.Repeated.{flat_map-replicate}
+use Rattle.strm_data.proofs.Lists.{flat_map-replicate}
 use Rattle.strm_mblk.specs.Arena.{held_blocks}
 use Rattle.strm_mblk.specs.Messages.{blocks_of}
 use Rattle.strm_pool.specs.PoolValue.{PoolValue}

@@ -2,7 +2,7 @@ use Rattle.std.proofs.Common.{◌≡◌, ℕ, List, drop, length, min, take, ap,
 use Rattle.strm_mblk.specs.Arena.{message_at}
 use Rattle.strm_mblk.specs.Block.{bytes_of, size_of}
 use Rattle.strm_pool.specs.Limits.{most_octets}
-use Rattle.strm_pool.proofs.Reading.{read_octets}
+use Rattle.strm_pool.proofs.Replays.{read_octets}
 use Rattle.strm_pool.proofs.pool.Pool.octets.Goals as goal
 
 pub returns : goal.returns

@@ -2,7 +2,7 @@ use Rattle.std.proofs.Common.{◌≡◌, ◌<◌, length, rules, subst, sym}
 use Rattle.std.specs.List.{remove}
 use Rattle.strm_pool.specs.PoolValue.{WishState}
 use Rattle.strm_pool.specs.WishesLayout.{wishes_in}
-use Rattle.strm_pool.proofs.Wishing.{without_lawful}
+use Rattle.strm_pool.proofs.Replays.{without_lawful}
 use Rattle.strm_pool.proofs.wishes.Wishes.remove.Goals as goal
 
 pub invariant_of-self : goal.invariant_of-self

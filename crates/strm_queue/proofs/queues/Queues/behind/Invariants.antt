@@ -1,4 +1,4 @@
-use Rattle.strm_queue.proofs.flow.Targets.{NoneBehind}
+use Rattle.strm_queue.proofs.Flow.{NoneBehind}
 use Rattle.strm_queue.proofs.queues.Queues.behind.Given as goal
 
 -- none of the queues below `other` has this one as its next

@@ -8,9 +8,9 @@ use Rattle.strm_mblk.proofs.arena.Stands.{shelf_of-there}
 use Rattle.strm_queue.specs.Flush.{is_flushed, is_picked, with_freed}
 use Rattle.strm_queue.specs.Flushing.{messages_from_band}
 use Rattle.strm_queue.specs.QueuedBlocks.{AreInOrder, QueuesValue}
-use Rattle.strm_queue.proofs.agreeing.Agreeing.{in_order_left}
+use Rattle.strm_queue.proofs.Agreeing.{in_order_left}
 use Rattle.strm_queue.proofs.moving.Flushing.{IsFlushing, IsPassed, behind_next, flushing_data, flushing_freed, flushing_kept, freed_off_shelf, flushed_same, flushing_none, from_band_passed, from_band_same, next, next_is, next_taken, next_there}
-use Rattle.strm_queue.proofs.shelf.OnShelf.{FirstParts, first_there, heads}
+use Rattle.strm_queue.proofs.Shelf.{FirstParts, first_there, heads}
 use Rattle.strm_queue.proofs.queues.Queues.flush_shelf.Goals as goal
 use Rattle.strm_queue.proofs.queues.Queues.flush_shelf.Goals.{After-reads_alike, After-takes, then-takes, else-takes}
 

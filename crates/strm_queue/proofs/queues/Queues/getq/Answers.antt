@@ -6,7 +6,7 @@ use Rattle.strm_mblk.specs.Shelves.{heads_at}
 use Rattle.strm_queue.specs.Flow.{with_read}
 use Rattle.strm_queue.specs.QueueCalls.{with_state}
 use Rattle.strm_queue.specs.QueuedBlocks.{Agrees, QueuesValue, queued_blocks}
-use Rattle.strm_queue.proofs.agreeing.Agreeing.{agrees_read}
+use Rattle.strm_queue.proofs.Agreeing.{agrees_read}
 use Rattle.strm_queue.proofs.moving.Gets.{IsGot, getq_after, got_others}
 use Rattle.strm_queue.proofs.queues.Queues.getq.Goals as goal
 use Rattle.strm_queue.proofs.queues.Queues.getq.Goals.{After-unshelve-token}

@@ -11,7 +11,7 @@ use Rattle.strm_queue.specs.QueuedBlocks.{arena, queued_blocks}
 use Rattle.strm_queue.specs.Rank.{as_queued, is_ordered, rank_of}
 use Rattle.strm_mblk.proofs.arena.Calls.{puts_none}
 use Rattle.strm_queue.proofs.moving.Puts.{insq_after, insq_given, insq_refused}
-use Rattle.strm_queue.proofs.order.Ranks.{rank_of-queued}
+use Rattle.strm_queue.proofs.order.Order.{rank_of-queued}
 use Rattle.strm_queue.proofs.queues.Queues.insert.Goals as goal
 use Rattle.strm_queue.proofs.queues.Queues.insert.Goals.{After-fits_before}
 

@@ -2,8 +2,8 @@ use Rattle.std.proofs.Common.{length, subst, sym}
 use Rattle.std.proofs.lemmas.List.{length-map}
 use Rattle.strm_mblk.specs.Arena.{shelf_at}
 use Rattle.strm_queue.specs.QueuesLayout.{AreBanded, spec_in, value_of}
-use Rattle.strm_queue.proofs.layout.Banded.{each_banded}
-use Rattle.strm_queue.proofs.counting.Counts.{whole}
+use Rattle.strm_queue.proofs.Laid.{each_banded}
+use Rattle.strm_queue.proofs.Counting.{whole}
 use Rattle.strm_queue.proofs.queues.Queues.lawful.Goals as goal
 
 pub returns-clause-whole : goal.returns-clause-whole

@@ -1,6 +1,6 @@
 use Rattle.std.proofs.Common.{arith, refl}
 use Rattle.std.proofs.lemmas.Grind.{common_steps}
-use Rattle.strm_queue.proofs.layout.Stored.{lawful_changed, tally_changed, tally_seen}
+use Rattle.strm_queue.proofs.Laid.{lawful_changed, tally_changed, tally_seen}
 use Rattle.strm_queue.proofs.queues.Queues.leave.Goals as goal
 
 pub invariant_of-self : goal.invariant_of-self

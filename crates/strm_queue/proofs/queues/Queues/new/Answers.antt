@@ -3,7 +3,7 @@ use Rattle.std.proofs.lemmas.List.{map_push, take_all, take_more}
 use Rattle.strm_links.specs.Rows as rows
 use Rattle.strm_queue.specs.Flow.{no_spec}
 use Rattle.strm_queue.specs.QueuesLayout.{new_queue}
-use Rattle.strm_queue.proofs.layout.Stored.{lawful_made, value_made}
+use Rattle.strm_queue.proofs.Laid.{lawful_made, value_made}
 use Rattle.strm_queue.proofs.queues.Queues.new.Goals as goal
 use Rattle.strm_queue.proofs.queues.Queues.new.Goals.{In_ok-run}
 

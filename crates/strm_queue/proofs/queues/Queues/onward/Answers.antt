@@ -11,7 +11,7 @@ use Rattle.strm_queue.specs.Limits.{bands}
 use Rattle.strm_queue.specs.Rank.{is_ordered, rank_of}
 use Rattle.strm_queue.specs.Tallies.{first_in}
 use Rattle.strm_queue.proofs.moving.Flushing.{from_band-first, from_band-past}
-use Rattle.strm_queue.proofs.shelf.OnShelf.{FirstParts, first_of, heads}
+use Rattle.strm_queue.proofs.Shelf.{FirstParts, first_of, heads}
 use Rattle.strm_queue.proofs.queues.Queues.onward.Goals as goal
 use Rattle.strm_queue.proofs.queues.Queues.onward.Goals.{After-queued_rank-rank}
 

@@ -12,8 +12,8 @@ use Rattle.strm_queue.specs.Limits.{ranks}
 use Rattle.strm_queue.specs.Rank.{rank_of}
 use Rattle.strm_queue.specs.Tallies.{AreEndsOf}
 use Rattle.strm_queue.proofs.order.Ends.{first_of_rank-none, last_of_rank-has}
-use Rattle.strm_queue.proofs.order.Fits.{fits_slot}
-use Rattle.strm_queue.proofs.shelf.OnShelf.{first_there}
+use Rattle.strm_queue.proofs.order.Order.{fits_slot}
+use Rattle.strm_queue.proofs.Shelf.{first_there}
 use Rattle.strm_queue.proofs.order.Places.{after_there, none_beyond, none_told, placed_behind-none, placed_behind-some, some_told}
 use Rattle.strm_queue.proofs.queues.Queues.place_behind.Goals as goal
 use Rattle.strm_queue.proofs.queues.Queues.place_behind.Goals.{After-after, After-number, After-rank_at_least}

@@ -6,7 +6,7 @@ use Rattle.strm_mblk.specs.Given.{given_nothing}
 use Rattle.strm_queue.specs.Joining.{shelf_with}
 use Rattle.strm_queue.specs.QueuedBlocks.{Agrees, AreInOrder, AreMarksLawful}
 use Rattle.strm_queue.specs.Rank.{as_queued, is_ordered, rank_of}
-use Rattle.strm_queue.proofs.agreeing.Agreeing.{agrees_enabled, marks_put}
+use Rattle.strm_queue.proofs.Agreeing.{agrees_enabled, marks_put}
 use Rattle.strm_queue.proofs.queues.Queues.put.Goals as goal
 use Rattle.strm_queue.proofs.queues.Queues.put.Goals.{Joined-before, in-None, in-Some}
 

@@ -5,9 +5,8 @@ use Rattle.strm_mblk.specs.Block.{Message, head_of}
 use Rattle.strm_mblk.specs.Messages.{put_before_head}
 use Rattle.strm_queue.specs.Flow.{enables_put_back, flags_at}
 use Rattle.strm_queue.specs.Rank.{as_queued, is_ordered, put_ahead, rank_of}
-use Rattle.strm_queue.proofs.order.Order.{ordered_put_ahead}
+use Rattle.strm_queue.proofs.order.Order.{ordered_put_ahead, rank_of-queued}
 use Rattle.strm_queue.proofs.moving.Puts.{putbq_after}
-use Rattle.strm_queue.proofs.order.Ranks.{rank_of-queued}
 use Rattle.strm_queue.proofs.queues.Queues.putbq.Goals as goal
 use Rattle.strm_queue.proofs.queues.Queues.putbq.Goals.{After-place_ahead-before}
 

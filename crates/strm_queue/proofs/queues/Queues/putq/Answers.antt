@@ -5,9 +5,8 @@ use Rattle.strm_mblk.specs.Block.{Message, head_of}
 use Rattle.strm_mblk.specs.Messages.{put_before_head}
 use Rattle.strm_queue.specs.Flow.{enables_put, flags_at}
 use Rattle.strm_queue.specs.Rank.{as_queued, is_ordered, put_behind, rank_of}
-use Rattle.strm_queue.proofs.order.Order.{ordered_put_behind}
+use Rattle.strm_queue.proofs.order.Order.{ordered_put_behind, rank_of-queued}
 use Rattle.strm_queue.proofs.moving.Puts.{putq_after}
-use Rattle.strm_queue.proofs.order.Ranks.{rank_of-queued}
 use Rattle.strm_queue.proofs.queues.Queues.putq.Goals as goal
 use Rattle.strm_queue.proofs.queues.Queues.putq.Goals.{After-get-before}
 

@@ -1,6 +1,6 @@
 use Rattle.std.proofs.Common.{subst, sym, true}
 use Rattle.strm_queue.specs.QueuedBlocks.{Agrees}
-use Rattle.strm_queue.proofs.agreeing.Agreeing.{agrees_enabled}
+use Rattle.strm_queue.proofs.Agreeing.{agrees_enabled}
 use Rattle.strm_queue.proofs.queues.Queues.qenable.Goals as goal
 
 pub returns-clause-agrees : goal.returns-clause-agrees

@@ -1,6 +1,6 @@
 use Rattle.std.proofs.Common.{sym, ◌∙◌, arith}
-use Rattle.strm_queue.proofs.layout.Lawful.{few_queues}
-use Rattle.strm_queue.proofs.shelf.Across.{shelf_there}
+use Rattle.strm_queue.proofs.Laid.{few_queues}
+use Rattle.strm_queue.proofs.Shelf.{shelf_there}
 use Rattle.strm_queue.proofs.queues.Queues.queue_of.Goals as goal
 
 pub overflow_cast-result : goal.overflow_cast-result

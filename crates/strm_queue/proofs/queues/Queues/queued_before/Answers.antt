@@ -1,6 +1,6 @@
 use Rattle.std.proofs.Common.{sym, ◌∙◌}
 use Rattle.strm_links.specs.Rows.{before}
-use Rattle.strm_queue.proofs.shelf.Across.{found_on_shelf}
+use Rattle.strm_queue.proofs.Shelf.{found_on_shelf}
 use Rattle.strm_queue.proofs.queues.Queues.queued_before.Goals as goal
 
 pub returns : goal.returns

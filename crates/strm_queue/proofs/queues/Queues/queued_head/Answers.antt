@@ -3,7 +3,7 @@ use Rattle.std.specs.Prelude.{ok_or}
 use Rattle.std.proofs.lemmas.Bool.{cond-true}
 use Rattle.strm_data.specs.declared.refusal.Refusal.TheVariants.{NoSuchPlace}
 use Rattle.strm_mblk.proofs.arena.Stands.{shelf_of-there}
-use Rattle.strm_queue.proofs.shelf.Across.{message_at_place, no_message_at_place}
+use Rattle.strm_queue.proofs.Shelf.{message_at_place, no_message_at_place}
 use Rattle.strm_queue.proofs.queues.Queues.queued_head.Goals as goal
 
 pub returns-in-Some-clause-message : goal.returns-in-Some-clause-message

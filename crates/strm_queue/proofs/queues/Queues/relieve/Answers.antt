@@ -5,7 +5,7 @@ use Rattle.strm_queue.specs.Flow.{Flags, every_band, lowat_of, no_marks, some_re
 use Rattle.strm_queue.specs.QueuedBlocks.{tally_at}
 use Rattle.strm_queue.specs.Tallies.{Tally, count_of}
 use Rattle.strm_queue.proofs.bands.Bands.{length_every_band}
-use Rattle.strm_queue.proofs.layout.Stored.{lawful_changed, flags_changed, flags_seen, marks_seen, tally_seen}
+use Rattle.strm_queue.proofs.Laid.{lawful_changed, flags_changed, flags_seen, marks_seen, tally_seen}
 use Rattle.strm_queue.proofs.queues.Queues.relieve.Goals as goal
 
 pub invariant_of-self : goal.invariant_of-self

@@ -4,7 +4,7 @@ use Rattle.strm_mblk.proofs.arena.Calls.{takes_none}
 use Rattle.strm_queue.specs.QueueLooks.{queue_of}
 use Rattle.strm_queue.specs.QueuedBlocks.{QueuedBlocks, arena, queued_blocks}
 use Rattle.strm_queue.proofs.moving.Gets.{place_found, queue_found, rmvq_head_is, rmvq_head_refused}
-use Rattle.strm_queue.proofs.shelf.Across.{shelf_has, shelf_there}
+use Rattle.strm_queue.proofs.Shelf.{shelf_has, shelf_there}
 use Rattle.strm_queue.proofs.queues.Queues.rmvq_head.Goals as goal
 use Rattle.strm_queue.proofs.queues.Queues.rmvq_head.Goals.{In-Ok}
 

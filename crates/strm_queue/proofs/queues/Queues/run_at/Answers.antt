@@ -1,6 +1,6 @@
 use Rattle.std.proofs.Common.{arith}
 use Rattle.std.proofs.lemmas.Grind.{common_steps}
-use Rattle.strm_queue.proofs.layout.Running.{run_fits, run_within}
+use Rattle.strm_queue.proofs.Laid.{run_fits, run_within}
 use Rattle.strm_queue.proofs.queues.Queues.run_at.Goals as goal
 
 pub overflow_cast-result : goal.overflow_cast-result

@@ -1,6 +1,6 @@
 use Rattle.std.proofs.Common.{refl}
 use Rattle.strm_queue.specs.Flow.{Flags}
-use Rattle.strm_queue.proofs.layout.Stored.{lawful_changed, flags_changed}
+use Rattle.strm_queue.proofs.Laid.{lawful_changed, flags_changed}
 use Rattle.strm_queue.proofs.queues.Queues.set_read.Goals as goal
 
 pub invariant_of-self : goal.invariant_of-self

@@ -2,7 +2,7 @@ use Rattle.std.proofs.Common.{true, length, refl, ap, set, ◌∙◌}
 use Rattle.std.proofs.lemmas.List.{length-set}
 use Rattle.std.specs.Prelude.{Bool, List}
 use Rattle.strm_queue.specs.Flow.{Flags}
-use Rattle.strm_queue.proofs.layout.Stored.{lawful_changed, flags_changed}
+use Rattle.strm_queue.proofs.Laid.{lawful_changed, flags_changed}
 use Rattle.strm_queue.proofs.queues.Queues.set_wanted.Goals as goal
 
 pub invariant_of-self : goal.invariant_of-self

@@ -1,7 +1,7 @@
 use Rattle.std.proofs.Common.{◌∙◌, sym, ap, subst, true, false}
 use Rattle.strm_queue.specs.QueueCalls.{waker_enabled}
 use Rattle.strm_queue.specs.QueuedBlocks.{Agrees, QueuesValue, queued_blocks}
-use Rattle.strm_queue.proofs.flow.Settling.{alone, settled_agrees, settled_by}
+use Rattle.strm_queue.proofs.Flow.{alone, settled_agrees, settled_by}
 use Rattle.strm_queue.proofs.queues.Queues.settle.Goals as goal
 
 pub returns-then-relieve-clause-state : goal.returns-then-relieve-clause-state

@@ -10,16 +10,14 @@ use Rattle.strm_queue.specs.Joining.{shelf_with}
 use Rattle.strm_queue.specs.QueuedBlocks.{AreInOrder, tally_at}
 use Rattle.strm_queue.specs.Tallies.{IsTallyOf}
 use Rattle.strm_queue.specs.Rank.{as_queued, rank_of, is_ordered}
-use Rattle.strm_queue.proofs.agreeing.Agreeing.{in_order_put}
-use Rattle.strm_queue.proofs.counting.Counts.{bytes_fit}
-use Rattle.strm_queue.proofs.order.Ranks.{rank_of-queued, size_of-queued, head_of-queued}
+use Rattle.strm_queue.proofs.Agreeing.{in_order_put}
+use Rattle.strm_queue.proofs.Counting.{bytes_fit, joins_all, joins_few, joins_last_of_rank, mark_true, numbered, IsPlaced}
+use Rattle.strm_queue.proofs.order.Order.{rank_of-queued, size_of-queued, head_of-queued, IsParting, parting, placed_here}
 use Rattle.strm_queue.proofs.moving.Puts.{few_on_shelf, shelve_high, shelve_low}
-use Rattle.strm_queue.proofs.counting.Tallies.{joins_all, joins_few, joins_last_of_rank, mark_true, numbered, IsPlaced}
 use Rattle.strm_queue.proofs.queues.Queues.shelve.Goals as goal
 use Rattle.strm_queue.proofs.queues.Queues.shelve.Goals.{After-lawful-2, then-rank-eq-HIGH_RANK, else-rank-eq-HIGH_RANK}
 use Rattle.strm_links.specs.Rows.{IsApart}
-use Rattle.strm_queue.proofs.shelf.OnShelf.{heads}
-use Rattle.strm_queue.proofs.order.Fits.{IsParting, parting, placed_here}
+use Rattle.strm_queue.proofs.Shelf.{heads}
 use Rattle.strm_mblk.proofs.arena.Stands.{heads_apart}
 use Rattle.strm_queue.specs.declared.tally.Placed.{Placed}
 

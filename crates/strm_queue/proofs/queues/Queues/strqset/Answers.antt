@@ -6,7 +6,7 @@ use Rattle.strm_mblk.specs.Given.{value_after}
 use Rattle.strm_queue.specs.declared.marks.Marks.{Marks}
 use Rattle.strm_queue.specs.QueueCalls.{with_queue_settled}
 use Rattle.strm_queue.specs.QueuedBlocks.{AreInOrder, AreMarksLawful, QueuesValue, queued_blocks}
-use Rattle.strm_queue.proofs.flow.Settling.{marked_in_order, marked_others, strqset_given, with_recounted}
+use Rattle.strm_queue.proofs.Flow.{marked_in_order, marked_others, strqset_given, with_recounted}
 use Rattle.strm_queue.proofs.queues.Queues.strqset.Goals as goal
 use Rattle.strm_queue.proofs.queues.Queues.strqset.Goals.{After-recount}
 

@@ -10,7 +10,7 @@ use Rattle.strm_queue.specs.Flushing.{messages_from_band}
 use Rattle.strm_queue.specs.Taking.{with_all_held}
 use Rattle.strm_queue.proofs.moving.Flushing.{IsFlushing, IsPassed, behind_next, flushing_data, flushed_same, from_band_passed, from_band_same, next, next_is, next_taken, next_there}
 use Rattle.strm_queue.proofs.moving.Taking.{IsTaking, held_off_shelf, taking_done, taking_gone, taking_kept, taking_none}
-use Rattle.strm_queue.proofs.shelf.OnShelf.{FirstParts, first_none, first_there, heads}
+use Rattle.strm_queue.proofs.Shelf.{FirstParts, first_none, first_there, heads}
 use Rattle.strm_queue.proofs.queues.Queues.take_shelf.Goals as goal
 use Rattle.strm_queue.proofs.queues.Queues.take_shelf.Goals.{After-reads_alike, then-take_one, else-take_one}
 

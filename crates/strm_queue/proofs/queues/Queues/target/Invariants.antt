@@ -1,5 +1,5 @@
 use Rattle.std.proofs.Common.{length}
-use Rattle.strm_queue.proofs.flow.Targets.{IsOnWay, target_found}
+use Rattle.strm_queue.proofs.Flow.{IsOnWay, target_found}
 use Rattle.strm_queue.proofs.queues.Queues.target.Given as goal
 
 -- the walk to the target has made `_queue` steps

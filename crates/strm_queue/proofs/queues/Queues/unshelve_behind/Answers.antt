@@ -7,10 +7,9 @@ use Rattle.strm_queue.specs.Flow.{hiwat_of}
 use Rattle.strm_queue.specs.QueuedBlocks.{AreInOrder, tally_at}
 use Rattle.strm_queue.specs.Tallies.{IsTallyOf}
 use Rattle.strm_queue.specs.Rank.{is_ordered, rank_of}
-use Rattle.strm_queue.proofs.shelf.Across.{shelved_message_at}
-use Rattle.strm_queue.proofs.agreeing.Agreeing.{in_order_got}
-use Rattle.strm_queue.proofs.shelf.OnShelf.{Parts, parts_of, unshelved, heads, after-head, before-head}
-use Rattle.strm_queue.proofs.counting.Tallies.{leaves_all, leaves_enough, leaves_first_of_rank, mark_true, numbered, IsPlaced}
+use Rattle.strm_queue.proofs.Shelf.{shelved_message_at, Parts, parts_of, unshelved, heads, after-head, before-head}
+use Rattle.strm_queue.proofs.Agreeing.{in_order_got}
+use Rattle.strm_queue.proofs.Counting.{leaves_all, leaves_enough, leaves_first_of_rank, mark_true, numbered, IsPlaced}
 use Rattle.strm_queue.proofs.queues.Queues.unshelve_behind.Goals as goal
 use Rattle.strm_queue.proofs.queues.Queues.unshelve_behind.Goals.{After-after}
 use Rattle.strm_links.specs.Rows.{IsApart, after, before}

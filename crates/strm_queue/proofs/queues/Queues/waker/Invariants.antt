@@ -1,5 +1,5 @@
 use Rattle.std.proofs.Common.{length}
-use Rattle.strm_queue.proofs.flow.Targets.{IsOnWay, waker_found}
+use Rattle.strm_queue.proofs.Flow.{IsOnWay, waker_found}
 use Rattle.strm_queue.proofs.queues.Queues.waker.Given as goal
 
 -- the walk to the waker has made `_queue` steps

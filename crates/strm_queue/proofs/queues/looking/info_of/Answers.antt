@@ -1,4 +1,4 @@
-use Rattle.strm_queue.proofs.shelf.Across.{info_told}
+use Rattle.strm_queue.proofs.Shelf.{info_told}
 use Rattle.strm_queue.proofs.queues.looking.info_of.Goals as goal
 
 pub returns : goal.returns

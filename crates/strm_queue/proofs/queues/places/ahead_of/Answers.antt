@@ -4,7 +4,7 @@ use Rattle.std.proofs.lemmas.List.{append-nil}
 use Rattle.strm_mblk.specs.Arena.{shelf_at}
 use Rattle.strm_mblk.specs.Shelves.{is_on}
 use Rattle.strm_mblk.proofs.arena.Stands.{shelf_of-there}
-use Rattle.strm_queue.proofs.order.Fits.{ahead_some, ahead_there, fits_slot, last_there}
+use Rattle.strm_queue.proofs.order.Order.{ahead_some, ahead_there, fits_slot, last_there}
 use Rattle.strm_queue.proofs.queues.places.ahead_of.Goals as goal
 use Rattle.strm_queue.proofs.queues.places.ahead_of.Goals.{In-Some}
 

@@ -2,8 +2,7 @@ use Rattle.std.proofs.Common.{◌≡◌, ap, sym, ◌∙◌}
 use Rattle.std.specs.Prelude.{nat_le}
 use Rattle.strm_mblk.proofs.arena.Stands.{shelf_of-there}
 use Rattle.strm_queue.specs.Rank.{rank_of}
-use Rattle.strm_queue.proofs.order.Fits.{IsParting, first_asked, fits_behind, fits_in_front, last_there, parting, too_low}
-use Rattle.strm_queue.proofs.order.Order.{first_fits}
+use Rattle.strm_queue.proofs.order.Order.{IsParting, first_asked, fits_behind, fits_in_front, last_there, parting, too_low, first_fits}
 use Rattle.strm_queue.proofs.queues.places.fits_before.Goals as goal
 use Rattle.strm_queue.proofs.queues.places.fits_before.Goals.{After-is_at_most}
 

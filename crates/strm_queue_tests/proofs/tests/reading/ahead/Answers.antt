@@ -1,6 +1,6 @@
 use Rattle.std.proofs.Common.{sym, ◌∙◌}
 use Rattle.strm_mblk.proofs.arena.Stands.{shelf_of-there}
-use Rattle.strm_queue.proofs.order.Fits.{ahead_there}
+use Rattle.strm_queue.proofs.order.Order.{ahead_there}
 use Rattle.strm_queue_tests.proofs.tests.reading.ahead.Goals as goal
 
 pub before-next-requires : goal.before-next-requires

@@ -1,6 +1,6 @@
 use Rattle.std.proofs.Common.{sym, ◌∙◌}
 use Rattle.strm_mblk.proofs.arena.Stands.{shelf_of-there}
-use Rattle.strm_queue.proofs.order.Fits.{behind_there}
+use Rattle.strm_queue.proofs.order.Order.{behind_there}
 use Rattle.strm_queue_tests.proofs.tests.reading.behind.Goals as goal
 
 pub after-requires : goal.after-requires

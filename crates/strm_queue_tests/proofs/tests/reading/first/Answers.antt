@@ -1,6 +1,6 @@
 use Rattle.std.proofs.Common.{[], sym, ◌∙◌}
 use Rattle.strm_mblk.specs.Arena.{shelf_at}
-use Rattle.strm_queue.proofs.shelf.OnShelf.{first_there}
+use Rattle.strm_queue.proofs.Shelf.{first_there}
 use Rattle.strm_queue_tests.proofs.tests.reading.first.Goals as goal
 
 pub returns : goal.returns

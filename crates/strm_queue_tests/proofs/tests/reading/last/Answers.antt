@@ -1,7 +1,7 @@
 use Rattle.std.proofs.Common.{[], sym, ◌∙◌}
 use Rattle.std.proofs.lemmas.List.{append-nil}
 use Rattle.strm_mblk.specs.Arena.{shelf_at}
-use Rattle.strm_queue.proofs.order.Fits.{last_there}
+use Rattle.strm_queue.proofs.order.Order.{last_there}
 use Rattle.strm_queue_tests.proofs.tests.reading.last.Goals as goal
 
 pub returns : goal.returns

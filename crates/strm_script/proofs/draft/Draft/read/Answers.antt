@@ -1,5 +1,5 @@
 use Rattle.std.proofs.Common.{◌∙◌, rules}
-use Rattle.strm_script.proofs.Reading.{reads_fault, with_line-word}
+use Rattle.strm_script.proofs.Scripts.{reads_fault, with_line-word}
 use Rattle.strm_script.proofs.draft.Draft.read.Goals as goal
 
 pub returns-in_err-word : goal.returns-in_err-word

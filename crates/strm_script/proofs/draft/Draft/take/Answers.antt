@@ -1,8 +1,8 @@
 use Rattle.std.proofs.Common.{refl}
 use Rattle.strm_script.specs.Entry.{Worker}
 use Rattle.strm_script.proofs.Drafts.{put_pool, put_class, put_queue, put_bufcalls}
-use Rattle.strm_script.proofs.Reading.{reads_entry}
-use Rattle.strm_script.proofs.Shapes.{goes_on}
+use Rattle.strm_script.proofs.Scripts.{reads_entry}
+use Rattle.strm_script.proofs.Words.{goes_on}
 use Rattle.strm_script.proofs.draft.Draft.take.Goals as goal
 
 pub returns-in_ok-self-in-Pool : goal.returns-in_ok-self-in-Pool

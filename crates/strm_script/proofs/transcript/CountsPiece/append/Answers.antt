@@ -1,6 +1,6 @@
 use Rattle.std.proofs.Common.{arith}
 use Rattle.std.proofs.lemmas.Grind.{common_steps}
-use Rattle.strm_script.proofs.Digits.{length_u32, placed}
+use Rattle.strm_script.proofs.Forms.{length_u32, placed}
 use Rattle.strm_script.proofs.transcript.CountsPiece.append.Goals as goal
 
 pub write_digits-held-requires : goal.write_digits-held-requires

@@ -1,6 +1,6 @@
 use Rattle.std.proofs.Common.{arith, get_or}
 use Rattle.std.proofs.lemmas.Grind.{common_steps}
-use Rattle.strm_script.proofs.Digits.{two_digits}
+use Rattle.strm_script.proofs.Forms.{two_digits}
 use Rattle.strm_script.proofs.transcript.HexPiece.append.Goals as goal
 
 pub loop-byte-preserved : goal.loop-byte-preserved

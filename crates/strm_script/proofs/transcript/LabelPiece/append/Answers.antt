@@ -1,6 +1,6 @@
 use Rattle.std.proofs.Common.{append-nil, ◌∙◌, arith}
 use Rattle.std.proofs.lemmas.Grind.{common_steps}
-use Rattle.strm_script.proofs.Digits.{length_u32, length_u8, placed}
+use Rattle.strm_script.proofs.Forms.{length_u32, length_u8, placed}
 use Rattle.strm_script.proofs.transcript.LabelPiece.append.Goals as goal
 
 pub write_digits-colon-requires : goal.write_digits-colon-requires

@@ -1,6 +1,6 @@
 use Rattle.std.proofs.Common.{subst}
 use Rattle.strm_shared.specs.Books.{IsLawfulBook}
-use Rattle.strm_shared.proofs.seats.Books.{pairs_lawful}
+use Rattle.strm_shared.proofs.seats.Seated.{pairs_lawful}
 use Rattle.strm_shared.proofs.book.Book.lawful.Goals as goal
 
 pub returns-clause-law : goal.returns-clause-law

@@ -8,7 +8,7 @@ use Rattle.strm_shared.specs.Pairs.{pair_at}
 use Rattle.strm_shared.specs.Seats.{with_pair}
 use Rattle.strm_shared.specs.Traces.{IsTraceOf}
 use Rattle.strm_shared.specs.SeatsLayout.{IsShownBy, book_with, history_at, known_at, known_in}
-use Rattle.strm_shared.proofs.seats.Books.{history_is, kept}
+use Rattle.strm_shared.proofs.seats.Seated.{history_is, kept}
 use Rattle.strm_shared.proofs.seats.Desks.{desk_shown, known_is, seat_is, seated_shown}
 use Rattle.strm_shared.proofs.book.Book.show.Given as given
 use Rattle.strm_shared.proofs.book.Book.show.Goals as goal

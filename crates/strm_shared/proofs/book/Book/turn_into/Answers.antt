@@ -10,8 +10,7 @@ use Rattle.strm_shared.specs.SeatsLayout.{IsAt, book_with, history_at, known_at,
 use Rattle.strm_shared.specs.Traces.{IsTraceOf, is_full}
 use Rattle.strm_pool.specs.declared.line.Entry.{Entry}
 use Rattle.strm_shared.proofs.Turning.{IsKnown, Turns, held_moved, owned, turns}
-use Rattle.strm_shared.proofs.Telling.{told_next}
-use Rattle.strm_shared.proofs.Tracing.{trace_next}
+use Rattle.strm_shared.proofs.Telling.{told_next, trace_next}
 use Rattle.strm_shared.proofs.seats.Desks.{seat_is}
 use Rattle.strm_shared.proofs.seats.Served.{Entered, entered, few_calls, later, next, table_known}
 use Rattle.strm_shared.proofs.book.Book.turn_into.Given as given

@@ -4,7 +4,7 @@ use Rattle.std.proofs.lemmas.List.Sorted.{All-permutation, IsPermutation-map, Is
 use Rattle.arrayvec.proofs.ArrayVecLemmas.{items-with_items}
 use Rattle.strm_shared.specs.Desks.{DeskValue}
 use Rattle.strm_shared.specs.DesksLayout.{AreFilled, IsFilled, desk_in, desks_in}
-use Rattle.strm_shared.proofs.Listing.{sorted-map}
+use Rattle.strm_shared.proofs.Gathering.{sorted-map}
 use Rattle.strm_shared.proofs.desks.Desks.sort.Goals as goal
 
 pub invariant_of-self : goal.invariant_of-self

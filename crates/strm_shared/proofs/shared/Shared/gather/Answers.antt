@@ -11,7 +11,7 @@ use Rattle.strm_shared.specs.Pairs.{Pair, pair_at}
 use Rattle.strm_shared.specs.SeatsLayout.{IsDeskOfHistory, history_at}
 use Rattle.strm_shared.proofs.Gathering.{all_accounted, all_owned, number_at, sorted_shown}
 use Rattle.strm_shared.proofs.Telling.{told_at}
-use Rattle.strm_shared.proofs.seats.Books.{pairs_lawful}
+use Rattle.strm_shared.proofs.seats.Seated.{pairs_lawful}
 use Rattle.strm_shared.proofs.shared.Shared.gather.Given as given
 use Rattle.strm_shared.proofs.shared.Shared.gather.Goals as goal
 use Rattle.strm_shared.proofs.shared.Shared.gather.Goals.{After-meet}

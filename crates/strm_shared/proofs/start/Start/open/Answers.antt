@@ -12,9 +12,8 @@ use Rattle.strm_shared.specs.SeatsLayout.{book_with, history_at}
 use Rattle.strm_shared.specs.Starts.{StartValue}
 use Rattle.strm_shared.specs.Traces.{IsTraceOf}
 use Rattle.strm_shared.specs.declared.views.History.{History}
-use Rattle.strm_shared.proofs.Telling.{told_first}
-use Rattle.strm_shared.proofs.Tracing.{trace_first}
-use Rattle.strm_shared.proofs.seats.Books.{history_is, kept}
+use Rattle.strm_shared.proofs.Telling.{told_first, trace_first}
+use Rattle.strm_shared.proofs.seats.Seated.{history_is, kept}
 use Rattle.strm_shared.proofs.seats.Histories.{history_begins}
 use Rattle.strm_shared.proofs.start.Start.open.Goals as goal
 

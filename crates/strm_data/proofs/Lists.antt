@@ -1,13 +1,38 @@
--- Lists made from a function of the place, and lists with other items written over a part of them.
-use Rattle.std.proofs.Common.{◌≡◌, ◌≢◌, ℕ, zero, suc, ◌+◌, ◌-◌, ◌<◌, ◌≤◌, List, ◌∷◌, [], ◌++◌, length, get_or, set, take, drop, replicate, sym, ap, ◌∙◌, inl, inr, arith, length-set, get_or-set_same, get_or-set_other, length-append, append_assoc}
+-- Plain lists.
+use Rattle.std.proofs.Common.{◌≡◌, ℕ, zero, suc, ◌+◌, List, [], ◌∷◌, ◌++◌, get_or, map, replicate, refl, sym, ap, ◌∙◌, ◌≢◌, ◌-◌, ◌<◌, ◌≤◌, length, set, take, drop, inl, inr, arith, length-set, get_or-set_same, get_or-set_other, length-append, append_assoc}
+use Rattle.std.proofs.lemmas.List.{map-id, append-nil, ext_get_or, length-take, length-take-le, length-drop, take-take, take-append-le, drop-append-le, drop-drop, drop-take}
+use Rattle.std.proofs.lemmas.List.FromFn.{map-range_with_len_more, length-map-range_with_len, get_or-map-range_with_len}
+use Rattle.std.specs.List.{flat_map, range_with_len}
 use Rattle.std.proofs.lemmas.Bool.{cases_eq}
-use Rattle.std.proofs.lemmas.List.{append-nil, ext_get_or, length-take, length-take-le, length-drop, take-take, take-append-le, drop-append-le, drop-drop, drop-take}
 use Rattle.std.proofs.lemmas.Slice.{drop-append-drop}
 use Rattle.std.proofs.Math.Seq.{take-append-add}
-use Rattle.std.proofs.lemmas.Grind.{replicate_next}
-use Rattle.std.proofs.lemmas.List.FromFn.{length-map-range_with_len, get_or-map-range_with_len, map-range_with_len_more}
 use Rattle.strm_data.specs.DataStore.{bytes_overwritten}
 use Rattle.strm_data.specs.DataLayout.{values_below}
+use Rattle.std.proofs.lemmas.Grind.{replicate_next}
+
+-- ---- lists of one item, repeated, and lists of numbers that rise by one
+
+pub map-replicate : {X Y : Type 0} (f : X → Y) (n : ℕ) (x : X) → map f (replicate n x) ≡ replicate n (f x)
+map-replicate f zero x = refl
+map-replicate f (suc n) x = ap (λ ys. f x ∷ ys) (map-replicate f n x)
+
+-- where each gives no items
+pub flat_map-replicate : {X Y : Type 0} (f : X → List Y) (n : ℕ) (x : X) → f x ≡ [] → flat_map f (replicate n x) ≡ []
+flat_map-replicate f zero x none = refl
+flat_map-replicate f (suc n) x none = rw none (flat_map-replicate f n x none)
+
+-- the item stands at each place, and is given past the last
+pub copies-at : {X : Type 0} (n d : ℕ) (x : X) → get_or (replicate n x) d x ≡ x
+copies-at zero d x = refl
+copies-at (suc n) zero x = refl
+copies-at (suc n) (suc d) x = copies-at n d x
+
+-- one number more
+pub range_with_len_more : (a n k : ℕ) → a + n ≡ k → range_with_len a (n + 1) ≡ range_with_len a n ++ k ∷ []
+range_with_len_more a n k last =
+    sym (map-id (range_with_len a (n + 1))) ∙ map-range_with_len_more (λ (j : ℕ). j) a n k last ∙ ap (λ xs. xs ++ k ∷ []) (map-id (range_with_len a n))
+
+-- ---- lists made from a function of the place, and lists with other items written over a part of them
 
 -- ---- tables
 

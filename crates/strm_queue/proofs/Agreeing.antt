@@ -1,35 +1,34 @@
 -- When queues and message blocks agree, and how calls keep it.
 use Rattle.std.proofs.Common.{◌≡◌, ℕ, ◌<◌, true, length, sym, ap, ◌∙◌, subst, arith, zero, suc, Bool, ◌+◌, ◌≤◌, ◌≢◌, false, ◌&&◌, ◌==◌, List, [], ◌∷◌, ◌++◌, get_or, set, replicate, Option, refl, if◌then◌else◌, length-set, length-append}
-use Rattle.std.proofs.lemmas.Grind.{common_steps}
-use Rattle.strm_mblk.specs.Arena.{Arena, shelf_at, opening_arena, shelved_blocks}
-use Rattle.strm_queue.specs.Flow.{QueueState, band_count, flags_at, has_band, Flags, band_of_rank, enabled_where, every_band, fills, hiwat_of, is_of_band, opening_flags, opening_queues, with_read}
-use Rattle.strm_queue.specs.QueuedBlocks.{Agrees, AreInOrder, QueuesValue, tally_at, AreMarksLawful, opening_value, with_tally}
-use Rattle.strm_queue.specs.Tallies.{IsTallyOf, Tally, no_tally, one_less, one_more}
-use Rattle.strm_queue.proofs.layout.Lawful.{marks_below}
 use Rattle.std.specs.Prelude.{nat_le, is_some}
 use Rattle.std.specs.List.{All, flat_map, list_all}
 use Rattle.std.proofs.lemmas.Bool.{cases_eq, false≢true}
 use Rattle.std.proofs.lemmas.List.{get_or_append_left, get_or-append-add, length-map, length-replicate}
+use Rattle.std.proofs.lemmas.List.Sums.{sum_by-cons}
+use Rattle.strm_mblk.specs.Arena.{Arena, shelf_at, opening_arena, shelved_blocks}
 use Rattle.strm_data.specs.declared.class_spec.ClassSpec.{ClassSpec}
 use Rattle.strm_data.specs.DataStore.{DataBlock, DataStore}
 use Rattle.strm_data.specs.MsgType.{is_high_priority}
-use Rattle.std.proofs.lemmas.List.Sums.{sum_by-cons}
 use Rattle.strm_mblk.specs.Block.{Message, head_of, size_of}
 use Rattle.strm_mblk.specs.Frame.{IsSameData, LeavesShelves}
 use Rattle.strm_mblk.specs.Messages.{blocks_on, put_before_head}
-use Rattle.strm_links.specs.Rows as rows
+use Rattle.strm_links.specs.Rows.{IsApart}
+use Rattle.strm_queue.specs.Flow.{QueueState, band_count, flags_at, has_band, Flags, band_of_rank, enabled_where, every_band, fills, hiwat_of, is_of_band, opening_flags, opening_queues, with_read}
+use Rattle.strm_queue.specs.QueuedBlocks.{Agrees, AreInOrder, QueuesValue, tally_at, AreMarksLawful, opening_value, with_tally}
+use Rattle.strm_queue.specs.Tallies.{IsTallyOf, Tally, no_tally, one_less, one_more}
 use Rattle.strm_queue.specs.declared.queue_spec.QueueSpec.{QueueSpec}
 use Rattle.strm_queue.specs.Ends.{of_rank}
 use Rattle.strm_queue.specs.Rank.{is_ordered, rank_of}
-use Rattle.strm_queue.proofs.counting.Counts.{band_count-placed}
-use Rattle.strm_queue.proofs.order.Order.{around}
 use Rattle.strm_queue.specs.Limits.{high_rank}
 use Rattle.strm_queue.specs.QueueSpecs.{are_lawful}
-use Rattle.strm_queue.proofs.Lists.{get_or-map_same, get_or-replicate_same}
-use Rattle.strm_queue.proofs.counting.Tallies.{tally_joined, tally_left, tally_none, IsPlaced}
 use Rattle.strm_queue.specs.declared.tally.Placed.{Placed}
-use Rattle.strm_queue.proofs.shelf.OnShelf.{heads}
-use Rattle.strm_links.specs.Rows.{IsApart}
+use Rattle.strm_queue.proofs.Laid.{marks_below}
+use Rattle.strm_queue.proofs.Counting.{band_count-placed, tally_joined, tally_left, tally_none, IsPlaced}
+use Rattle.strm_queue.proofs.order.Order.{around}
+use Rattle.strm_queue.proofs.Lists.{get_or-map_same, get_or-replicate_same}
+use Rattle.strm_queue.proofs.Shelf.{heads}
+use Rattle.std.proofs.lemmas.Grind.{common_steps}
+use Rattle.strm_links.specs.Rows as rows
 
 module _ (v : QueuesValue) (a : Arena) (s : QueueState) (specs : s.specs ≡ v.state.specs) (marks : s.marks ≡ v.state.marks) where
   pub in_order_state : AreInOrder v a → AreInOrder (record v { state = s }) a

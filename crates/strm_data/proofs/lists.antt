@@ -1,3 +1,0 @@
--- Plain lists.
-pub mod Repeated
-pub mod Tables

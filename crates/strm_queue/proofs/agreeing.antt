@@ -1,2 +1,0 @@
--- Why each call keeps the agreement of queues and message blocks.
-pub mod Agreeing

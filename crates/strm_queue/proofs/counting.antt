@@ -1,3 +1,0 @@
--- Counts of messages and bytes, and why the stored tally of a queue stays true.
-pub mod Counts
-pub mod Tallies
