@@ -1,5 +1,4 @@
 -- Calls that make messages.
-pub mod Parted
 pub mod Begun
 pub mod Duplicated
 pub mod CopiesCounted
