@@ -1,6 +1,5 @@
 /*
- * strm_channel.hpp: a channel between threads for C++17 and later, over strm_mt.h. Link -lstrm_mt before -lstrm, and -pthread.
- * Tested, not proved.
+ * strm_channel.hpp: a channel between threads for C++17 and later, over strm_mt.h. Tested, not proved. Link -lstrm_mt -lstrm -pthread.
  *
  *     strm::channel way(16, 32);
  *     way.send(strm::bytes_of("lion"));                    // waits for room
