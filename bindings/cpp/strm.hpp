@@ -94,7 +94,7 @@ public:
     /* Whether a call with this code stored its results. Reports a refusal. */
     bool operator()(int code) const {
         if (code != STRM_OK)
-            code_ == nullptr ? raise(code) : void(*code_ = error_of(code));
+            code_ != nullptr ? void(*code_ = error_of(code)) : STRM_FAILED(code) ? raise(code) : void();
         else if (code_ != nullptr && *code_)
             code_->clear();
         return code == STRM_OK;
@@ -105,11 +105,11 @@ private:
     [[gnu::cold, gnu::noinline]] static std::error_code error_of(int code) noexcept {
         return STRM_FAILED(code) ? make_error_code(static_cast<refusal>(code)) : std::error_code();
     }
-    [[gnu::cold, gnu::noinline]] static void raise([[maybe_unused]] int code) {
+    [[noreturn, gnu::cold, gnu::noinline]] static void raise([[maybe_unused]] int code) {
 #ifdef __cpp_exceptions
-        if (STRM_FAILED(code))
-            throw std::system_error(error_of(code));
+        throw std::system_error(error_of(code));
 #endif
+        std::terminate();
     }
     std::error_code* code_ = nullptr;
 };
@@ -189,7 +189,7 @@ template <class T, class Call, class... Args> optional<T> found(report to, Call 
 }
 }  // namespace detail
 
-/* ---- messages */
+/* ---- messages; clang too inlines what programs call for each packet */
 /* A block of a message, and its bytes in place. */
 struct block : strm_block_info { strm::bytes bytes; };
 
@@ -220,7 +220,7 @@ public:
     size_t blocks(uint32_t from, span<strm_block_info> into, STRM_REPORT) const { return filled(to, strm_blocks, from, into); }
     /* All blocks with their bytes: for (auto block : msg.blocks()). Of an empty message there are none. */
     strm::blocks blocks() const noexcept;
-    strm::bytes bytes(uint32_t place, STRM_REPORT) const { return in_place<const std::byte>(to, strm_bytes, place); }
+    [[gnu::always_inline]] strm::bytes bytes(uint32_t place, STRM_REPORT) const { return in_place<const std::byte>(to, strm_bytes, place); }
     size_t iov(uint32_t from, span<strm_iov> into, STRM_REPORT) const { return filled(to, strm_iov_, from, into); }
     strm_block_place place(uint32_t place, STRM_REPORT) const { return stored<strm_block_place>(to, strm_place, place); }
 
@@ -391,7 +391,7 @@ protected:
 class queue : public queue_view {
 public:
     using queue_view::queue_view;
-    void put(message&& msg, STRM_REPORT) { msg.hand_over(to, at_, strm_putq, number_); }
+    [[gnu::always_inline]] void put(message&& msg, STRM_REPORT) { msg.hand_over(to, at_, strm_putq, number_); }
     void put_back(message&& msg, STRM_REPORT) { msg.hand_over(to, at_, strm_putbq, number_); }
     void insert(uint32_t place, message&& msg, STRM_REPORT) { msg.hand_over(to, at_, strm_insq, number_, place); }
     void insq_at(uint32_t before, message&& msg, STRM_REPORT) { msg.hand_over(to, at_, strm_insq_at, number_, before); }
