@@ -195,10 +195,18 @@ def add_commands(gdb):
                 at += 8
         return sorted(pools)
 
+    def value_of(expression):
+        try:
+            return gdb.parse_and_eval(expression)
+        except gdb.error as why:
+            raise gdb.GdbError(str(why) if expression else "an argument is missing") from None
+
     def pool_of(expression):
         """The address of the pool of a handle, or of the only pool."""
+        if not gdb.selected_inferior().threads():
+            raise gdb.GdbError("there is no process and no core file")
         if expression:
-            handle = gdb.parse_and_eval(expression)
+            handle = value_of(expression)
             handle = handle.dereference() if handle.type.strip_typedefs().code == gdb.TYPE_CODE_PTR else handle
             if int(handle["state"]) != OPEN:
                 raise gdb.GdbError(f"{expression} is not open")
@@ -253,7 +261,7 @@ def add_commands(gdb):
             super().__init__("strm queue", gdb.COMMAND_DATA)
 
         def invoke(self, argument, from_tty):
-            ask("", "queue", str(int(gdb.parse_and_eval(argument))))
+            ask("", "queue", str(int(value_of(argument))))
 
     class OfMessage(gdb.Command):
         """strm message NAME: shows a held message. NAME is an expression of type struct strm_msg, or HEAD.STAMP as strm leaks prints it."""
@@ -266,7 +274,7 @@ def add_commands(gdb):
             if parts:
                 ask("", "message", "0", parts[1], "0")
                 return
-            name = gdb.parse_and_eval(argument)
+            name = value_of(argument)
             ask("", "message", *(str(int(name[field])) for field in ("pool", "head", "stamp")))
 
     class Leaks(gdb.Command):
