@@ -1,3 +1,5 @@
 mod Fitted
 mod Renamed
 mod Shaped
+mod Taken
+mod Told

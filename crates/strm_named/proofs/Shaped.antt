@@ -46,7 +46,7 @@ pub record Called {X Y : Type 0} (s : Shape X Y) (outcome : Outcome X) (spent : 
 module _ (p r : PoolValue) (ps qs : PlacesValue) (fits : Fits p.arena ps) where
   -- It was done, and messages moved: of the heads before, some stay and some are spent; of those afterwards, some stay and some
   -- are given.
-  made : {X Y : Type 0} (s : Shape X Y) {outcome : Outcome X} {answer : Result Y Fault} (x : X) (kept spent : List ℕ) {before after : List TokenValue} → Moves p.arena r.arena before after
+  pub made : {X Y : Type 0} (s : Shape X Y) {outcome : Outcome X} {answer : Result Y Fault} (x : X) (kept spent : List ℕ) {before after : List TokenValue} → Moves p.arena r.arena before after
       → heads_of before ≡ kept ++ spent → heads_of after ≡ kept ++ s.heads x → ((h : ℕ) → rows.has h spent ≡ true → rows.has h kept ≡ false) → outcome ≡ Ok (x, r)
       → qs ≡ (let q : PlacesValue = record { slots = filled after (emptied before ps.slots); stamps = stamps_given (s.heads x) ps.stamps } in q) → answer ≡ Ok (s.told (pool_with_places r qs) x)
       → Called s outcome spent p r ps qs answer
@@ -72,7 +72,7 @@ module _ (p r : PoolValue) (ps qs : PlacesValue) (fits : Fits p.arena ps) where
   }
 
   -- and no place changed
-  refused : {X Y : Type 0} (s : Shape X Y) {answer : Result Y Fault} {spent : List ℕ} {fault : Fault} → r ≡ p → qs ≡ ps → answer ≡ Err fault → Called s (Err fault) spent p r ps qs answer
+  pub refused : {X Y : Type 0} (s : Shape X Y) {answer : Result Y Fault} {spent : List ℕ} {fault : Fault} → r ≡ p → qs ≡ ps → answer ≡ Err fault → Called s (Err fault) spent p r ps qs answer
   refused s same kept told = record {
     fits = subst (λ (x : PoolValue). Fits x.arena qs) (sym same) (subst (Fits p.arena) (sym kept) fits);
     does = failed s same (ap (λ (x : PlacesValue). x.stamps) kept) told;

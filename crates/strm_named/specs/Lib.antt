@@ -4,3 +4,4 @@ pub mod PlacesValue
 pub mod PlacesLayout
 pub mod Fitting
 pub mod NamedLayout
+pub mod Receiving

@@ -1,9 +1,11 @@
 -- Calls of a pool as calls on names. Each is defined by the pool's own call; names and stamps are added.
-use Rattle.std.specs.Prelude.{◌≡◌, ℕ, ◌&&◌, not, ◌==◌, List, [], ◌∷◌, option_map, Option, None, Some, Result, Ok, Err, IfOk, MatchResult, if◌then◌else◌}
+use Rattle.std.specs.Prelude.{◌≡◌, ℕ, ◌&&◌, min, not, ◌==◌, List, [], ◌∷◌, ◌++◌, drop, length, map, option_map, Option, None, Some, Result, Ok, Err, IfOk, MatchResult, if◌then◌else◌}
 use Rattle.strm_data.specs.declared.refusal.Refusal.{Refusal}
 use Rattle.strm_data.specs.Lending.{Edits}
 use Rattle.strm_mblk.specs.Given.{Given, answer_of, value_after}
-use Rattle.strm_pool.specs.PoolValue.{PoolValue}
+use Rattle.strm_queue.specs.declared.flush.Flush.{Flush}
+use Rattle.strm_queue.specs.Taking as taking
+use Rattle.strm_pool.specs.PoolValue.{PoolValue, on_queues, queued_blocks_of}
 use Rattle.strm_named.specs.declared.fault.Fault.{Fault}
 use Rattle.strm_named.specs.declared.fault.Fault.TheVariants.{Invalid, Refused}
 use Rattle.strm_named.specs.declared.name.Name.{Name}
@@ -46,6 +48,20 @@ result_map f (Err fault) = Err fault
 abbrev pub asked : {X : Type 0} → NamedValue → Name → Result X Refusal → Result X Fault
 asked v n answer = if is_valid v n then as_named_result answer else Err Invalid
 
+-- ---- what a flush would free
+
+-- the most messages that are taken into a slice of this length
+abbrev pub most_taken : ℕ → ℕ
+most_taken n = min n 4294967295
+
+-- the messages of a queue that `flushq` would free are taken, as many as fit into a slice of length n
+abbrev pub take_flushed : ℕ → Flush → ℕ → NamedValue → Outcome (List ℕ)
+take_flushed q flush n v = outcome_of (on_queues v.pool (taking.take_flushed q flush (most_taken n) (queued_blocks_of v.pool)))
+
+-- the messages of one band of a queue that `flushband` would free are taken, as many as fit into a slice of length n
+abbrev pub take_flushed_band : ℕ → ℕ → Flush → ℕ → NamedValue → Outcome (List ℕ)
+take_flushed_band q band flush n v = outcome_of (on_queues v.pool (taking.take_flushed_band q band flush (most_taken n) (queued_blocks_of v.pool)))
+
 -- ---- what a call gives
 
 -- How a call's answer is turned into names: the heads of the messages that it gives, and the answer with names for heads.
@@ -73,6 +89,10 @@ any_message = record { heads = heads_in; told = λ v o. option_map (name_of v) o
 abbrev pub two_messages : Shape (ℕ × Option ℕ) (Name × Option Name)
 two_messages = record { heads = λ hs. hs.0 ∷ heads_in hs.1; told = λ v hs. (name_of v hs.0, option_map (name_of v) hs.1) }
 
+-- the call gives messages, and returns their number
+abbrev pub some_messages : Shape (List ℕ) ℕ
+some_messages = record { heads = λ hs. hs; told = λ v hs. length hs }
+
 -- The named pool after a call: each message that was given has a new stamp. A refused call changes nothing.
 abbrev pub named_after : {X Y : Type 0} → Shape X Y → NamedValue → Outcome X → NamedValue
 named_after s v (Ok given) = record { pool = given.1; stamps = stamps_given (s.heads given.0) v.stamps }
@@ -82,6 +102,15 @@ named_after s v (Err fault) = v
 abbrev pub answer_told : {X Y : Type 0} → Shape X Y → NamedValue → Outcome X → Result Y Fault
 answer_told s v (Ok given) = Ok (s.told v given.0)
 answer_told s v (Err fault) = Err fault
+
+-- the names of the messages that a call gives, from the named pool after it
+abbrev pub names_of : {X Y : Type 0} → Shape X Y → NamedValue → Outcome X → List Name
+names_of s v (Ok given) = map (λ h. name_of v h) (s.heads given.0)
+names_of s v (Err fault) = []
+
+-- a slice with these names at its beginning
+abbrev pub with_names : List Name → List Name → List Name
+with_names names slice = names ++ drop (length names) slice
 
 -- A call that spends the names of the messages with these heads: the named pool after it, its answer, and which names are valid
 -- then.

@@ -4,6 +4,7 @@
 mod fault;
 mod name;
 mod named_pool;
+mod naming;
 mod places;
 mod tokens;
 

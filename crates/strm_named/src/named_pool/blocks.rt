@@ -5,14 +5,15 @@ ghost use Rattle.strm_mblk.specs.Block.{bytes_of, data_size_of, size_of};
 ghost use Rattle.strm_mblk.specs.BlockCalls as blocks;
 ghost use Rattle.strm_mblk.specs.Trimming as trimming;
 ghost use Rattle.strm_mblk.specs.Given.{given_nothing};
-ghost use Rattle.strm_named.specs.NamedCalls.{Does, answer_told, any_message, if_valid, on_name, on_names, no_message, two_messages};
+ghost use Rattle.strm_named.specs.NamedCalls.{Does, answer_told, any_message, asked, if_valid, on_name, on_names, no_message, two_messages};
 ghost use Rattle.strm_pool.specs.PoolValue.{on_arena, with_arena};
+ghost use Rattle.strm_queue.specs.QueueLooks.{info_of_message};
 
 use super::NamedPool;
 use crate::fault::Fault;
 use crate::name::Name;
 use crate::tokens::{answered, lent, taken, taken_both};
-use strm_pool::{BlockInfo, MsgType};
+use strm_pool::{BlockInfo, MsgType, QueuedInfo};
 
 impl NamedPool {
     /// Puts bytes at the write place of a message's block `place`, counted from 0. Refused as `Invalid`, `NoSuchBlock`,
@@ -178,5 +179,28 @@ impl NamedPool {
             return Err(Fault::Invalid);
         }
         answered(self.pool.block(lent(&self.pool, &self.places, name), place))
+    }
+
+    /// Returns what a message is like: type and band of its first block, and its numbers of bytes and blocks. Refused as
+    /// `Invalid`. As [`Queues::queued_at`] of strm_queue, which looks at a queued one. Takes a step for each block.
+    pub fn message(&self, name: Name) -> Result<QueuedInfo, Fault>
+        ensures { result ≡ asked self.now name (info_of_message self.now.pool.arena.store
+            (message_at self.now.pool.arena name.head)) }
+    {
+        if !self.has(name) {
+            return Err(Fault::Invalid);
+        }
+        self.pool.lawful();
+        let token = lent(&self.pool, &self.places, name);
+        let Ok(first) = self.pool.block(token, 0) else {
+            unreachable!()
+        };
+        Ok(QueuedInfo {
+            head: name.head,
+            kind: first.kind,
+            band: first.band,
+            size: self.pool.size(token),
+            blocks: token.blocks(),
+        })
     }
 }

@@ -1,6 +1,6 @@
 //! Calls on queues. Those that put a message spend its name; those that take one return a new name.
-ghost use Rattle.std.specs.Prelude.{Ok, [], ◌∷◌};
-ghost use Rattle.strm_named.specs.NamedCalls.{Does, LeavesNames, any_message, on_name, one_message, outcome_of, no_message};
+ghost use Rattle.std.specs.Prelude.{◌≡◌, Ok, [], ◌∷◌, length};
+ghost use Rattle.strm_named.specs.NamedCalls.{Does, LeavesNames, any_message, names_of, no_message, on_name, one_message, outcome_of, some_messages, take_flushed, take_flushed_band, with_names};
 ghost use Rattle.strm_pool.specs.PoolValue.{on_queues, queued_blocks_of};
 ghost use Rattle.strm_queue.specs.HeadCalls as by_head;
 ghost use Rattle.strm_queue.specs.QueueCalls as queues;
@@ -8,8 +8,12 @@ ghost use Rattle.strm_queue.specs.QueueCalls as queues;
 use super::NamedPool;
 use crate::fault::Fault;
 use crate::name::Name;
-use crate::tokens::taken;
+use crate::naming::Naming;
+use crate::tokens::{answered, taken};
 use strm_pool::{Flush, Refusal};
+
+// The most messages that a call takes.
+const MOST_TAKEN: usize = u32::MAX as usize;
 
 impl NamedPool {
     /// Puts a message on a queue, after the last message whose rank is at least its own, and spends its name. Refused as
@@ -100,6 +104,52 @@ impl NamedPool {
     {
         let given = self.pool.rmvq_head(head);
         self.places.answer(given)
+    }
+
+    /// Removes messages from a queue, front to back: those that [`NamedPool::flushq`] would free, as many as `into` has room
+    /// for. Stores their names in `into`, from its beginning on, and returns their number. Refused as `NoSuchQueue`. As
+    /// [`Queues::take_flushed`] of strm_queue.
+    pub fn take_flushed(&mut self, queue: u8, flush: Flush, into: &mut [Name]) -> Result<u32, Fault>
+        ensures does { Does some_messages (take_flushed queue flush (length into.old) self.old) []
+            self.old self.new result }
+        ensures names { into.new ≡ with_names (names_of some_messages self.new
+            (take_flushed queue flush (length into.old) self.old)) into.old }
+    {
+        let most = into.len().min(MOST_TAKEN) as u32;
+        let mut naming = Naming {
+            places: &mut self.places,
+            names: into,
+            count: 0,
+        };
+        let taken = self.pool.take_flushed(queue, flush, most, &mut naming);
+        answered(taken)
+    }
+
+    /// Removes messages of one band from a queue, front to back: those that [`NamedPool::flushband`] would free, as many as
+    /// `into` has room for. Stores their names in `into`, from its beginning on, and returns their number. Refused as
+    /// `NoSuchQueue`. As [`Queues::take_flushed_band`] of strm_queue.
+    pub fn take_flushed_band(
+        &mut self,
+        queue: u8,
+        band: u8,
+        flush: Flush,
+        into: &mut [Name],
+    ) -> Result<u32, Fault>
+        ensures does { Does some_messages (take_flushed_band queue band flush (length into.old) self.old) []
+            self.old self.new result }
+        ensures names { into.new ≡ with_names (names_of some_messages self.new
+            (take_flushed_band queue band flush (length into.old) self.old)) into.old }
+    {
+        let most = into.len().min(MOST_TAKEN) as u32;
+        let mut naming = Naming {
+            places: &mut self.places,
+            names: into,
+            count: 0,
+        };
+        let taken = self
+            .pool
+            .take_flushed_band(queue, band, flush, most, &mut naming);
+        answered(taken)
     }
 }
 

@@ -4,7 +4,7 @@ use super::{
 };
 use std::process::Abort;
 use strm_named::{Fault, Name, NamedPool};
-use strm_pool::{MsgType, Refusal};
+use strm_pool::{MsgType, QueuedInfo, Refusal};
 
 fn assert_unlinked(rt: &impl Abort, pool: &mut NamedPool, name: Name, wanted: Option<Name>) {
     assert_is(rt, pool.unlinkb(name), Ok(wanted));
@@ -27,6 +27,26 @@ fn assert_typed(
     wanted: Result<(), Fault>,
 ) {
     assert_is(rt, pool.settype(block.0, block.1, kind), wanted);
+}
+
+// A message of two blocks has this type, band and size.
+#[test]
+fn tells_what_a_message_is_like(rt: HostRuntime) {
+    let mut pool = opened(&rt, rt.alloc(), 1);
+    let first = message(&rt, &mut pool, b"one");
+    let second = message(&rt, &mut pool, b"four");
+    assert_typed(&rt, &mut pool, (first, 0), MsgType::MProto, Ok(()));
+    assert_is(&rt, pool.setband(first, 3), Ok(()));
+    assert_linked(&rt, &mut pool, (first, second), Ok(()));
+    let info = QueuedInfo {
+        head: 0,
+        kind: MsgType::MProto,
+        band: 3,
+        size: 7,
+        blocks: 2,
+    };
+    assert_is(&rt, pool.message(first), Ok(info));
+    assert_is(&rt, pool.message(second), Err(Fault::Invalid));
 }
 
 #[test]

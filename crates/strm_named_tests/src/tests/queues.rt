@@ -1,8 +1,8 @@
 use super::spent::assert_invalid;
-use super::{assert_census, assert_is, message, name, opened};
+use super::{assert_census, assert_freed, assert_is, message, name, opened};
 use std::process::Abort;
 use strm_named::{Fault, Name, NamedPool};
-use strm_pool::Refusal;
+use strm_pool::{Flush, Refusal};
 
 fn assert_put(
     rt: &impl Abort,
@@ -85,6 +85,62 @@ fn inserts_and_removes_by_head(rt: HostRuntime) {
     assert_got(&rt, &mut pool, Some(name(2, 2)));
     assert_got(&rt, &mut pool, Some(name(0, 3)));
     assert_census(&rt, &pool, (4, 0, 4));
+}
+
+// `take_flushed` of these messages has stored these names at the beginning, and left the others.
+fn assert_taken(
+    rt: &impl Abort,
+    taken: Result<u32, Fault>,
+    into: &[Name],
+    wanted: Result<u32, Fault>,
+    names: &[Name],
+) {
+    assert_is(rt, taken, wanted);
+    assert!(rt; into == names);
+}
+
+// Queue 0 has messages with heads 1, 0 and 2. Those that a flush would free are taken, as many as fit.
+#[test]
+fn takes_what_a_flush_would_free(rt: HostRuntime) {
+    let mut pool = opened(&rt, rt.alloc(), 1);
+    filled(&rt, &mut pool);
+    let none = name(9, 9);
+    let missing = Err(Fault::Refused(Refusal::NoSuchQueue));
+    let mut into = [none; 2];
+    let taken = pool.take_flushed(2, Flush::All, &mut into);
+    assert_taken(&rt, taken, &into, missing, &[none; 2]);
+    let taken = pool.take_flushed(0, Flush::All, &mut []);
+    assert_taken(&rt, taken, &into, Ok(0), &[none; 2]);
+    let taken = pool.take_flushed(0, Flush::All, &mut into);
+    assert_taken(&rt, taken, &into, Ok(2), &[name(1, 2), name(0, 2)]);
+    assert_invalid(&rt, &mut pool, name(1, 1));
+    assert_census(&rt, &pool, (5, 1, 2));
+    let taken = pool.take_flushed(0, Flush::Data, &mut into);
+    assert_taken(&rt, taken, &into, Ok(1), &[name(2, 2), name(0, 2)]);
+    assert_census(&rt, &pool, (5, 0, 3));
+    for taken in [name(1, 2), name(0, 2), name(2, 2)] {
+        assert_freed(&rt, &mut pool, taken, Ok(()));
+    }
+}
+
+// Those of one band are taken, and the others stay.
+#[test]
+fn takes_what_a_flush_of_a_band_would_free(rt: HostRuntime) {
+    let mut pool = opened(&rt, rt.alloc(), 1);
+    filled(&rt, &mut pool);
+    let fourth = message(&rt, &mut pool, b"four");
+    assert_is(&rt, pool.setband(fourth, 3), Ok(()));
+    assert_put(&rt, &mut pool, 0, fourth, Ok(()));
+    let mut into = [name(9, 9); 3];
+    let taken = pool.take_flushed_band(0, 3, Flush::All, &mut into);
+    let names = [name(3, 2), name(9, 9), name(9, 9)];
+    assert_taken(&rt, taken, &into, Ok(1), &names);
+    let taken = pool.take_flushed_band(0, 4, Flush::All, &mut into);
+    assert_taken(&rt, taken, &into, Ok(0), &names);
+    assert_census(&rt, &pool, (4, 3, 1));
+    let missing = Err(Fault::Refused(Refusal::NoSuchQueue));
+    let taken = pool.take_flushed_band(2, 3, Flush::All, &mut into);
+    assert_taken(&rt, taken, &into, missing, &names);
 }
 
 #[test]

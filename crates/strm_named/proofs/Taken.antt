@@ -1,0 +1,170 @@
+-- Messages that a call takes and a receiver names.
+use Rattle.std.proofs.Common.{◌≡◌, ℕ, ◌+◌, ◌<◌, ◌≤◌, ◌==◌, suc, Bool, true, false, Option, List, [], ◌∷◌, arith, length, map, set, get_or, get_or-set_same, length-set, take, Result, Ok, Err, refl, sym, ap, ◌∙◌, subst, if◌then◌else◌}
+use Rattle.std.specs.Prelude.{filter}
+use Rattle.std.specs.List.{FoldsTo}
+use Rattle.std.proofs.lemmas.Bool.{false≢true, or_right}
+use Rattle.std.proofs.lemmas.List.{length-map, length-take}
+use Rattle.strm_data.specs.declared.refusal.Refusal.{Refusal}
+use Rattle.strm_data.specs.declared.refusal.Refusal.TheVariants.{NoSuchQueue}
+use Rattle.strm_links.specs.Rows.{IsApart}
+use Rattle.strm_links.specs.Rows as rows
+use Rattle.strm_mblk.specs.declared.token.TokenValue.{TokenValue}
+use Rattle.strm_mblk.specs.Arena.{Arena, has, token_of}
+use Rattle.strm_mblk.specs.Block.{head_of}
+use Rattle.strm_mblk.specs.Given.{Given}
+use Rattle.strm_queue.specs.declared.flush.Flush.{Flush}
+use Rattle.strm_queue.specs.Flush.{is_picked}
+use Rattle.strm_queue.specs.QueueCalls.{has_queue, messages_on}
+use Rattle.strm_queue.specs.QueuedBlocks.{QueuedBlocks}
+use Rattle.strm_queue.specs.Taking.{AreHanded, Hands, take_messages}
+use Rattle.strm_pool.specs.PoolValue.{PoolValue, arena, on_queues, queued_blocks_of}
+use Rattle.strm_pool.proofs.Tokens.{Each, Moves, err_not_ok, has_here, heads_of, same_ok}
+use Rattle.strm_named.specs.declared.fault.Fault.{Fault}
+use Rattle.strm_named.specs.declared.name.Name.{Name}
+use Rattle.strm_named.specs.declared.naming.Naming.{Naming}
+use Rattle.strm_named.specs.Fitting.{Fits, pool_with_places}
+use Rattle.strm_named.specs.NamedCalls.{as_named_result, names_of, outcome_of, some_messages, with_names}
+use Rattle.strm_named.specs.NamedValue.{name_of, stamp_after, stamps_given}
+use Rattle.strm_named.specs.Receiving.{NamesToken}
+use Rattle.strm_named.specs.PlacesValue.{PlacesValue, name_given, stamp_in, with_given}
+use Rattle.strm_named.proofs.Fitted.{filled, stands_had, within_some}
+use Rattle.strm_named.proofs.Renamed.{stamps_other}
+use Rattle.strm_named.proofs.Shaped.{Called, made, refused}
+
+-- ---- what the receiver does with tokens
+
+-- the names of these tokens, given one after another
+abbrev names_given : List TokenValue → PlacesValue → List Name
+names_given [] p = []
+names_given (t ∷ ts) p = name_given t p ∷ names_given ts (with_given t p)
+
+-- the places after that
+abbrev with_all_given : List TokenValue → PlacesValue → PlacesValue
+with_all_given ts p = record { slots = filled ts p.slots; stamps = stamps_given (heads_of ts) p.stamps }
+
+-- these names, put into a slice from place k on
+abbrev put_from : ℕ → List Name → List Name → List Name
+put_from k [] xs = xs
+put_from k (n ∷ ns) xs = put_from (suc k) ns (set xs k n)
+
+put_from-behind : (k : ℕ) (ns : List Name) (x : Name) (xs : List Name) → put_from (suc k) ns (x ∷ xs) ≡ x ∷ put_from k ns xs
+put_from-behind k [] x xs = refl
+put_from-behind k (n ∷ ns) x xs = put_from-behind (suc k) ns x (set xs k n)
+
+put_from-first : (ns xs : List Name) → length ns ≤ length xs → put_from 0 ns xs ≡ with_names ns xs
+put_from-first [] xs few = refl
+put_from-first (n ∷ ns) [] few = absurd (omega (arith, few))
+put_from-first (n ∷ ns) (x ∷ xs) few = put_from-behind 0 ns n xs ∙ ap (λ ys. n ∷ ys) (put_from-first ns xs (omega (arith, few)))
+
+-- it keeps what it was lent
+pub keeps_places : (ts : List TokenValue) (old new : Naming) → FoldsTo NamesToken old ts new → new.places.ghost_name ≡ old.places.ghost_name
+keeps_places [] old new is = ap (λ (x : Naming). x.places.ghost_name) (sym is)
+keeps_places (t ∷ ts) old new is = keeps_places ts is.0 new is.2 ∙ is.1.same_places
+
+pub keeps_names : (ts : List TokenValue) (old new : Naming) → FoldsTo NamesToken old ts new → new.names.ghost_name ≡ old.names.ghost_name
+keeps_names [] old new is = ap (λ (x : Naming). x.names.ghost_name) (sym is)
+keeps_names (t ∷ ts) old new is = keeps_names ts is.0 new is.2 ∙ is.1.same_names
+
+-- it puts them at their places
+puts_tokens : (ts : List TokenValue) (old new : Naming) → FoldsTo NamesToken old ts new → new.places.now ≡ with_all_given ts old.places.now
+puts_tokens [] old new is = ap (λ (x : Naming). x.places.now) (sym is)
+puts_tokens (t ∷ ts) old new is = puts_tokens ts is.0 new is.2 ∙ ap (with_all_given ts) is.1.places
+
+-- and stores their names
+stores_names : (ts : List TokenValue) (old new : Naming) → FoldsTo NamesToken old ts new → old.count + length ts ≤ length old.names.now
+    → new.names.now ≡ put_from old.count (names_given ts old.places.now) old.names.now
+stores_names [] old new is few = ap (λ (x : Naming). x.names.now) (sym is)
+stores_names (t ∷ ts) old new is few =
+    let mid = is.0 in
+    let count : mid.count ≡ suc old.count = is.1.count (omega (arith, few)) in
+    let long : length mid.names.now ≡ length old.names.now = ap length is.1.names ∙ length-set old.names.now old.count (name_given t old.places.now) in
+    stores_names ts mid new is.2 (omega (arith, few, count, long)) ∙ (λ i. put_from (count i) (names_given ts (is.1.places i)) (is.1.names i))
+
+-- ---- messages with these heads
+
+heads-tokens : (a : Arena) (hs : List ℕ) → heads_of (map (token_of a) hs) ≡ hs
+heads-tokens a [] = refl
+heads-tokens a (h ∷ hs) = ap (λ ks. h ∷ ks) (heads-tokens a hs)
+
+each_had : (a : Arena) (hs : List ℕ) → ((h : ℕ) → rows.has h hs ≡ true → has a (token_of a h) ≡ true) → Each (λ t. has a t ≡ true) (map (token_of a) hs)
+each_had a [] had = tt
+each_had a (h ∷ hs) had = (had h (has_here h hs), each_had a hs (λ k there. had k (or_right (h == k) (rows.has k hs) there)))
+
+-- the names that are given are those that the messages have afterwards
+names_told : (a : Arena) (hs : List ℕ) (p : PlacesValue) → IsApart hs → ((h : ℕ) → rows.has h hs ≡ true → h < length p.stamps)
+    → names_given (map (token_of a) hs) p ≡ map (λ h. let n : Name = record { pool = a.id; head = h; stamp = get_or (stamps_given hs p.stamps) h 0 } in n) hs
+names_told a [] p apart within = refl
+names_told a (h ∷ hs) p apart within =
+    let raised = stamp_after (stamp_in p h) in
+    let stamp : raised ≡ get_or (stamps_given hs (set p.stamps h raised)) h 0 =
+    sym (stamps_other hs (set p.stamps h raised) h apart.0 ∙ get_or-set_same p.stamps h raised 0 (within h (has_here h hs))) in
+    let rest = names_told a hs (with_given (token_of a h) p) apart.1 (λ k there. omega (arith, within k (or_right (h == k) (rows.has k hs) there), length-set p.stamps h raised)) in
+    λ i. (let n : Name = record { pool = a.id; head = h; stamp = stamp i } in n) ∷ rest i
+
+-- no more are taken than the call was asked for
+module _ (p : PoolValue) (n : ℕ) (hs : List ℕ) (u : PoolValue) where
+  few_if : (is_there : Bool) (given : List ℕ) (w : QueuedBlocks) → length given ≤ n
+      → (let g : Given QueuedBlocks (List ℕ) = if is_there then Ok (given, w) else Err NoSuchQueue in on_queues p g ≡ Ok (hs, u)) → length hs ≤ n
+  few_if true given w few is = subst (λ xs. length xs ≤ n) (ap (λ (x : List ℕ × PoolValue). x.0) (same_ok is)) few
+  few_if false given w few is = absurd (err_not_ok is)
+
+  pub few_taken : (q : ℕ) (band : Option ℕ) (flush : Flush) → on_queues p (take_messages q band flush n (queued_blocks_of p)) ≡ Ok (hs, u) → length hs ≤ n
+  few_taken q band flush =
+      let v = queued_blocks_of p in
+      let ms = filter (is_picked v.arena.store band flush) (messages_on v q) in
+      few_if (has_queue v q) (map head_of (take n ms)) _ (omega (arith, length-map (take n ms) head_of, length-take n ms))
+
+moved : (a b : Arena) (old new : Naming) (hs : List ℕ) → AreHanded NamesToken hs a b old new → Moves a b [] (map (token_of b) hs)
+moved a b old new hs is =
+    let heads = heads-tokens b hs in
+    record {
+      id = is.others.id;
+      size = is.others.size;
+      others = λ h was now. is.others.held h (ap (rows.has h) (sym heads) ∙ now);
+      had = tt;
+      has_now = each_had b hs is.had;
+      apart = subst IsApart (sym heads) is.apart;
+      gone = λ h was now. absurd (false≢true was);
+      new = λ h was now. is.unheld h (ap (rows.has h) (sym heads) ∙ now);
+    }
+
+module _ {p r : PoolValue} {ps qs : PlacesValue} (fits : Fits p.arena ps) {old new : Naming} (before : old.places.now ≡ ps) (after : qs ≡ new.places.now) where
+  -- messages are taken and named
+  pub takes_some : {g : Given PoolValue (List ℕ)} {taken : Result ℕ Refusal} {answer : Result ℕ Fault} → Hands arena NamesToken g p r old new taken → answer ≡ as_named_result taken
+      → Called some_messages (outcome_of g) [] p r ps qs answer
+  takes_some {g} {taken} {answer} = each g
+    where
+      each : (g : Given PoolValue (List ℕ)) → Hands arena NamesToken g p r old new taken → answer ≡ as_named_result taken → Called some_messages (outcome_of g) [] p r ps qs answer
+      each (Ok (hs, u)) is told =
+          let pool : u ≡ r = sym is.left in
+          let heads = heads-tokens r.arena hs in
+          let ts = map (token_of r.arena) hs in
+          made p r ps qs fits some_messages hs [] [] (moved p.arena r.arena old new hs is.tokens) refl heads (λ h none. refl) (λ i. Ok (hs, pool i))
+          (after ∙ puts_tokens ts old new is.tokens.handed ∙ (λ i. let q : PlacesValue = record { slots = filled ts (before i).slots; stamps = stamps_given (heads i) (before i).stamps } in q))
+          (told ∙ ap as_named_result is.count)
+      each (Err why) is told =
+          refused p r ps qs fits some_messages is.left (after ∙ ap (λ (x : Naming). x.places.now) (sym is.tokens.handed) ∙ before) (told ∙ ap as_named_result is.count)
+
+  -- and their names are stored in the slice that was lent, which ends as `slice`, if it has room for all
+  pub stores_some : {g : Given PoolValue (List ℕ)} {taken : Result ℕ Refusal} {slice : List Name} → Hands arena NamesToken g p r old new taken → old.count ≡ 0
+      → ((hs : List ℕ) (u : PoolValue) → g ≡ Ok (hs, u) → length hs ≤ length old.names.now) → (old.names.ghost_name ≡ new.names.ghost_name → slice ≡ new.names.now)
+      → slice ≡ with_names (names_of some_messages (pool_with_places r qs) (outcome_of g)) old.names.now
+  stores_some {g} {taken} is first few ends = ends (sym (keeps_names _ old new is.tokens.handed)) ∙ each g is first few
+    where
+      each : (g : Given PoolValue (List ℕ)) → Hands arena NamesToken g p r old new taken → old.count ≡ 0 → ((hs : List ℕ) (u : PoolValue) → g ≡ Ok (hs, u) → length hs ≤ length old.names.now)
+          → new.names.now ≡ with_names (names_of some_messages (pool_with_places r qs) (outcome_of g)) old.names.now
+      each (Err why) is first few = ap (λ (x : Naming). x.names.now) (sym is.tokens.handed)
+      each (Ok (hs, u)) is first few =
+          let a = r.arena in
+          let ts = map (token_of a) hs in
+          let within : (h : ℕ) → rows.has h hs ≡ true → h < length old.places.now.stamps = λ h there.
+          omega (arith, within_some a h (stands_had a (token_of a h) (is.tokens.had h there)), is.tokens.others.size, fits.stamps, ap (λ (x : PlacesValue). length x.stamps) before) in
+          let stamps : stamps_given hs old.places.now.stamps ≡ qs.stamps =
+          ap (λ ks. stamps_given ks old.places.now.stamps) (sym (heads-tokens a hs)) ∙ ap (λ (x : PlacesValue). x.stamps) (sym (after ∙ puts_tokens ts old new is.tokens.handed)) in
+          let names : names_given ts old.places.now ≡ map (λ h. name_of (pool_with_places r qs) h) hs =
+          names_told a hs old.places.now is.tokens.apart within
+          ∙ (λ i. map (λ h. let n : Name = record { pool = a.id; head = h; stamp = get_or (stamps i) h 0 } in n) hs) in
+          let enough = few hs u refl in
+          stores_names ts old new is.tokens.handed (omega (arith, first, enough, length-map hs (token_of a)))
+          ∙ (λ i. put_from (first i) (names i) old.names.now)
+          ∙ put_from-first (map (λ h. name_of (pool_with_places r qs) h) hs) old.names.now (omega (arith, enough, length-map hs (λ h. name_of (pool_with_places r qs) h)))
