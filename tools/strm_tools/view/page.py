@@ -124,13 +124,13 @@ def play_scripts() -> list[list[str]]:
     page = repository("docs", "TUTORIAL.md")
     *sections, exercises, _, _ = page.split("\n## ")
     named = {text.split("\n")[0]: re.findall(r"examples/(\w+\.strm)", text) for text in sections if not text.startswith(BEFORE_EXAMPLES)}
-    paths = [names[0] for names in named.values() if names]
+    paths = list(dict.fromkeys(names[0] for names in named.values() if names))
     for folder in ("flow", "lost"):
         paths += [f"{folder}/{name}" for name in sorted(os.listdir(os.path.join(REPOSITORY, "examples", folder))) if name.endswith(".strm")]
     scripts = [[name, repository("examples", name), ""] for name in paths]
     for number, (head, task) in enumerate(EXERCISE.findall(exercises), 1):
         names = next(names for section, names in named.items() if section.startswith(head))
-        scripts.append([f"exercise {number}: {head}", repository("examples", names[0]), " ".join(task.replace("`", "").split())])
+        scripts.append([f"exercise {number}: {head}", repository("examples", names[0]), " ".join((task[0].upper() + task[1:]).split())])
     return scripts
 
 

@@ -239,7 +239,7 @@ byId("example").append(...FACTS.examples.map(([name], at) => made("option", name
 byId("example").onchange = () => {
     const [, script, task] = FACTS.examples[byId("example").value];
     byId("seed").value = 0;
-    byId("task").textContent = task;
+    byId("task").replaceChildren(...task.split("`").map((text, at) => (at % 2 ? made("code", text) : text)));
     put(script, task ? undefined : 0);
 };
 byId("replies").onclick = (event) => {
