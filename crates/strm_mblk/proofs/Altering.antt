@@ -1,26 +1,39 @@
 -- Calls that alter a block.
-use Rattle.std.proofs.Common.{◌≡◌, ℕ, ◌+◌, ◌^◌, ◌<◌, ◌≤◌, List, length, Option, None, Ok, Some, refl, ap, ◌∙◌, arith, set, sym, subst, get_or-set_same, ◌-◌, Bool, true, false, ◌&&◌, ◌||◌, [], ◌∷◌, ◌++◌, drop, take, inl, inr, get_or-set_other}
-use Rattle.std.specs.Prelude.{ok_or, slice_get, ◌⊎◌, count_by, min, nat_lt}
-use Rattle.std.proofs.lemmas.Option.{same_Some}
-use Rattle.std.proofs.lemmas.Bool.{cases_eq, cases_lt, false≢true, lt-ltb}
+use Rattle.std.proofs.Common.{◌≡◌, ℕ, ◌+◌, ◌^◌, ◌<◌, ◌≤◌, List, length, Option, None, Ok, Some, refl, ap, ◌∙◌, arith, set, sym, subst, get_or-set_same, ◌-◌, Bool, true, false, ◌&&◌, ◌||◌, [], ◌∷◌, ◌++◌, drop, take, get_or, inl, inr, get_or-set_other, suc, length-set, Result, Err, map}
+use Rattle.std.specs.Prelude.{ok_or, slice_get, ◌⊎◌, count_by, min, nat_lt, not, option_map}
+use Rattle.std.proofs.lemmas.Option.{same_Some, slice_get-get_or, slice_get-map}
+use Rattle.std.proofs.lemmas.Bool.{cases_eq, cases_lt, false≢true, lt-ltb, cases_Bool, cond-true, cond-false, le-ltb}
 use Rattle.std.proofs.Math.Seq.{drop-nil, take-nil}
-use Rattle.std.proofs.lemmas.List.{length-drop, set-get_or, take-append-drop}
+use Rattle.std.proofs.lemmas.List.{length-drop, set-get_or, set_past, take-append-drop}
 use Rattle.std.proofs.Math.Nat.{min-le_left, min-le_right}
-use Rattle.strm_data.specs.declared.refusal.Refusal.TheVariants.{NoSuchBlock}
-use Rattle.strm_data.specs.DataStore.{capacity_of, DataStore, data_block_at, no_data_block, with_bytes_written}
-use Rattle.strm_data.specs.CountedStore.{CountedStore}
+use Rattle.strm_data.specs.declared.refusal.Refusal.TheVariants.{NoSuchBlock, NoRoom, Shared}
+use Rattle.strm_data.specs.DataStore.{capacity_of, DataStore, data_block_at, no_data_block, with_bytes_written, DataBlock, with_kind, times}
+use Rattle.strm_data.specs.CountedStore.{CountedStore, IsKept}
 use Rattle.strm_mblk.specs.declared.blocks.Fields.{Fields}
-use Rattle.strm_mblk.specs.Arena.{Arena, message_at, with_message, held_at, references_to, shelved_blocks, without_held}
-use Rattle.strm_mblk.specs.Block.{Block, Message, uses_data}
+use Rattle.strm_mblk.specs.Arena.{Arena, message_at, with_message, held_at, references_to, shelved_blocks, without_held, has}
+use Rattle.strm_mblk.specs.Block.{Block, Message, uses_data, kind_of}
 use Rattle.strm_mblk.specs.BlockCalls.{block_found, own_block, with_bytes, with_block}
-use Rattle.strm_mblk.specs.BlocksLayout.{Suits, IsFilled, IsPlaced, arena_of, block_at, block_of, no_fields}
+use Rattle.strm_mblk.specs.BlocksLayout.{Suits, IsFilled, IsPlaced, arena_of, block_at, block_of, no_fields, fields_at, fields_shaped, message_of, with_shapes}
 use Rattle.strm_mblk.specs.NodeLists.{NodeLists, nodes_at}
-use Rattle.strm_mblk.specs.InPlace.{bytes_within, store_overwritten, touches_shared}
-use Rattle.strm_mblk.specs.Messages.{blocks_of}
-use Rattle.strm_mblk.proofs.arena.Frame.{own_is, Leaves, held_named, leaves_data, naming_at, other_head, shelved_named}
-use Rattle.strm_mblk.proofs.layout.Rooms.{rooms-written}
-use Rattle.strm_mblk.proofs.layout.Places.{IsAt, block_given, rewrite_filled, written_shows}
-use Rattle.strm_mblk.proofs.arena.Counts.{out_of_held}
+use Rattle.strm_mblk.specs.InPlace.{bytes_within, store_overwritten, touches_shared, blocks_shaped, shape_fits, shapes_fit, store_retyped}
+use Rattle.strm_mblk.specs.Messages.{blocks_of, held_in}
+use Rattle.strm_data.specs.declared.refusal.Refusal.{Refusal}
+use Rattle.strm_data.specs.declared.msg_type.MsgType.{MsgType}
+use denote.Enum.Bare.{sameb}
+use Rattle.strm_data.specs.contracts.msg_type.MsgType.{the_type}
+use Rattle.strm_data.specs.MsgType.{same_kind}
+use Rattle.strm_links.proofs.lists.Counting.{times-cons, times_here}
+use Rattle.strm_mblk.specs.declared.block_place.Shape.{Shape}
+use Rattle.strm_mblk.specs.declared.token.TokenValue.{TokenValue}
+use Rattle.strm_mblk.specs.Frame.{LeavesOthers}
+use Rattle.strm_mblk.specs.Given.{and_then}
+use Rattle.std.proofs.lemmas.Grind.{common_steps}
+use Rattle.strm_mblk.proofs.Trimming.{same_kind-one}
+use Rattle.strm_mblk.proofs.layout.Shown.{alike_off, message-alike, message_at-seen}
+use Rattle.strm_mblk.proofs.arena.Frame.{own_is, Leaves, held_named, leaves_data, naming_at, other_head, shelved_named, others_one}
+use Rattle.strm_mblk.proofs.layout.Rooms.{rooms-written, HasRooms, rooms-both, rooms-kind}
+use Rattle.strm_mblk.proofs.layout.Places.{IsAt, block_given, rewrite_filled, written_shows, AreRewritten, message_filled, message_shows, once_within, token_held, within_room}
+use Rattle.strm_mblk.proofs.arena.Counts.{out_of_held, IsHad, had_again, had_message, held_within}
 use Rattle.strm_mblk.proofs.Lists.{count_adds, drop_from}
 
 -- ==== a block that a call found gets other fields, also one that alone uses its data block
@@ -64,30 +77,30 @@ module _ (a : Arena) (h k : ℕ) (x : Block) (own : own_block h k a ≡ Ok x) wh
 
 module _ (id : ℕ) (s : CountedStore) (fields : List Fields) (v : NodeLists) (filled : IsFilled s fields v (arena_of id s.store fields v)) (a : Arena) (is : arena_of id s.store fields v ≡ a)
     (n h k : ℕ) (b : Block) (found : slice_get (message_at a h) k ≡ Some b) (number : b.number ≡ n) where
-  at : IsAt s fields v a h k n (nodes_at v h)
-  at = subst (λ m. IsAt s fields v a h k m (nodes_at v h)) number (block_given id s fields v filled a is h k b found)
+  is_at : IsAt s fields v a h k n (nodes_at v h)
+  is_at = subst (λ m. IsAt s fields v a h k m (nodes_at v h)) number (block_given id s fields v filled a is h k b found)
 
   pub number_there : n < length fields
-  number_there = at.there
+  number_there = is_at.there
 
   -- the fields are those of the block
   block_is : block_at fields n ≡ b
-  block_is = same_Some (block_at fields n) b (sym at.block ∙ found)
+  block_is = same_Some (block_at fields n) b (sym is_at.block ∙ found)
 
   module _ (x : Fields) where
     pub fields_show : arena_of id s.store (set fields n x) v ≡ with_block h k (block_of n x) a
     fields_show =
-        written_shows id s fields v filled h k n (nodes_at v h) at.held at.at s.store x
-        ∙ (λ i. with_message h (set (sym at.message i) k (block_of n (get_or-set_same fields n x no_fields at.there i))) (is i))
+        written_shows id s fields v filled h k n (nodes_at v h) is_at.held is_at.at s.store x
+        ∙ (λ i. with_message h (set (sym is_at.message i) k (block_of n (get_or-set_same fields n x no_fields is_at.there i))) (is i))
 
     pub fields_filled : x.data_number ≡ b.data_number → IsPlaced s.store x → IsFilled s (set fields n x) v (arena_of id s.store (set fields n x) v)
     fields_filled same placed =
-        rewrite_filled id s fields v filled h k n (nodes_at v h) at.held at.at s x filled.kept refl (record { many = refl; room = λ d. refl }) placed
+        rewrite_filled id s fields v filled h k n (nodes_at v h) is_at.held is_at.at s x filled.kept refl (record { many = refl; room = λ d. refl }) placed
         (same ∙ ap (λ (c : Block). c.data_number) (sym block_is))
 
     -- its data block is there
     pub data_there : x.data_number ≡ b.data_number → x.data_number < length s.store.blocks
-    data_there same = subst (λ d. d < length s.store.blocks) (ap (λ (c : Block). c.data_number) block_is ∙ sym same) at.placed.there
+    data_there same = subst (λ d. d < length s.store.blocks) (ap (λ (c : Block). c.data_number) block_is ∙ sym same) is_at.placed.there
 
 -- ==== bytes are written over those of a message, block by block
 
@@ -147,56 +160,290 @@ none_here n r none many =
       | inr few ↦ omega (arith, few)
     ]
 
+-- what is true of all blocks of a message is so of those after the first
+used_behind : (d : ℕ) (b : Block) (bs : List Block) (r : ℕ) → (count_by (uses_data d) (b ∷ bs) ≡ 0) ⊎ (1 < r) → (count_by (uses_data d) bs ≡ 0) ⊎ (1 < r)
+used_behind d b bs r (inl unused) = inl (omega (arith, unused, (count_adds (uses_data d)).both (b ∷ []) bs))
+used_behind d b bs r (inr many) = inr many
+
+-- and of the first
+used_here : (d : ℕ) (b : Block) (bs : List Block) (r : ℕ) → b.data_number ≡ d → (count_by (uses_data d) (b ∷ bs) ≡ 0) ⊎ (1 < r) → 1 < r
+used_here d b bs r same (inl unused) = absurd (omega (arith, unused, naming_at (b ∷ bs) 0 b refl, ap (λ e. count_by (uses_data e) (b ∷ bs)) same))
+used_here d b bs r same (inr many) = many
+
 -- a data block stays that no block of the message uses, or that has other references
-pub other_stays : (a : Arena) (d at : ℕ) (bytes : List ℕ) (m : Message) (s : DataStore) → touches_shared a at (length bytes) m ≡ false → (count_by (uses_data d) m ≡ 0) ⊎ (1 < references_to a d)
+other_stays : (a : Arena) (d at : ℕ) (bytes : List ℕ) (m : Message) (s : DataStore) → touches_shared a at (length bytes) m ≡ false → (count_by (uses_data d) m ≡ 0) ⊎ (1 < references_to a d)
     → data_block_at (store_overwritten at bytes m s) d ≡ data_block_at s d
 other_stays a d at bytes [] s none why = refl
 other_stays a d at bytes (b ∷ bs) s none why =
     let n = bytes_within at (length bytes) b in
     let parts = either (nat_lt 0 n && nat_lt 1 (references_to a b.data_number)) (touches_shared a (at - b.len) (length bytes - n) bs) none in
     other_stays a d (at - b.len) (drop n bytes) bs (with_bytes_written b.data_number (b.offset + min at b.len) (take n bytes) s)
-    (ap (λ l. touches_shared a (at - b.len) l bs) (length-drop n bytes) ∙ parts.1) (behind why)
+    (ap (λ l. touches_shared a (at - b.len) l bs) (length-drop n bytes) ∙ parts.1) (used_behind d b bs _ why)
     ∙ here n parts.0 (cases_eq b.data_number d)
   where
-    counted : count_by (uses_data d) (b ∷ bs) ≡ count_by (uses_data d) (b ∷ []) + count_by (uses_data d) bs
-    counted = (count_adds (uses_data d)).both (b ∷ []) bs
-
-    behind : (count_by (uses_data d) (b ∷ bs) ≡ 0) ⊎ (1 < references_to a d) → (count_by (uses_data d) bs ≡ 0) ⊎ (1 < references_to a d)
-    behind (inl unused) = inl (omega (arith, unused, counted))
-    behind (inr many) = inr many
-
-    used : b.data_number ≡ d → (count_by (uses_data d) (b ∷ bs) ≡ 0) ⊎ (1 < references_to a d) → 1 < references_to a d
-    used same (inl unused) = absurd (omega (arith, unused, naming_at (b ∷ bs) 0 b refl, ap (λ e. count_by (uses_data e) (b ∷ bs)) same))
-    used same (inr many) = many
-
     here : (n : ℕ) → (nat_lt 0 n && nat_lt 1 (references_to a b.data_number)) ≡ false → (b.data_number ≡ d) ⊎ (b.data_number ≡ d → ⊥)
         → data_block_at (with_bytes_written b.data_number (b.offset + min at b.len) (take n bytes) s) d ≡ data_block_at s d
     here n few (inr other) = get_or-set_other s.blocks b.data_number d _ no_data_block (λ same. other (sym same))
     here n few (inl same) =
-        let nothing = none_here n (references_to a b.data_number) few (subst (λ e. 1 < references_to a e) (sym same) (used same why)) in
+        let nothing = none_here n (references_to a b.data_number) few (subst (λ e. 1 < references_to a e) (sym same) (used_here d b bs _ same why)) in
         subst (λ e. data_block_at (with_bytes_written e (b.offset + min at b.len) (take n bytes) s) d ≡ data_block_at s d) (sym same)
         (ap (λ k. data_block_at (with_bytes_written d (b.offset + min at b.len) (take k bytes) s) d) nothing ∙ ap (λ x. data_block_at x d) (unwritten s d (b.offset + min at b.len)))
 
--- what a call leaves that writes over bytes of the message held at h
-module _ (a : Arena) (h : ℕ) (m : Message) (is : held_at a h ≡ Some m) (at : ℕ) (bytes : List ℕ) (none : touches_shared a at (length bytes) m ≡ false) where
-  abbrev new : Arena
-  new = record a { store = store_overwritten at bytes m a.store }
+-- what a call leaves that changes only the message held at h, if a data block stays that no block of this message uses, or that another
+-- message uses too
+module _ (a : Arena) (h : ℕ) (m : Message) (is : held_at a h ≡ Some m) (new : Arena) (others : LeavesOthers (h ∷ []) a new) (shelves : new.shelves ≡ a.shelves)
+    (stays : (d : ℕ) → (count_by (uses_data d) m ≡ 0) ⊎ (1 < references_to a d) → data_block_at new.store d ≡ data_block_at a.store d) where
+  stays_beside : (d n : ℕ) → 0 < n → n + count_by (uses_data d) m ≤ references_to a d → data_block_at new.store d ≡ data_block_at a.store d
+  stays_beside d n some within =
+      stays d (elim (cases_lt 0 (count_by (uses_data d) m)) [ inl used ↦ inr (omega (arith, some, within, used)) | inr unused ↦ inl (omega (arith, unused)) ])
 
-  -- a data block stays that another message uses
-  stays : (d n : ℕ) → 0 < n → n + count_by (uses_data d) m ≤ references_to a d → data_block_at new.store d ≡ data_block_at a.store d
-  stays d n some within =
-      other_stays a d at bytes m a.store none
-      (elim (cases_lt 0 (count_by (uses_data d) m)) [ inl used ↦ inr (omega (arith, some, within, used)) | inr unused ↦ inl (omega (arith, unused)) ])
-
-  pub leaves_overwritten : Leaves (h ∷ []) a new
-  leaves_overwritten =
-      leaves_data a new (h ∷ []) (record { id = refl; size = refl; held = λ g other. refl }) refl
-      (λ d some. stays d (count_by (uses_data d) (shelved_blocks a)) some (omega (arith, out_of_held a h m (uses_data d) is, shelved_named (without_held h a) d)))
+  leaves_beside : Leaves (h ∷ []) a new
+  leaves_beside =
+      leaves_data a new (h ∷ []) others shelves
+      (λ d some. stays_beside d (count_by (uses_data d) (shelved_blocks a)) some (omega (arith, out_of_held a h m (uses_data d) is, shelved_named (without_held h a) d)))
       (λ g d other some.
-      stays d (count_by (uses_data d) (message_at a g)) some
+      stays_beside d (count_by (uses_data d) (message_at a g)) some
       (omega (
         arith,
         out_of_held a h m (uses_data d) is,
         held_named (without_held h a) g d,
         ap (λ o. count_by (uses_data d) (blocks_of o)) (get_or-set_other a.held h g None None (other_head g h [] other)),
       )))
+
+-- what a call leaves that writes over bytes of the message held at h
+pub leaves_overwritten : (a : Arena) (h : ℕ) (m : Message) → held_at a h ≡ Some m → (at : ℕ) (bytes : List ℕ) → touches_shared a at (length bytes) m ≡ false → Leaves (h ∷ []) a (record a { store = store_overwritten at bytes m a.store })
+leaves_overwritten a h m is at bytes none =
+    leaves_beside a h m is (record a { store = store_overwritten at bytes m a.store }) (record { id = refl; size = refl; held = λ g other. refl }) refl (λ d. other_stays a d at bytes m a.store none)
+
+-- ==== the first blocks of a message get shapes, one after the other
+
+-- an item of a list is this shape
+pub shape_at : {X : Type 0} (f : X → Shape) (xs : List X) (k : ℕ) (x : X) (s : Shape) → k < length xs → x ≡ get_or xs k x → s ≡ f x → slice_get (map f xs) k ≡ Some s
+shape_at f xs k x s within is of = slice_get-map f xs k ∙ ap (option_map f) (slice_get-get_or xs k x within ∙ ap Some (sym is)) ∙ ap Some (sym of)
+
+-- one step of a walk
+module _ (xs : List Shape) (k : ℕ) (x : Shape) (is : slice_get xs k ≡ Some x) where
+  pub fits_next : (a : Arena) (m : Message) (b : Block) → slice_get m k ≡ Some b
+      → shapes_fit a (drop k xs) (drop k m) ≡ and_then (λ u. shapes_fit a (drop (k + 1) xs) (drop (k + 1) m)) (shape_fits a x b)
+  fits_next a m b at = λ i. shapes_fit a (drop_from xs k x is i) (drop_from m k b at i)
+
+  pub shaped_next : (ns : List ℕ) (n : ℕ) (fields : List Fields) → slice_get ns k ≡ Some n
+      → with_shapes (drop k xs) (drop k ns) fields ≡ with_shapes (drop (k + 1) xs) (drop (k + 1) ns) (set fields n (fields_shaped x (fields_at fields n)))
+  shaped_next ns n fields at = λ i. with_shapes (drop_from xs k x is i) (drop_from ns k n at i) fields
+
+  pub retyped_next : (m : Message) (b : Block) (s : DataStore) → slice_get m k ≡ Some b
+      → store_retyped (drop k xs) (drop k m) s ≡ store_retyped (drop (k + 1) xs) (drop (k + 1) m) (with_kind b.data_number x.kind s)
+  retyped_next m b s at = λ i. store_retyped (drop_from xs k x is i) (drop_from m k b at i) s
+
+-- ---- one block
+
+-- the test for another type, as the code makes it
+pub kind_changes : (k j : MsgType) (is : Bool) → is ≡ not (sameb the_type k j) → is ≡ not (same_kind k j)
+unfolding same_kind
+kind_changes k j is same = same
+
+-- a shape that fits is within the data block
+fit_room : (a : Arena) (x : Shape) (b : Block) → shape_fits a x b ≡ Ok tt → x.at + x.len ≤ capacity_of a.store b.data_number
+fit_room a x b fits =
+    elim (cases_lt (capacity_of a.store b.data_number) (x.at + x.len)) [
+      | inl past ↦ let none : shape_fits a x b ≡ Err NoRoom = cond-true _ _ _ (lt-ltb _ _ past) in absurd cc
+      | inr within ↦ within
+    ]
+
+-- and the type stays where another block uses the data block
+fit_type : (a : Arena) (x : Shape) (b : Block) → shape_fits a x b ≡ Ok tt → 1 < references_to a b.data_number → same_kind (kind_of a.store b) x.kind ≡ true
+fit_type a x b fits many =
+    elim (cases_Bool (same_kind (kind_of a.store b) x.kind)) [
+      | inl same ↦ same
+      | inr other ↦
+          let changes : (not (same_kind (kind_of a.store b) x.kind) && nat_lt 1 (references_to a b.data_number)) ≡ true =
+          ap (λ p. not p && nat_lt 1 (references_to a b.data_number)) other ∙ lt-ltb 1 _ many in
+          let none : shape_fits a x b ≡ Err Shared = cond-false _ _ _ (le-ltb _ _ (fit_room a x b fits)) ∙ cond-true _ _ _ changes in
+          absurd cc
+    ]
+
+-- ---- all of them
+
+fit_parts : (r s : Result (Unit {0}) Refusal) → and_then (λ u. s) r ≡ Ok tt → (r ≡ Ok tt) × (s ≡ Ok tt)
+fit_parts (Ok u) s is = (refl, is)
+fit_parts (Err why) s is = absurd cc
+
+length-shaped : (xs : List Shape) (ns : List ℕ) (fields : List Fields) → length (with_shapes xs ns fields) ≡ length fields
+length-shaped [] ns fields = refl
+length-shaped (x ∷ xs) [] fields = refl
+length-shaped (x ∷ xs) (n ∷ ns) fields = length-shaped xs ns (set fields n (fields_shaped x (fields_at fields n))) ∙ length-set fields n _
+
+-- each block uses the data block that it used
+pub named_one : (x : Shape) (n : ℕ) (fields : List Fields) (j : ℕ) → (fields_at (set fields n (fields_shaped x (fields_at fields n))) j).data_number ≡ (fields_at fields j).data_number
+named_one x n fields j = grind (arith, common_steps, get_or-set_same, set_past, get_or-set_other)
+
+-- and has a band
+pub banded_one : (x : Shape) (n : ℕ) (fields : List Fields) → x.band < 2 ^ 8 → ((j : ℕ) → j < length fields → (fields_at fields j).band < 2 ^ 8)
+    → (j : ℕ) → j < length (set fields n (fields_shaped x (fields_at fields n))) → (fields_at (set fields n (fields_shaped x (fields_at fields n))) j).band < 2 ^ 8
+banded_one x n fields small old j within = grind (arith, common_steps, get_or-set_same, get_or-set_other, length-set, small, old)
+
+shaped_named : (xs : List Shape) (ns : List ℕ) (fields : List Fields) (j : ℕ) → (fields_at (with_shapes xs ns fields) j).data_number ≡ (fields_at fields j).data_number
+shaped_named [] ns fields j = refl
+shaped_named (x ∷ xs) [] fields j = refl
+shaped_named (x ∷ xs) (n ∷ ns) fields j = shaped_named xs ns (set fields n (fields_shaped x (fields_at fields n))) j ∙ named_one x n fields j
+
+-- blocks of other messages say what they said
+shaped_apart : (xs : List Shape) (ns : List ℕ) (fields : List Fields) (j : ℕ) → times j ns ≡ 0 → fields_at (with_shapes xs ns fields) j ≡ fields_at fields j
+shaped_apart [] ns fields j none = refl
+shaped_apart (x ∷ xs) [] fields j none = refl
+shaped_apart (x ∷ xs) (n ∷ ns) fields j none =
+    elim (cases_eq j n) [
+      | inl same ↦ absurd (omega (arith, none, times_here j n ns (sym same)))
+      | inr other ↦ shaped_apart xs ns (set fields n (fields_shaped x (fields_at fields n))) j (omega (arith, none, times-cons j n ns)) ∙ get_or-set_other fields n j _ no_fields other
+    ]
+
+-- the blocks of a message after its first got another shape
+rest_alike : (x : Shape) (n : ℕ) (ns : List ℕ) (fields : List Fields) → times n (n ∷ ns) ≤ 1 → message_of (set fields n (fields_shaped x (fields_at fields n))) ns ≡ message_of fields ns
+rest_alike x n ns fields once = message-alike fields _ ns (alike_off fields n _ ns (omega (arith, once, times_here n n ns refl)))
+
+nodes_shaped : (xs : List Shape) (ns : List ℕ) (fields : List Fields) → ((j : ℕ) → times j ns ≤ 1) → ((j : ℕ) → 0 < times j ns → j < length fields)
+    → message_of (with_shapes xs ns fields) ns ≡ blocks_shaped xs (message_of fields ns)
+nodes_shaped [] ns fields once there = refl
+nodes_shaped (x ∷ xs) [] fields once there = refl
+nodes_shaped (x ∷ xs) (n ∷ ns) fields once there =
+    let now = set fields n (fields_shaped x (fields_at fields n)) in
+    let here : fields_at (with_shapes xs ns now) n ≡ fields_shaped x (fields_at fields n) =
+    shaped_apart xs ns now n (omega (arith, once n, times_here n n ns refl)) ∙ get_or-set_same fields n _ no_fields (there n (omega (arith, times_here n n ns refl))) in
+    let rest : message_of (with_shapes xs ns now) ns ≡ blocks_shaped xs (message_of fields ns) =
+    nodes_shaped xs ns now (λ j. omega (arith, once j, times-cons j n ns)) (λ j some. omega (arith, length-set fields n (fields_shaped x (fields_at fields n)), there j (omega (arith, some, times-cons j n ns))))
+    ∙ ap (blocks_shaped xs) (rest_alike x n ns fields (once n)) in
+    λ i. block_of n (here i) ∷ rest i
+
+length-blocks_shaped : (xs : List Shape) (m : Message) → length (blocks_shaped xs m) ≡ length m
+length-blocks_shaped [] m = refl
+length-blocks_shaped (x ∷ xs) [] = refl
+length-blocks_shaped (x ∷ xs) (b ∷ bs) = ap suc (length-blocks_shaped xs bs)
+
+pub rooms-retyped : (xs : List Shape) (m : Message) (s : DataStore) → HasRooms s (store_retyped xs m s)
+rooms-retyped [] m s = record { many = refl; room = λ k. refl }
+rooms-retyped (x ∷ xs) [] s = record { many = refl; room = λ k. refl }
+rooms-retyped (x ∷ xs) (b ∷ bs) s = rooms-both (rooms-kind s b.data_number x.kind) (rooms-retyped xs bs (with_kind b.data_number x.kind s))
+
+-- the places of all blocks are within their data blocks, if the shapes fit those of the message
+shaped_within : (a : Arena) (xs : List Shape) (ns : List ℕ) (fields : List Fields) → ((j : ℕ) → times j ns ≤ 1) → shapes_fit a xs (message_of fields ns) ≡ Ok tt
+    → ((j : ℕ) → j < length fields → (fields_at fields j).offset + (fields_at fields j).len ≤ capacity_of a.store (fields_at fields j).data_number)
+    → (j : ℕ) → j < length fields → (fields_at (with_shapes xs ns fields) j).offset + (fields_at (with_shapes xs ns fields) j).len ≤ capacity_of a.store (fields_at fields j).data_number
+shaped_within a [] ns fields once fits old j within = old j within
+shaped_within a (x ∷ xs) [] fields once fits old j within = old j within
+shaped_within a (x ∷ xs) (n ∷ ns) fields once fits old j within =
+    let now = set fields n (fields_shaped x (fields_at fields n)) in
+    let parts = fit_parts (shape_fits a x (block_at fields n)) (shapes_fit a xs (message_of fields ns)) fits in
+    subst (λ d. (fields_at (with_shapes xs ns now) j).offset + (fields_at (with_shapes xs ns now) j).len ≤ capacity_of a.store d) (named_one x n fields j)
+    (shaped_within a xs ns now (λ i. omega (arith, once i, times-cons i n ns)) (ap (shapes_fit a xs) (rest_alike x n ns fields (once n)) ∙ parts.1)
+    (λ i inside. one (fit_room a x (block_at fields n) parts.0) i (omega (arith, inside, length-set fields n (fields_shaped x (fields_at fields n))))) j
+    (omega (arith, within, length-set fields n (fields_shaped x (fields_at fields n)))))
+  where
+    one : x.at + x.len ≤ capacity_of a.store (fields_at fields n).data_number → (i : ℕ) → i < length fields
+        → (fields_at (set fields n (fields_shaped x (fields_at fields n))) i).offset + (fields_at (set fields n (fields_shaped x (fields_at fields n))) i).len
+        ≤ capacity_of a.store (fields_at (set fields n (fields_shaped x (fields_at fields n))) i).data_number
+    one room i inside = grind (arith, common_steps, get_or-set_same, get_or-set_other, room, old)
+
+-- a type that is given again
+retyped_same : (s : DataStore) (d : ℕ) (kind : MsgType) → (data_block_at s d).kind ≡ kind → data_block_at (with_kind d kind s) d ≡ data_block_at s d
+retyped_same s d kind is =
+    elim (cases_lt d (length s.blocks)) [
+      | inl there ↦ get_or-set_same s.blocks d _ no_data_block there ∙ (λ i. record (data_block_at s d) { kind = sym is i })
+      | inr past ↦ ap (λ xs. get_or xs d no_data_block) (set_past s.blocks d _ past)
+    ]
+
+-- a data block stays that no block of the message uses, or that has other references
+retyped_stays : (a : Arena) (d : ℕ) (xs : List Shape) (m : Message) (s : DataStore) → shapes_fit a xs m ≡ Ok tt → (count_by (uses_data d) m ≡ 0) ⊎ (1 < references_to a d)
+    → data_block_at s d ≡ data_block_at a.store d → data_block_at (store_retyped xs m s) d ≡ data_block_at a.store d
+retyped_stays a d [] m s fits why same = same
+retyped_stays a d (x ∷ xs) [] s fits why same = same
+retyped_stays a d (x ∷ xs) (b ∷ bs) s fits why same =
+    let parts = fit_parts (shape_fits a x b) (shapes_fit a xs bs) fits in
+    retyped_stays a d xs bs (with_kind b.data_number x.kind s) parts.1 (used_behind d b bs _ why) (here parts.0 (cases_eq b.data_number d))
+  where
+    here : shape_fits a x b ≡ Ok tt → (b.data_number ≡ d) ⊎ (b.data_number ≡ d → ⊥) → data_block_at (with_kind b.data_number x.kind s) d ≡ data_block_at a.store d
+    here fit (inr other) = get_or-set_other s.blocks b.data_number d _ no_data_block (λ one. other (sym one)) ∙ same
+    here fit (inl one) =
+        let many : 1 < references_to a b.data_number = subst (λ e. 1 < references_to a e) (sym one) (used_here d b bs _ one why) in
+        let kind : kind_of a.store b ≡ x.kind = same_kind-one _ _ (fit_type a x b fit many) in
+        subst (λ e. data_block_at (with_kind e x.kind s) d ≡ data_block_at a.store d) (sym one)
+        (retyped_same s d x.kind (ap (λ (c : DataBlock). c.kind) same ∙ ap (λ e. (data_block_at a.store e).kind) (sym one) ∙ kind) ∙ same)
+
+-- the arena after the first blocks of the message held at h got these shapes
+abbrev pub with_shaped : ℕ → List Shape → Arena → Arena
+with_shaped h xs a = record (with_message h (blocks_shaped xs (message_at a h)) a) { store = store_retyped xs (message_at a h) a.store }
+
+-- the call on the model
+module _ (a : Arena) (t : TokenValue) (had : has a t ≡ true) (xs : List Shape) (fits : shapes_fit a xs (message_at a t.head) ≡ Ok tt) where
+  its : (m : Message) × IsHad a t m
+  its = had_message a t had
+
+  its_held : held_at a t.head ≡ Some (message_at a t.head)
+  its_held = its.1.held ∙ ap Some (sym (ap blocks_of its.1.held))
+
+  pub shaped_leaves : Leaves (t.head ∷ []) a (with_shaped t.head xs a)
+  shaped_leaves =
+      leaves_beside a t.head (message_at a t.head) its_held (with_shaped t.head xs a) (others_one a (with_shaped t.head xs a) t.head (Some (blocks_shaped xs (message_at a t.head))) refl refl) refl
+      (λ d why. retyped_stays a d xs (message_at a t.head) a.store fits why refl)
+
+  pub shaped_had : has (with_shaped t.head xs a) t ≡ true
+  shaped_had =
+      had_again a (with_shaped t.head xs a) t its.0 (blocks_shaped xs (message_at a t.head)) its.1 (get_or-set_same a.held t.head _ None (held_within a t.head its.0 its.1.held))
+      (length-blocks_shaped xs (message_at a t.head) ∙ ap (λ o. length (blocks_of o)) its.1.held) refl
+
+-- and as the code stores it
+module _ (id : ℕ) (s : CountedStore) (fields : List Fields) (v : NodeLists) (filled : IsFilled s fields v (arena_of id s.store fields v)) (a : Arena) (a_is : arena_of id s.store fields v ≡ a)
+    (t : TokenValue) (had : has a t ≡ true) (xs : List Shape) where
+  abbrev nodes : List ℕ
+  nodes = nodes_at v t.head
+
+  abbrev shaped : List Fields
+  shaped = with_shapes xs nodes fields
+
+  nodes_held : held_in v.held t.head ≡ Some nodes
+  nodes_held = token_held id s fields v a a_is t t refl had
+
+  message_is : message_at a t.head ≡ message_of fields nodes
+  message_is = ap (λ x. message_at x t.head) (sym a_is) ∙ message_at-seen id s.store fields v t.head
+
+  pub change : AreRewritten fields shaped nodes
+  change = record { many = length-shaped xs nodes fields; named = shaped_named xs nodes fields; apart = shaped_apart xs nodes fields }
+
+  module _ (u : CountedStore) (u_is : u ≡ record s { store = store_retyped xs (message_of fields nodes) s.store }) where
+    pub shaped_shows : arena_of id u.store shaped v ≡ with_shaped t.head xs a
+    shaped_shows =
+        message_shows id s fields v filled t.head nodes nodes_held u.store shaped change.apart
+        ∙ (λ i. record (arena_of id s.store fields v) {
+          store = (u_is i).store;
+          held = set (arena_of id s.store fields v).held t.head (Some (nodes_shaped xs nodes fields (once_within id s fields v filled t.head nodes nodes_held) (within_room id s fields v filled t.head nodes nodes_held) i));
+        })
+        ∙ (λ i. record (arena_of id s.store fields v) {
+          store = store_retyped xs (sym (message_at-seen id s.store fields v t.head) i) s.store;
+          held = set (arena_of id s.store fields v).held t.head (Some (blocks_shaped xs (sym (message_at-seen id s.store fields v t.head) i)));
+        })
+        ∙ ap (with_shaped t.head xs) a_is
+
+    module _ (fits : shapes_fit a xs (message_at a t.head) ≡ Ok tt) (kept : IsKept u) (banded : (n : ℕ) → n < length shaped → (fields_at shaped n).band < 2 ^ 8) where
+      rooms : HasRooms s.store u.store
+      rooms = subst (λ (w : CountedStore). HasRooms s.store w.store) (sym u_is) (rooms-retyped xs (message_of fields nodes) s.store)
+
+      placed : (n : ℕ) → n < length shaped → IsPlaced u.store (fields_at shaped n)
+      placed n within =
+          let inside : n < length fields = omega (arith, within, change.many) in
+          let room =
+          shaped_within a xs nodes fields (once_within id s fields v filled t.head nodes nodes_held) (ap (shapes_fit a xs) (sym message_is) ∙ fits)
+          (λ j there. subst (λ (x : Arena). (fields_at fields j).offset + (fields_at fields j).len ≤ capacity_of x.store (fields_at fields j).data_number) a_is (filled.placed j there).within) n inside in
+          record {
+            there = omega (arith, (filled.placed n inside).there, change.named n, rooms.many);
+            within =
+                omega (
+                  arith,
+                  room,
+                  ap (λ (x : Arena). capacity_of x.store (fields_at fields n).data_number) a_is,
+                  rooms.room (fields_at fields n).data_number,
+                  ap (capacity_of u.store) (change.named n),
+                );
+            banded = banded n within;
+          }
+
+      pub shaped_filled : IsFilled u shaped v (arena_of id u.store shaped v)
+      shaped_filled = message_filled id s fields v filled t.head nodes nodes_held u shaped change kept (ap (λ (w : CountedStore). w.counts) u_is) placed

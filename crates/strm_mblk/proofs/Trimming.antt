@@ -46,7 +46,7 @@ same_kind-refl : (k : MsgType) → same_kind k k ≡ true
 unfolding same_kind
 same_kind-refl k = true_same the_type k k refl
 
-same_kind-one : (k j : MsgType) → same_kind k j ≡ true → k ≡ j
+pub same_kind-one : (k j : MsgType) → same_kind k j ≡ true → k ≡ j
 unfolding same_kind
 same_kind-one k j same = same_true the_type tt k j same
 

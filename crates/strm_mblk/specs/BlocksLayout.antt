@@ -5,6 +5,7 @@ use Rattle.strm_data.specs.DataStore.{DataStore, capacity_of, times}
 use Rattle.std.specs.List.{list_any}
 use Rattle.strm_links.specs.StrandLists.{StrandLists, strand_at}
 use Rattle.strm_data.specs.Limits.{most_data_block_bytes, most_references}
+use Rattle.strm_mblk.specs.declared.block_place.Shape.{Shape}
 use Rattle.strm_mblk.specs.declared.blocks.Blocks.TheInside.{Inside}
 use Rattle.strm_mblk.specs.declared.blocks.Fields.{Fields}
 use Rattle.strm_mblk.specs.declared.blocks.finding.Found.{Found}
@@ -49,6 +50,16 @@ abbrev pub with_fields : List ℕ → List Fields → List Fields → List Field
 with_fields [] xs fields = fields
 with_fields (n ∷ ns) [] fields = fields
 with_fields (n ∷ ns) (x ∷ xs) fields = with_fields ns xs (slice_set fields n x)
+
+-- these fields with the places and the band of a shape
+abbrev pub fields_shaped : Shape → Fields → Fields
+fields_shaped x f = record f { offset = x.at; len = x.len; band = x.band }
+
+-- the fields after the first of these message blocks got the places and bands of these shapes
+abbrev pub with_shapes : List Shape → List ℕ → List Fields → List Fields
+with_shapes [] ns fields = fields
+with_shapes (x ∷ xs) [] fields = fields
+with_shapes (x ∷ xs) (n ∷ ns) fields = with_shapes xs ns (slice_set fields n (fields_shaped x (fields_at fields n)))
 
 -- the store after each of these data blocks, first to last, got a reference
 abbrev pub with_references_given : List ℕ → CountedStore → CountedStore

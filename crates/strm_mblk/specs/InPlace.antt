@@ -1,13 +1,15 @@
 -- Calls on the bytes of held messages in place: a caller looks at them, changes them, or moves the places of a block. A call gets the head
 -- of a message instead of its token.
-use Rattle.std.specs.Prelude.{ℕ, ◌+◌, ◌-◌, Bool, false, ◌&&◌, ◌||◌, min, nat_lt, List, [], ◌∷◌, length, map, take, drop, Result, Ok, Err, if◌then◌else◌}
+use Rattle.std.specs.Prelude.{ℕ, ◌+◌, ◌-◌, Bool, false, ◌&&◌, ◌||◌, not, min, nat_lt, List, [], ◌∷◌, length, map, take, drop, Result, Ok, Err, if◌then◌else◌}
 use Rattle.strm_data.specs.declared.refusal.Refusal.{Refusal}
-use Rattle.strm_data.specs.declared.refusal.Refusal.TheVariants.{NoRoom, Shared, Short}
-use Rattle.strm_data.specs.DataStore.{DataStore, capacity_of, data_block_at, with_bytes_written}
+use Rattle.strm_data.specs.declared.refusal.Refusal.TheVariants.{NoRoom, NoSuchBlock, Shared, Short}
+use Rattle.strm_data.specs.DataStore.{DataStore, capacity_of, data_block_at, with_bytes_written, with_kind}
+use Rattle.strm_data.specs.MsgType.{same_kind}
 use Rattle.strm_mblk.specs.declared.block_info.BlockInfo.{BlockInfo}
 use Rattle.strm_mblk.specs.declared.block_place.BlockPlace.{BlockPlace}
-use Rattle.strm_mblk.specs.Arena.{Arena, message_at, references_to}
-use Rattle.strm_mblk.specs.Block.{Block, Message, bytes_of_block, size_of}
+use Rattle.strm_mblk.specs.declared.block_place.Shape.{Shape}
+use Rattle.strm_mblk.specs.Arena.{Arena, message_at, references_to, with_message}
+use Rattle.strm_mblk.specs.Block.{Block, Message, bytes_of_block, kind_of, size_of}
 use Rattle.strm_mblk.specs.BlockCalls.{block_found, info_of, own_block, with_block, with_bytes}
 use Rattle.strm_mblk.specs.Given.{Given, and_then, answer_map}
 
@@ -97,6 +99,42 @@ shape_block h k at len a b =
 -- the read place of block k of the message held at h becomes `at`, and its length `len`, also where other blocks use its data block
 abbrev pub shape : ℕ → ℕ → ℕ → ℕ → Arena → Given Arena (Unit {0})
 shape h k at len a = and_then (shape_block h k at len a) (block_found h k a)
+
+-- ---- several blocks at once: read place, length, type and band of each
+
+-- refused if the shape does not fit the block: it has more bytes than the data block, or its type is new to one that another block uses
+abbrev pub shape_fits : Arena → Shape → Block → Result (Unit {0}) Refusal
+shape_fits a x b =
+    if nat_lt (capacity_of a.store b.data_number) (x.at + x.len) then Err NoRoom
+    else (if not (same_kind (kind_of a.store b) x.kind) && nat_lt 1 (references_to a b.data_number) then Err Shared
+    else Ok tt)
+
+-- refused as the first of these shapes that does not fit its block
+abbrev pub shapes_fit : Arena → List Shape → Message → Result (Unit {0}) Refusal
+shapes_fit a [] bs = Ok tt
+shapes_fit a (x ∷ xs) [] = Err NoSuchBlock
+shapes_fit a (x ∷ xs) (b ∷ bs) = and_then (λ u. shapes_fit a xs bs) (shape_fits a x b)
+
+-- the blocks after the first of them got the places and bands of these shapes
+abbrev pub blocks_shaped : List Shape → Message → Message
+blocks_shaped [] bs = bs
+blocks_shaped (x ∷ xs) [] = []
+blocks_shaped (x ∷ xs) (b ∷ bs) = record b { offset = x.at; len = x.len; band = x.band } ∷ blocks_shaped xs bs
+
+-- the store after the data blocks of the first of these blocks got the types of these shapes
+abbrev pub store_retyped : List Shape → Message → DataStore → DataStore
+store_retyped [] bs s = s
+store_retyped (x ∷ xs) [] s = s
+store_retyped (x ∷ xs) (b ∷ bs) s = store_retyped xs bs (with_kind b.data_number x.kind s)
+
+-- gives the first blocks of the message held at h these shapes
+abbrev pub shape_all : ℕ → List Shape → Arena → Given Arena (Unit {0})
+shape_all h shapes a =
+    let m = message_at a h in
+    if nat_lt (length m) (length shapes) then Err NoSuchBlock
+    else answer_map (λ u. (tt, record (with_message h (blocks_shaped shapes m) a) { store = store_retyped shapes m a.store })) (shapes_fit a shapes m)
+
+-- ---- bytes before those of a message
 
 -- puts bytes before the read place of this block, the first of the message held at h
 abbrev pub prepend_block : ℕ → List ℕ → Arena → Block → Given Arena (Unit {0})

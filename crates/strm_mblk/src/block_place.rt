@@ -1,4 +1,7 @@
-//! What `place` returns of one message block.
+//! What `place` returns of one message block, and what `shape_all` gives one.
+ghost use Rattle.std.specs.Prelude.{◌≡◌};
+
+use strm_data::MsgType;
 
 /// Where a block of a message has its bytes: in its data block, `len` bytes from place `at` on.
 ///
@@ -15,4 +18,37 @@ pub struct BlockPlace {
     pub len: u32,
     /// The number of bytes of the data block.
     pub capacity: u32,
+}
+
+/// What [`Blocks::shape_all`](crate::Blocks::shape_all) gives a block of a message: its places, its type and its band.
+#[derive(Clone, Copy, Debug, PartialEq, Eq)]
+pub struct Shape {
+    /// The read place in its data block, in bytes from 0 on.
+    pub at: u32,
+    /// The number of bytes between the read place and the write place.
+    pub len: u32,
+    /// The type of its data block.
+    pub kind: MsgType,
+    /// The block's band, 0 to 255.
+    pub band: u8,
+}
+
+/// What a list of shapes can be made of: [`Shape`], or a type of the caller's that says the same, such as a struct of C. So
+/// an array of such needs no memory to become one of `Shape`.
+pub trait Shaped: Copy {
+    ghost use Rattle.strm_mblk.specs.declared.block_place.Shape.{Shape};
+
+    ghost shape: { Self → Shape };
+
+    /// Returns the shape.
+    fn shape(self) -> Shape
+        ensures { result ≡ shape self };
+}
+
+impl Shaped for Shape {
+    ghost shape = { λ s. s };
+
+    fn shape(self) -> Shape {
+        self
+    }
 }

@@ -20,6 +20,7 @@ mod joining;
 mod overwriting;
 mod pulling;
 mod reading;
+mod shaping;
 mod shelves;
 mod transferring;
 mod trimming;

@@ -11,7 +11,7 @@ mod rejected;
 mod token;
 
 pub use block_info::BlockInfo;
-pub use block_place::BlockPlace;
+pub use block_place::{BlockPlace, Shape, Shaped};
 pub use blocks::{BlockNo, Blocks};
 pub use census::Census;
 pub use limits::MOST_MESSAGE_BLOCKS;

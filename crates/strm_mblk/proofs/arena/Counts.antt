@@ -15,7 +15,7 @@ use Rattle.strm_mblk.specs.declared.token.TokenValue.{TokenValue}
 use Rattle.strm_mblk.specs.Freeing.{freemsg, with_token_spent, with_block_freed, with_blocks_freed}
 use Rattle.strm_mblk.specs.BlockCalls.{freeb_from, head_in, rmvb, rmvb_of, unlinkb, with_rest}
 use Rattle.strm_mblk.specs.Given.{Given}
-use Rattle.strm_mblk.proofs.Lists.{IsAdditive, count_adds, count_by-map, flat_map-set_adds, length_adds, sum_adds, one_most, in_range, count_one}
+use Rattle.strm_mblk.proofs.Lists.{IsAdditive, count_adds, count_by-map, flat_map-set_adds, one_most, in_range, count_one}
 use Rattle.std.proofs.lemmas.Grind.{common_steps}
 
 -- ==== counts over all blocks of an arena, and what they become when a message goes somewhere else

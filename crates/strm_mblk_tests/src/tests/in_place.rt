@@ -1,6 +1,6 @@
 use super::bench::Bench;
 use super::in_place_rows::InPlace::{
-    Advance, Edit, Fill, Lent, Overwrite, Placed, Prepend, Reserve, Shape, Walk, Window,
+    Advance, Edit, Fill, Lent, Overwrite, Placed, Prepend, Reserve, Shape, ShapeAll, Walk, Window,
 };
 use super::rows::Row::{Allocb, Bytes, Dupb, Freemsg, InPlace, OfBytes, Told, Write};
 use super::rows::{A, B, DONE, Row, serve};
@@ -112,6 +112,61 @@ const SHAPED: &[Row] = &[
     Freemsg(A),
 ];
 
+// Both blocks get places, types and bands, or none does. The first one's data block has a duplicate.
+const ALL_SHAPED: &[Row] = &[
+    OfBytes(16, b"head", &[b"tail"], A),
+    Dupb(A, Ok(B)),
+    InPlace(A, ShapeAll(&[], DONE)),
+    InPlace(
+        A,
+        ShapeAll(
+            &[
+                (0, 17, MsgType::MData, 0),
+                (0, 0, MsgType::MData, 0),
+                (0, 0, MsgType::MData, 0),
+            ],
+            NO_SUCH_BLOCK,
+        ),
+    ),
+    InPlace(
+        A,
+        ShapeAll(
+            &[(1, 2, MsgType::MData, 3), (0, 17, MsgType::MProto, 4)],
+            NO_ROOM,
+        ),
+    ),
+    InPlace(
+        A,
+        ShapeAll(
+            &[(1, 2, MsgType::MProto, 3), (0, 17, MsgType::MData, 4)],
+            SHARED,
+        ),
+    ),
+    InPlace(A, ShapeAll(&[(1, 16, MsgType::MProto, 3)], NO_ROOM)),
+    InPlace(A, ShapeAll(&[(u32::MAX, 1, MsgType::MData, 3)], NO_ROOM)),
+    Told(A, 0, Ok((MsgType::MData, 4, 0, 12, 2))),
+    Told(A, 1, Ok((MsgType::MData, 4, 0, 12, 1))),
+    Bytes(A, 0, b"headtail"),
+    InPlace(
+        A,
+        ShapeAll(
+            &[(1, 2, MsgType::MData, 3), (2, 14, MsgType::MProto, 4)],
+            DONE,
+        ),
+    ),
+    Told(A, 0, Ok((MsgType::MData, 2, 3, 13, 2))),
+    Told(A, 1, Ok((MsgType::MProto, 14, 4, 0, 1))),
+    Told(B, 0, Ok((MsgType::MData, 4, 0, 12, 2))),
+    Bytes(A, 0, b"eail\0\0\0\0\0\0\0\0\0\0\0\0"),
+    InPlace(A, ShapeAll(&[(0, 4, MsgType::MData, 0)], DONE)),
+    InPlace(A, Placed(0, Ok((0, 0, 4, 16)))),
+    InPlace(A, Placed(1, Ok((1, 2, 14, 16)))),
+    Freemsg(B),
+    InPlace(A, ShapeAll(&[(0, 4, MsgType::MProto, 9)], DONE)),
+    Told(A, 0, Ok((MsgType::MProto, 4, 9, 12, 1))),
+    Freemsg(A),
+];
+
 // Bytes are written over those of both blocks at once.
 const OVERWRITTEN: &[Row] = &[
     OfBytes(16, b"head", &[b"tail"], A),
@@ -149,6 +204,11 @@ fn edits_what_is_not_shared(rt: HostRuntime) {
 #[test]
 fn moves_places_in_a_window(rt: HostRuntime) {
     serve(&rt, Bench::opened(&rt, rt.alloc(), 1), SHAPED);
+}
+
+#[test]
+fn shapes_all_blocks_or_none(rt: HostRuntime) {
+    serve(&rt, Bench::opened(&rt, rt.alloc(), 1), ALL_SHAPED);
 }
 
 #[test]

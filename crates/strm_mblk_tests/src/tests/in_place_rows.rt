@@ -3,7 +3,7 @@ use super::bench::Bench;
 use super::{Told, info};
 use std::process::Abort;
 use strm_data::{MsgType, Refusal};
-use strm_mblk::{BlockInfo, BlockPlace, TokenValue};
+use strm_mblk::{BlockInfo, BlockPlace, Shape, TokenValue};
 
 // A call on a message, and its result. Places are those of blocks.
 #[derive(Clone, Copy)]
@@ -22,9 +22,22 @@ pub(super) enum InPlace {
     Window(u32, &'static [u8], Result<(), Refusal>),
     Advance(u32, u32, Result<(), Refusal>),
     Shape(u32, u32, u32, Result<(), Refusal>),
+    // Read place, length, type and band of each block, four at most.
+    ShapeAll(&'static [(u32, u32, MsgType, u8)], Result<(), Refusal>),
     Reserve(u32, u32, Result<(), Refusal>),
     Prepend(&'static [u8], Result<(), Refusal>),
     Overwrite(u32, &'static [u8], Result<(), Refusal>),
+}
+
+// Read place, length, type and band as a shape.
+fn shape(given: (u32, u32, MsgType, u8)) -> Shape {
+    let (at, len, kind, band) = given;
+    Shape {
+        at,
+        len,
+        kind,
+        band,
+    }
 }
 
 // Writes bytes over the front of others, as far as both reach.
@@ -125,6 +138,14 @@ impl Bench {
             }
             InPlace::Shape(place, at, len, answer) => {
                 (self.blocks.shape(token, place, at, len), answer)
+            }
+            InPlace::ShapeAll(shapes, answer) => {
+                let mut array = [shape((0, 0, MsgType::MData, 0)); 4];
+                for place in 0..shapes.len() {
+                    array[place] = shape(shapes[place]);
+                }
+                let given = self.blocks.shape_all(token, &array[..shapes.len()]);
+                (given, answer)
             }
             InPlace::Reserve(place, count, answer) => {
                 (self.blocks.reserve(token, place, count), answer)
