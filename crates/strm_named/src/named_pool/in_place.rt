@@ -1,5 +1,5 @@
 //! Bytes of named messages in place. Each call first refuses a name that is not valid as `Invalid`.
-ghost use Rattle.std.specs.Prelude.{◌≡◌, ◌-◌, [], ◌++◌, IfErr, IfOk, drop, length, min, take};
+ghost use Rattle.std.specs.Prelude.{◌≡◌, ◌-◌, [], ◌++◌, IfErr, IfOk, drop, length, map, min, take};
 ghost use Rattle.std.specs.Fn.{FnOnceReturnsAtMut, FnOnceTakesAtMut};
 ghost use Rattle.strm_mblk.specs.Arena.{message_at};
 ghost use Rattle.strm_mblk.specs.InPlace as in_place;
@@ -10,7 +10,7 @@ use super::NamedPool;
 use crate::fault::Fault;
 use crate::name::Name;
 use crate::tokens::{answered, lent};
-use strm_pool::{BlockInfo, BlockPlace};
+use strm_pool::{BlockInfo, BlockPlace, Shaped};
 
 impl NamedPool {
     /// Lends the bytes of a message's block `place`, counted from 0. Refused as `Invalid`, then `NoSuchBlock`. As
@@ -158,6 +158,19 @@ impl NamedPool {
         }
         let token = lent(&self.pool, &self.places, name);
         answered(self.pool.shape(token, place, at, len))
+    }
+
+    /// Gives the first blocks of a message these shapes, to all or none. Refused as `Invalid`, `NoSuchBlock`, then as the first
+    /// shape that does not fit: `NoRoom`, then `Shared`. As [`Blocks::shape_all`] of strm_mblk.
+    pub fn shape_all<S: Shaped>(&mut self, name: Name, shapes: &[S]) -> Result<(), Fault>
+        ensures { Does no_message (on_name self.old name (on_arena self.old.pool
+            (in_place.shape_all name.head (map S.shape shapes.now) self.old.pool.arena))) [] self.old self.new result }
+    {
+        if !self.has(name) {
+            return Err(Fault::Invalid);
+        }
+        let token = lent(&self.pool, &self.places, name);
+        answered(self.pool.shape_all(token, shapes))
     }
 
     /// Puts bytes before those of a message's first block. Refused as `Invalid`, `Shared`, then `NoRoom`. As

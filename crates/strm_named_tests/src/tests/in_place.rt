@@ -2,7 +2,7 @@ use super::spent::assert_invalid;
 use super::{assert_freed, assert_is, message, name, opened};
 use std::process::Abort;
 use strm_named::{Fault, Name, NamedPool};
-use strm_pool::Refusal;
+use strm_pool::{MsgType, Refusal, Shape};
 
 // Sets each byte that `edit` lends to this one, and asserts what the call returns.
 fn assert_set(
@@ -43,6 +43,25 @@ fn lends_bytes_to_change(rt: HostRuntime) {
     assert_freed(&rt, &mut pool, first, Ok(()));
     assert_set(&rt, &mut pool, (first, 0), b'x', Err(Fault::Invalid));
     assert_filled(&rt, &mut pool, first, 0, Err(Fault::Invalid));
+}
+
+// The places, type and band of a block, as of the whole message.
+#[test]
+fn shapes_blocks(rt: HostRuntime) {
+    let mut pool = opened(&rt, rt.alloc(), 1);
+    let first = message(&rt, &mut pool, b"abc");
+    let shape = Shape {
+        at: 1,
+        len: 2,
+        kind: MsgType::MProto,
+        band: 3,
+    };
+    let missing = Err(Fault::Refused(Refusal::NoSuchBlock));
+    assert_is(&rt, pool.shape_all(first, &[shape, shape]), missing);
+    assert_is(&rt, pool.shape_all(first, &[shape]), Ok(()));
+    assert_is(&rt, pool.bytes(first, 0), Ok(&b"bc"[..]));
+    assert_freed(&rt, &mut pool, first, Ok(()));
+    assert_is(&rt, pool.shape_all(first, &[shape]), Err(Fault::Invalid));
 }
 
 // Names that were lost are found again by the heads of their messages.

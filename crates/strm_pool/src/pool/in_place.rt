@@ -1,5 +1,5 @@
 //! Bytes of held messages in place: each makes the call of strm_mblk with its name.
-ghost use Rattle.std.specs.Prelude.{◌≡◌, ◌-◌, ◌++◌, IfOk, IsTrue, drop, length, min, take};
+ghost use Rattle.std.specs.Prelude.{◌≡◌, ◌-◌, ◌++◌, IfOk, IsTrue, drop, length, map, min, take};
 ghost use Rattle.std.specs.Fn.{FnOnceReturnsAtMut, FnOnceTakesAtMut};
 ghost use Rattle.strm_mblk.specs.Arena.{has, message_at};
 ghost use Rattle.strm_mblk.specs.Calls.{Alters, Lends};
@@ -9,7 +9,7 @@ ghost use Rattle.strm_pool.specs.PoolValue.{arena, on_arena};
 
 use super::Pool;
 use strm_data::Refusal;
-use strm_mblk::{BlockInfo, BlockPlace, Token};
+use strm_mblk::{BlockInfo, BlockPlace, Shaped, Token};
 
 impl Pool {
     /// Lends the bytes of a message's block `place`, counted from 0. Refused as `NoSuchBlock`. As [`Blocks::bytes`] of
@@ -127,6 +127,16 @@ impl Pool {
             (in_place.shape token.now.head place at len self.old.arena)) self.old self.new result }
     {
         self.blocks.shape(token, place, at, len)
+    }
+
+    /// Gives the first blocks of a message these shapes, to all or none. Refused as `NoSuchBlock`, then as the first shape that
+    /// does not fit: `NoRoom`, then `Shared`. As [`Blocks::shape_all`] of strm_mblk.
+    pub fn shape_all<S: Shaped>(&mut self, token: &Token, shapes: &[S]) -> Result<(), Refusal>
+        requires { IsTrue (has self.old.arena token.now) }
+        ensures { Alters arena token.now token.now (on_arena self.old
+            (in_place.shape_all token.now.head (map S.shape shapes.now) self.old.arena)) self.old self.new result }
+    {
+        self.blocks.shape_all(token, shapes)
     }
 
     /// Puts bytes before those of a message's first block. Refused as `Shared`, then `NoRoom`. As [`Blocks::prepend`] of
