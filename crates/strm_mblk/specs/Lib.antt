@@ -16,3 +16,4 @@ pub mod ChainLayout
 pub mod BlocksLayout
 pub mod Copying
 pub mod Cutting
+pub mod Looks

@@ -17,6 +17,7 @@ mod finding;
 mod freeing;
 mod in_place;
 mod joining;
+mod looking;
 mod overwriting;
 mod pulling;
 mod reading;

@@ -4,5 +4,6 @@ mod Replays
 pub mod Accounts
 pub mod Tokens
 mod Moved
+mod AnyBytes
 mod Applied
 mod Shaped

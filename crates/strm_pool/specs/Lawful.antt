@@ -1,8 +1,8 @@
 -- The laws of a pool: what is true of each pool, whatever calls were made.
-use Rattle.std.specs.Prelude.{◌≡◌, ℕ, ◌+◌, ◌^◌, ◌<◌, ◌≤◌, IsTrue, length, reverse, sum_by}
+use Rattle.std.specs.Prelude.{◌≡◌, ℕ, ◌+◌, ◌^◌, ◌<◌, ◌≤◌, IsTrue, List, length, map, reverse, sum_by}
 use Rattle.std.specs.List.{All}
 use Rattle.strm_data.specs.CountedStore.{IsKept}
-use Rattle.strm_data.specs.DataStore.{class_infos}
+use Rattle.strm_data.specs.DataStore.{DataBlock, class_infos}
 use Rattle.strm_data.specs.Limits.{most_classes}
 use Rattle.strm_links.specs.Rows as rows
 use Rattle.strm_mblk.specs.Arena.{IsParted, IsWithin, blocks_in, census_of, counted_in, shelf_at}
@@ -65,3 +65,15 @@ pub record IsLawful (v : PoolValue) : Type 0 where
   pub short : length v.queues.run ≤ length v.queues.specs
   pub once : rows.IsApart v.queues.run
   pub served : All (λ queue. IsTrue (spec_at v.queues.specs queue).service) v.queues.run
+
+-- ---- any bytes
+
+-- Data blocks that differ in their bytes only: each has the class, the type and the number of bytes that it had.
+pub record DifferInBytes (old new : List DataBlock) : Type 0 where
+  pub classes : map (λ b. b.class) new ≡ map (λ b. b.class) old
+  pub kinds : map (λ b. b.kind) new ≡ map (λ b. b.kind) old
+  pub sizes : map (λ b. length b.bytes) new ≡ map (λ b. length b.bytes) old
+
+-- the pool with these data blocks
+abbrev pub with_data_blocks : List DataBlock → PoolValue → PoolValue
+with_data_blocks bs v = record v { arena = record v.arena { store = record v.arena.store { blocks = bs } } }

@@ -1,10 +1,10 @@
 //! The pool: what it is made of, its laws, and what it says of tokens, registers and blocks.
-ghost use Rattle.std.specs.Prelude.{◌≡◌, true, IfOk, IsTrue, None, slice_get};
+ghost use Rattle.std.specs.Prelude.{◌≡◌, List, true, IfOk, IsTrue, None, slice_get};
 ghost use Rattle.std.specs.Option.{option_map_or};
-ghost use Rattle.strm_data.specs.DataStore.{class_infos};
+ghost use Rattle.strm_data.specs.DataStore.{DataBlock, class_infos};
 ghost use Rattle.strm_mblk.specs.Arena.{census_of, has, with_least_reset};
 ghost use Rattle.strm_pool.specs.Config.{fault_of};
-ghost use Rattle.strm_pool.specs.Lawful.{IsLawful};
+ghost use Rattle.strm_pool.specs.Lawful.{DifferInBytes, IsLawful, with_data_blocks};
 ghost use Rattle.strm_pool.specs.PoolValue.{Opens, has_queue, opening_pool, owns, with_arena};
 ghost use Rattle.strm_pool.specs.Registers.{CarryId, AreOfHeld, entries_of};
 ghost use Rattle.strm_queue.specs.QueuedBlocks.{Agrees};
@@ -88,6 +88,15 @@ impl Pool {
         self.blocks.lawful();
         self.queues.lawful(&self.blocks);
         self.wishes.lawful();
+    }
+
+    /// Law: whatever bytes a pool's data blocks have, it is lawful. So a program may write bytes where calls lent them. Does
+    /// nothing.
+    pub fn lawful_with_any_bytes(&self)
+        ensures { (blocks : List DataBlock) → DifferInBytes self.now.arena.store.blocks blocks
+            → IsLawful (with_data_blocks blocks self.now) }
+    {
+        self.lawful();
     }
 
     /// Lends the queues, which agree with the message blocks.

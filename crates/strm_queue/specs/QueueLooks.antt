@@ -1,11 +1,12 @@
 -- Looks at queues and at the messages on them, which change nothing.
-use Rattle.std.specs.Prelude.{ℕ, [], ◌∷◌, length, Option, Result, Ok, Err, ok_or, slice_get, if◌then◌else◌}
+use Rattle.std.specs.Prelude.{ℕ, List, [], ◌∷◌, length, Option, Result, Ok, Err, ok_or, slice_get, if◌then◌else◌}
 use Rattle.strm_data.specs.declared.refusal.Refusal.{Refusal}
 use Rattle.strm_data.specs.declared.refusal.Refusal.TheVariants.{NoSuchPlace, NoSuchQueue}
 use Rattle.strm_data.specs.DataStore.{DataStore}
 use Rattle.strm_links.specs.Rows as rows
 use Rattle.strm_mblk.specs.Block.{Message, kind_of, size_of}
 use Rattle.strm_mblk.specs.Given.{and_then, answer_map}
+use Rattle.strm_mblk.specs.Looks.{shelved_bytes}
 use Rattle.strm_mblk.specs.Shelves.{heads_at, shelf_of}
 use Rattle.strm_queue.specs.declared.queue_spec.QueueSpec.{QueueSpec}
 use Rattle.strm_queue.specs.declared.queued_info.QueuedInfo.{QueuedInfo}
@@ -49,3 +50,7 @@ info_of_message s (b ∷ bs) = Ok (record { head = b.number; kind = kind_of s b;
 -- what the message at place k of queue q is like
 abbrev pub queued_at : ℕ → ℕ → QueuedBlocks → Result QueuedInfo Refusal
 queued_at q k v = and_then (info_of_message v.arena.store) (queued_message q k v)
+
+-- the bytes of block k of the queued message with head h
+abbrev pub queued_bytes : ℕ → ℕ → QueuedBlocks → Result (List ℕ) Refusal
+queued_bytes h k v = and_then (λ q. shelved_bytes h k v.arena) (queue_of h v)

@@ -5,6 +5,7 @@ ghost use Rattle.strm_mblk.specs.Arena.{has, message_at};
 ghost use Rattle.strm_mblk.specs.Calls.{Alters, Lends};
 ghost use Rattle.strm_mblk.specs.Given.{answer_map};
 ghost use Rattle.strm_mblk.specs.InPlace as in_place;
+ghost use Rattle.strm_mblk.specs.Looks as looks;
 ghost use Rattle.strm_pool.specs.PoolValue.{arena, on_arena};
 
 use super::Pool;
@@ -28,6 +29,15 @@ impl Pool {
         ensures { result ≡ in_place.place token.now.head place self.now.arena }
     {
         self.blocks.place(token, place)
+    }
+
+    /// Returns the number of a message's block `place`, counted from 0. Refused as `NoSuchBlock`. As [`Blocks::number`] of
+    /// strm_mblk.
+    pub fn number(&self, token: &Token, place: u32) -> Result<u32, Refusal>
+        requires { IsTrue (has self.now.arena token.now) }
+        ensures { result ≡ looks.number token.now.head place self.now.arena }
+    {
+        self.blocks.number(token, place)
     }
 
     /// Writes what `block` returns of a message's blocks, from block `from` on, into `into`, and returns their number. As

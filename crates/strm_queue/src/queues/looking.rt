@@ -158,4 +158,25 @@ impl Queues {
         let head = self.queued_head(blocks, queue, place)?;
         Ok(blocks.read_shelved(head, at, into))
     }
+
+    /// Lends the bytes of block `place` of the message with this head, which is on a queue, from its read place to its write
+    /// place. Places count from 0. Changes nothing.
+    ///
+    /// Refused as `NoSuchPlace` if no message on a queue has this head, then as `NoSuchBlock` if the message has no such
+    /// block. Takes at most `place` steps. In STREAMS, modules do this by hand (`b_rptr`, `b_wptr`).
+    pub fn queued_bytes<'a>(
+        &self,
+        blocks: &'a Blocks,
+        head: BlockNo,
+        place: u32,
+    ) -> Result<&'a [u8], Refusal>
+        requires { Agrees self.now blocks.now }
+        ensures { answer_map (λ lent. lent.now) result
+            ≡ model.queued_bytes head place (queued_blocks self.now blocks.now) }
+    {
+        if !blocks.is_shelved(head) {
+            return Err(Refusal::NoSuchPlace);
+        }
+        blocks.shelved_bytes(head, place)
+    }
 }
