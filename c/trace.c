@@ -365,17 +365,19 @@ static char *add_text(char *at, const char *text)
 
 /* The last name that a line had, and its text. */
 static struct strm_msg shown;
-static char shown_text[40] = "none";
+static char shown_text[32] = "none";
 static size_t shown_length = 4;
 
-static __attribute__((noinline)) void show_msg(struct strm_msg msg)
+static __attribute__((noinline)) char *add_other_msg(char *at, struct strm_msg msg)
 {
-	char *end = add_number(shown_text, msg.head);
+	char *end = add_number(at, msg.head);
 
 	*end++ = '.';
-	end = strm_is_no_msg(msg) ? add_text(shown_text, "none") : add_number(end, msg.stamp);
-	shown_length = (size_t)(end - shown_text);
+	end = strm_is_no_msg(msg) ? add_text(at, "none") : add_number(end, msg.stamp);
 	shown = msg;
+	shown_length = (size_t)(end - at);
+	memcpy(shown_text, at, sizeof shown_text);
+	return end;
 }
 
 static __attribute__((noinline)) char *add_label(char *at, const struct traced *traced, struct strm_msg msg)
@@ -391,10 +393,12 @@ static __attribute__((noinline)) char *add_label(char *at, const struct traced *
 /* A name: the number of the first block, how many names with it there were, and the label. */
 PER_CALL char *add_msg(char *at, const struct traced *traced, struct strm_msg msg)
 {
-	if (msg.stamp != shown.stamp || msg.head != shown.head || msg.pool != shown.pool)
-		show_msg(msg);
-	memcpy(at, shown_text, 32);
-	at += shown_length;
+	if (msg.stamp == shown.stamp && msg.head == shown.head && msg.pool == shown.pool) {
+		memcpy(at, shown_text, sizeof shown_text);
+		at += shown_length;
+	} else {
+		at = add_other_msg(at, msg);
+	}
 	return has_labels ? add_label(at, traced, msg) : at;
 }
 
