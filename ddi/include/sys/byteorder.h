@@ -1,0 +1,1 @@
+#include <arpa/inet.h> /* for testing modules in user space; tested, not proved */

@@ -1,0 +1,1 @@
+#include <sys/ioctl.h> /* for testing modules in user space; tested, not proved */

@@ -1,0 +1,534 @@
+/* For testing modules in user space; tested, not proved. Stream heads: streams are opened, pushed, linked and closed, and the test program sends and
+ * receives through them as user programs do; and what a kernel has beside STREAMS. */
+#include "ddi.h"
+
+#include <errno.h>
+#include <stdarg.h>
+
+/* Ticks that an ioctl waits for its reply. */
+enum { PATIENCE = 1500 };
+
+struct strhead {
+	queue_t q[2];
+	struct strm_ddi_queue own[2];
+	struct streamtab *driver;
+	int error, is_hung_up;
+	uint_t ioctl;			/* the one that waits, or 0 */
+	ushort_t headroom;
+	mblk_t *reply;
+};
+
+#define AT_HEAD() (strm_ddi_at = (struct strm_ddi_place){ "the stream head", 0 })
+
+/* ---- the stream head's procedures */
+
+static void set_options(queue_t *q, const struct stroptions *options)
+{
+	strhead_t *head = q->q_layer->head;
+	if (options->so_flags & SO_HIWAT)
+		strqset(q, QHIWAT, options->so_flags & SO_BAND ? options->so_band : 0, (long)options->so_hiwat);
+	if (options->so_flags & SO_LOWAT)
+		strqset(q, QLOWAT, options->so_flags & SO_BAND ? options->so_band : 0, (long)options->so_lowat);
+	if (options->so_flags & SO_MINPSZ)
+		head->q[1].q_minpsz = options->so_minpsz;
+	if (options->so_flags & SO_MAXPSZ)
+		head->q[1].q_maxpsz = options->so_maxpsz;
+	if (options->so_flags & SO_WROFF)
+		head->headroom = options->so_wroff;
+}
+
+static void flush_head(queue_t *q, mblk_t *mp)
+{
+	int what = *mp->b_rptr;
+	if (what & FLUSHR && what & FLUSHBAND)
+		flushband(q, mp->b_rptr[1], FLUSHALL);
+	else if (what & FLUSHR)
+		flushq(q, FLUSHALL);
+	if (what & FLUSHW) {
+		*mp->b_rptr &= (uchar_t)~FLUSHR;
+		qreply(q, mp);
+	} else {
+		freemsg(mp);
+	}
+}
+
+static int head_rput(queue_t *q, mblk_t *mp)
+{
+	strhead_t *head = q->q_layer->head;
+	switch (mp->b_datap->db_type) {
+	case M_DATA:
+	case M_PROTO:
+	case M_PCPROTO:
+	case M_PASSFP:
+		putq(q, mp);
+		return 0;
+	case M_FLUSH:
+		flush_head(q, mp);
+		return 0;
+	case M_IOCACK:
+	case M_IOCNAK:
+	case M_COPYIN:
+	case M_COPYOUT:
+		if (((struct iocblk *)mp->b_rptr)->ioc_id == head->ioctl && !head->reply) {
+			head->reply = mp;
+			return 0;
+		}
+		break;
+	case M_ERROR:
+		head->error = *mp->b_rptr;
+		break;
+	case M_HANGUP:
+		head->is_hung_up = 1;
+		break;
+	case M_UNHANGUP:
+		head->is_hung_up = 0;
+		break;
+	case M_SETOPTS:
+		set_options(q, (struct stroptions *)mp->b_rptr);
+		break;
+	}
+	freemsg(mp);
+	return 0;
+}
+
+static int head_wput(queue_t *q, mblk_t *mp)
+{
+	putnext(q, mp);
+	return 0;
+}
+
+static struct module_info head_info = { 0, "head", 0, INFPSZ, STRHIGH, STRLOW };
+static struct qinit head_rinit = { .qi_putp = head_rput, .qi_minfo = &head_info }, head_winit = { .qi_putp = head_wput, .qi_minfo = &head_info };
+
+/* ---- opened, pushed and closed */
+
+int str_init(const struct strm_config *config)
+{
+	ddi_catch_faults();
+	if (ddi_open(config) < 0)
+		return EINVAL;
+	ddi_trace_open();
+	return 0;
+}
+
+int str_fini(void)
+{
+	ddi_trace_close();
+	ddi_census();
+	ddi_close();
+	return ddi_misuse_count();
+}
+
+static void set_queue(queue_t *q, struct strm_ddi_queue *own, struct qinit *what, uint_t flag, strhead_t *head, struct streamtab *tab)
+{
+	const struct module_info *info = what->qi_minfo;
+	*q = (queue_t){ .q_qinfo = what, .q_flag = flag, .q_layer = own, .q_minpsz = info->mi_minpsz, .q_maxpsz = info->mi_maxpsz,
+		.q_hiwat = info->mi_hiwat > 0 ? info->mi_hiwat : 1, .q_lowat = info->mi_lowat };
+	if (q->q_lowat >= q->q_hiwat)
+		q->q_lowat = q->q_hiwat - 1;
+	*own = (struct strm_ddi_queue){ .head = head, .tab = tab, .number = -1,
+		.marks = { (uint32_t)q->q_hiwat, (uint32_t)q->q_lowat } };
+}
+
+static void take_out(strhead_t *head, queue_t *q)
+{
+	queue_t *below = q[1].q_next;
+	ddi_trace_close();
+	head->q[1].q_next = below;
+	if (below)
+		OTHERQ(below)->q_next = &head->q[0];
+	for (int side = 0; side < 2; side++)
+		ddi_forget(&q[side]);
+	free(q[0].q_layer);
+	free(q);
+}
+
+/* Puts a pair of queues below the head, and opens it. */
+static int put_in(strhead_t *head, struct streamtab *tab, dev_t device, int flag, int sflag)
+{
+	queue_t *q = malloc(2 * sizeof *q), *below = head->q[1].q_next;
+	struct strm_ddi_queue *own = malloc(2 * sizeof *own);
+	struct frame frame;
+	int error = 0;
+	AT_HEAD();
+	set_queue(&q[0], &own[0], tab->st_rdinit, QREADR, head, tab);
+	set_queue(&q[1], &own[1], tab->st_wrinit, 0, head, tab);
+	q[0].q_next = &head->q[0];
+	q[1].q_next = below;
+	head->q[1].q_next = &q[1];
+	if (below)
+		OTHERQ(below)->q_next = &q[0];
+	ddi_trace_queues(q);
+	ddi_enter(&frame, q, "open");
+	if (tab->st_rdinit->qi_qopen)
+		error = tab->st_rdinit->qi_qopen(q, &device, flag, sflag, NULL);
+	ddi_leave();
+	if (error)
+		take_out(head, q);
+	return error;
+}
+
+int str_open(struct streamtab *driver, dev_t device, int flag, strhead_t **head)
+{
+	strhead_t *new = *head = calloc(1, sizeof **head);
+	int error;
+	new->driver = driver;
+	set_queue(&new->q[0], &new->own[0], &head_rinit, QREADR, new, NULL);
+	set_queue(&new->q[1], &new->own[1], &head_winit, 0, new, NULL);
+	ddi_trace_queues(new->q);
+	if ((error = put_in(new, driver, device, 0, flag)) != 0)
+		free(new);
+	return error;
+}
+
+int str_push(strhead_t *head, struct streamtab *module)
+{
+	return head->is_hung_up ? ENXIO : put_in(head, module, 0, 0, MODOPEN);
+}
+
+static void remove_top(strhead_t *head)
+{
+	queue_t *q = head->q[1].q_next - 1;
+	void *private = q->q_ptr;
+	struct frame frame;
+	str_run();
+	AT_HEAD();
+	ddi_check_left(&q[0]);
+	ddi_check_left(&q[1]);
+	ddi_enter(&frame, q, "close");
+	if (q->q_qinfo->qi_qclose)
+		q->q_qinfo->qi_qclose(q, 0, NULL);
+	ddi_leave();
+	ddi_check_pending(q, private);
+	take_out(head, q);
+}
+
+int str_pop(strhead_t *head)
+{
+	if (!head->q[1].q_next->q_next)
+		return EINVAL;
+	remove_top(head);
+	return 0;
+}
+
+int str_close(strhead_t *head)
+{
+	while (head->q[1].q_next)
+		remove_top(head);
+	ddi_forget(&head->q[0]);
+	ddi_forget(&head->q[1]);
+	free(head);
+	return 0;
+}
+
+queue_t *str_queue(strhead_t *head, int place)
+{
+	queue_t *q = &head->q[1];
+	while (place-- > 0 && q)
+		q = q->q_next;
+	return q ? RD(q) : NULL;
+}
+
+/* ---- messages of the test program */
+
+/* A message of the bytes, in blocks as large as there are. */
+static mblk_t *message(int type, const void *bytes, size_t length, size_t headroom)
+{
+	mblk_t *first = NULL, **last = &first;
+	do {
+		size_t part = length < STRM_MOST_DATA_BYTES - headroom ? length : STRM_MOST_DATA_BYTES - headroom;
+		if ((*last = allocb(part + headroom, BPRI_MED)) == NULL) {
+			freemsg(first);
+			return NULL;
+		}
+		(*last)->b_datap->db_type = (uchar_t)type;
+		(*last)->b_rptr += headroom;
+		if (part > 0)
+			memcpy((*last)->b_rptr, bytes, part);
+		(*last)->b_wptr = (*last)->b_rptr + part;
+		last = &(*last)->b_cont;
+		bytes = (const char *)bytes + part;
+		length -= part;
+		headroom = 0;
+	} while (length > 0);
+	return first;
+}
+
+/* Copies bytes of a message, and returns their number. */
+static size_t copy_out(const mblk_t *mp, void *into, size_t room)
+{
+	size_t count = 0;
+	for (; mp; mp = mp->b_cont) {
+		size_t part = (size_t)MBLKL(mp) < room - count ? (size_t)MBLKL(mp) : room - count;
+		if (part > 0)
+			memcpy((char *)into + count, mp->b_rptr, part);
+		count += part;
+	}
+	return count;
+}
+
+static int may_send(strhead_t *head, uchar_t band)
+{
+	AT_HEAD();
+	if (head->error || head->is_hung_up)
+		return head->error ? head->error : ENXIO;
+	if (bcanputnext(&head->q[1], band))
+		return 0;
+	str_run();
+	AT_HEAD();
+	return bcanputnext(&head->q[1], band) ? 0 : EAGAIN;
+}
+
+int str_write(strhead_t *head, const void *bytes, size_t length)
+{
+	const queue_t *below = head->q[1].q_next;
+	size_t most = below->q_maxpsz == INFPSZ ? length : (size_t)below->q_maxpsz;
+	int error = 0;
+	mblk_t *mp;
+	if ((ssize_t)length < below->q_minpsz || (length > most && (below->q_minpsz > 0 || most == 0)))
+		return ERANGE;
+	do {
+		size_t part = length < most ? length : most;
+		if ((error = may_send(head, 0)) != 0)
+			return error;
+		if ((mp = message(M_DATA, bytes, part, head->headroom)) == NULL)
+			return ENOSR;
+		putnext(&head->q[1], mp);
+		bytes = (const char *)bytes + part;
+		length -= part;
+	} while (length > 0);
+	return 0;
+}
+
+int str_putmsg(strhead_t *head, const void *control, size_t control_length, const void *bytes, size_t length, int type, int band)
+{
+	int error = type >= QPCTL ? 0 : may_send(head, (uchar_t)band);
+	mblk_t *mp = NULL, *data = NULL;
+	AT_HEAD();
+	if (error)
+		return error;
+	if (bytes && (data = message(M_DATA, bytes, length, control ? 0 : head->headroom)) == NULL)
+		return ENOSR;
+	if ((mp = control ? message(type, control, control_length, 0) : data) == NULL) {
+		freemsg(data);
+		return ENOSR;
+	}
+	if (control && data)
+		linkb(mp, data);
+	mp->b_band = (uchar_t)band;
+	putnext(&head->q[1], mp);
+	return 0;
+}
+
+mblk_t *str_getmsg(strhead_t *head)
+{
+	AT_HEAD();
+	if (!head->q[0].q_first)
+		str_run();
+	return getq(&head->q[0]);
+}
+
+int str_read(strhead_t *head, void *into, size_t length, size_t *count)
+{
+	mblk_t *mp = str_getmsg(head), *rest;
+	size_t left;
+	*count = 0;
+	if (!mp)
+		return head->error ? head->error : head->is_hung_up ? 0 : EAGAIN;
+	if (mp->b_datap->db_type != M_DATA) {
+		putbq(&head->q[0], mp);
+		return EBADMSG;
+	}
+	left = *count = copy_out(mp, into, length);
+	while (mp && left >= (size_t)MBLKL(mp)) {
+		left -= (size_t)MBLKL(mp);
+		rest = mp->b_cont;
+		freeb(mp);
+		mp = rest;
+	}
+	if (mp) {
+		mp->b_rptr += left;
+		putbq(&head->q[0], mp);
+	}
+	return 0;
+}
+
+/* ---- ioctls */
+
+/* Sends an M_IOCTL or M_IOCDATA down. Returns the reply, or null if none comes. */
+static mblk_t *asked(strhead_t *head, mblk_t *mp)
+{
+	mblk_t *reply;
+	putnext(&head->q[1], mp);
+	for (int ticks = 0; !head->reply && ticks <= PATIENCE; ticks++)
+		if (str_run() == 0)
+			str_wait(1);
+	reply = head->reply;
+	head->reply = NULL;
+	AT_HEAD();
+	return reply;
+}
+
+static int begin_ioctl(strhead_t *head, int command, const void *bytes, size_t length, mblk_t **mp)
+{
+	static uint_t last;
+	union { struct iocblk ioctl; struct copyreq request; struct copyresp response; } first;
+	AT_HEAD();
+	memset(&first, 0, sizeof first);
+	first.ioctl.ioc_cmd = command;
+	first.ioctl.ioc_id = head->ioctl = ++last;
+	first.ioctl.ioc_count = length;
+	if ((*mp = message(M_IOCTL, &first, sizeof first, 0)) == NULL)
+		return ENOSR;
+	if (length > 0 && ((*mp)->b_cont = message(M_DATA, bytes, length, 0)) == NULL) {
+		freemsg(*mp);
+		return ENOSR;
+	}
+	return 0;
+}
+
+/* What an M_IOCACK or M_IOCNAK says. */
+static int ended(strhead_t *head, mblk_t *mp, void *bytes, size_t *length, size_t room, int *value)
+{
+	const struct iocblk *ioctl;
+	int error;
+	head->ioctl = 0;
+	if (length)
+		*length = 0;
+	if (!mp)
+		return ETIME;
+	ioctl = (const struct iocblk *)mp->b_rptr;
+	error = ioctl->ioc_error ? ioctl->ioc_error : mp->b_datap->db_type == M_IOCACK ? 0 : EINVAL;
+	if (value)
+		*value = ioctl->ioc_rval;
+	if (!error && length)
+		*length = copy_out(mp->b_cont, bytes, room);
+	freemsg(mp);
+	return error;
+}
+
+int str_ioctl(strhead_t *head, int command, void *bytes, size_t *length, size_t room, int *value)
+{
+	mblk_t *mp;
+	int error = begin_ioctl(head, command, bytes, length ? *length : 0, &mp);
+	return error ? error : ended(head, asked(head, mp), bytes, length, room, value);
+}
+
+int str_ioctl_transparent(strhead_t *head, int command, void *argument, int *value)
+{
+	mblk_t *mp, *data;
+	int error = begin_ioctl(head, command, &argument, sizeof argument, &mp);
+	if (error)
+		return error;
+	((struct iocblk *)mp->b_rptr)->ioc_count = TRANSPARENT;
+	while ((mp = asked(head, mp)) != NULL && (mp->b_datap->db_type == M_COPYIN || mp->b_datap->db_type == M_COPYOUT)) {
+		const struct copyreq request = *(struct copyreq *)mp->b_rptr;
+		struct copyresp response = { .cp_cmd = request.cq_cmd, .cp_id = request.cq_id, .cp_private = request.cq_private };
+		data = mp->b_datap->db_type == M_COPYIN ? message(M_DATA, request.cq_addr, request.cq_size, 0) : NULL;
+		if (mp->b_datap->db_type == M_COPYOUT)
+			copy_out(mp->b_cont, request.cq_addr, request.cq_size);
+		else if (!data)
+			response.cp_rval = (char *)1;
+		freemsg(unlinkb(mp));
+		mp->b_cont = data;
+		mp->b_datap->db_type = M_IOCDATA;
+		memcpy(mp->b_rptr, &response, sizeof response);
+		mp->b_wptr = mp->b_rptr + sizeof response;
+	}
+	return ended(head, mp, NULL, NULL, 0, value);
+}
+
+/* ---- links */
+
+static void set_lower(strhead_t *lower, struct qinit *read, struct qinit *write, struct streamtab *tab)
+{
+	for (int side = 0; side < 2; side++) {
+		ddi_forget(&lower->q[side]);
+		set_queue(&lower->q[side], &lower->own[side], side ? write : read, side ? 0 : QREADR, lower, tab);
+	}
+}
+
+static int change_link(strhead_t *upper, strhead_t *lower, int command)
+{
+	struct linkblk block = { .l_qbot = &lower->q[1], .l_index = 1 };
+	size_t length = sizeof block;
+	for (block.l_qtop = &upper->q[1]; block.l_qtop->q_next; block.l_qtop = block.l_qtop->q_next)
+		;
+	return str_ioctl(upper, command, &block, &length, 0, NULL);
+}
+
+int str_link(strhead_t *upper, strhead_t *lower)
+{
+	queue_t *below = lower->q[1].q_next;
+	int error;
+	if (!upper->driver->st_muxrinit)
+		return EINVAL;
+	set_lower(lower, upper->driver->st_muxrinit, upper->driver->st_muxwinit, upper->driver);
+	lower->q[1].q_next = below;
+	ddi_trace_queues(lower->q);
+	if ((error = change_link(upper, lower, I_LINK)) != 0) {
+		set_lower(lower, &head_rinit, &head_winit, NULL);
+		lower->q[1].q_next = below;
+	}
+	return error;
+}
+
+int str_unlink(strhead_t *upper, strhead_t *lower)
+{
+	queue_t *below = lower->q[1].q_next;
+	int error = change_link(upper, lower, I_UNLINK);
+	if (error)
+		return error;
+	set_lower(lower, &head_rinit, &head_winit, NULL);
+	lower->q[1].q_next = below;
+	return 0;
+}
+
+/* ---- the rest of a kernel */
+
+/* Memory has its size before it. */
+void *kmem_alloc(size_t size, int flag)
+{
+	size_t *memory = calloc(1, size + 16);
+	(void)flag;
+	if (!memory)
+		return NULL;
+	*memory = size;
+	return (char *)memory + 16;
+}
+
+void kmem_free(void *memory, size_t size)
+{
+	if (!memory)
+		return;
+	memory = (char *)memory - 16;
+	if (*(size_t *)memory != size)
+		ddi_misuse("kmem_free", NULL, "%zu bytes are freed, and %zu were allocated", size, *(size_t *)memory);
+	free(memory);
+}
+
+void cmn_err(int level, const char *format, ...)
+{
+	va_list values;
+	va_start(values, format);
+	vfprintf(stderr, format, values);
+	va_end(values);
+	if (level == CE_PANIC)
+		abort();
+	if (level != CE_CONT)
+		fputc('\n', stderr);
+}
+
+void mutex_enter(kmutex_t *mutex)
+{
+	if (mutex->file)
+		ddi_misuse("mutex_enter", NULL, "the mutex is held since %s:%d", mutex->file, mutex->line);
+	*mutex = (kmutex_t){ strm_ddi_at.file ? strm_ddi_at.file : "?", strm_ddi_at.line };
+}
+
+void mutex_exit(kmutex_t *mutex)
+{
+	if (!mutex->file)
+		ddi_misuse("mutex_exit", NULL, "the mutex is not held");
+	mutex->file = NULL;
+}

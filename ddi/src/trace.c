@@ -1,0 +1,295 @@
+/* For testing modules in user space; tested, not proved. Writes what happens to messages as a trace, which strm-record(1) explains. */
+#include "ddi.h"
+
+#include <stdarg.h>
+
+/* A queue's number in a trace is known at the end, as one that a queue leads to has a greater one. Till then the body has its place in `queues`, as
+ * a byte after this one. */
+#define QUEUE_NEXT '\1'
+
+FILE *ddi_traced;
+static queue_t *queues[STRM_MOST_QUEUES];
+static int queue_count, is_over;
+static char said[128];
+
+static void stop(const char *why)
+{
+	fprintf(stderr, "strm_ddi: the trace ends before: %s\n", why);
+	is_over = 1;
+	ddi_trace_close();
+}
+
+void ddi_trace_open(void)
+{
+	queue_count = is_over = 0;
+	said[0] = 0;
+	if (getenv("STRM_DDI_TRACE"))
+		ddi_traced = tmpfile();
+}
+
+/* Gives a pair of queues places. The queues of a stream head that is linked below a driver have theirs. */
+void ddi_trace_queues(queue_t *pair)
+{
+	int is_new = 1;
+	for (int k = 0; k < queue_count; k++)
+		if (queues[k] == pair || queues[k] == pair + 1) {
+			queues[k]->q_layer->told = k;
+			is_new = 0;
+		}
+	for (int side = 0; ddi_traced && is_new && side < 2; side++) {
+		if (queue_count == STRM_MOST_QUEUES) {
+			stop("it has at most 16 queues");
+			return;
+		}
+		pair[side].q_layer->told = queue_count;
+		queues[queue_count++] = &pair[side];
+	}
+}
+
+static struct told as_it_is(const struct block *b)
+{
+	struct told told;
+	memset(&told, 0, sizeof told);
+	told.is_held = b->where == HELD;
+	told.cont = b->m.b_cont;
+	told.read = b->m.b_rptr;
+	told.write = b->m.b_wptr;
+	told.data = b->m.b_datap;
+	told.band = b->m.b_band;
+	told.type = b->m.b_datap->db_type;
+	return told;
+}
+
+/* Whether the bytes of a block, up to its write place, are others than the trace has. */
+static int has_new_bytes(const struct block *b)
+{
+	if (!b->data->told)
+		b->data->told = calloc(1, STRM_MOST_DATA_BYTES);
+	return memcmp(b->data->d.db_base, b->data->told, (size_t)(b->m.b_wptr - b->data->d.db_base)) != 0;
+}
+
+static int is_changed(const struct block *b)
+{
+	struct told told = as_it_is(b);
+	return memcmp(&told, &b->told, sizeof told) != 0 || has_new_bytes(b);
+}
+
+static void tell_bytes(const struct block *b)
+{
+	const uchar_t *base = b->data->d.db_base;
+	uchar_t *told = b->data->told;
+	ptrdiff_t first = 0, last = b->m.b_wptr - base;
+	while (base[first] == told[first])
+		first++;
+	while (base[last - 1] == told[last - 1])
+		last--;
+	fprintf(ddi_traced, "b %u %td ", b->data->number, first);
+	for (ptrdiff_t k = first; k < last; k++)
+		fprintf(ddi_traced, "%02x", base[k]);
+	fputc('\n', ddi_traced);
+	memcpy(told + first, base + first, (size_t)(last - first));
+}
+
+static void tell_block(char mark, struct block *b)
+{
+	const mblk_t *mp = &b->m;
+	struct data *d = b->data;
+	if (!d->is_told)
+		fprintf(ddi_traced, "c %u %u\n", d->number, d->size);
+	d->is_told = 1;
+	if (has_new_bytes(b))
+		tell_bytes(b);
+	fprintf(ddi_traced, "%c %td %td %u %td %td %s %d\n", mark, b - ddi_blocks, mp->b_cont ? (struct block *)mp->b_cont - ddi_blocks : -1, d->number,
+		mp->b_rptr - d->d.db_base, mp->b_wptr - d->d.db_base, ddi_type_name(d->d.db_type), mp->b_band);
+	b->told = as_it_is(b);
+}
+
+/* Reports a change of data that several blocks refer to, which no word of strm makes. */
+static void check_alone(const struct block *b)
+{
+	if (b->data->references > 1 && (has_new_bytes(b) || b->m.b_datap->db_type != b->told.type))
+		ddi_misuse("a pointer", b, "the module changed a data block to which %d message blocks refer", b->data->references);
+}
+
+/* Prints who calls, if it is another caller than before. */
+void ddi_trace_caller(void)
+{
+	const queue_t *q = ddi_frame ? ddi_frame->q : NULL;
+	char label[sizeof said];
+	snprintf(label, 41, "%s%s%s%s%s", q ? ddi_module(q) : "", q ? " " : "", ddi_side(q), q ? " " : "", ddi_frame ? ddi_frame->procedure : "head");
+	if (strcmp(label, said) != 0)
+		fprintf(ddi_traced, "#: caller %s\n", label);
+	strcpy(said, label);
+}
+
+void ddi_trace_begin(void)
+{
+	for (struct block *b = ddi_blocks; b < ddi_blocks + ddi_block_count; b++)
+		if (b->where == HELD && is_changed(b)) {
+			check_alone(b);
+			ddi_trace_caller();
+			tell_block('~', b);
+		}
+}
+
+/* Prints that a block is held no longer. It follows no other block then, whatever a pointer says. */
+static void tell_end(struct block *b)
+{
+	fprintf(ddi_traced, "- %td\n", b - ddi_blocks);
+	b->told.is_held = 0;
+	for (struct block *other = ddi_blocks; other < ddi_blocks + ddi_block_count; other++)
+		if (other->told.cont == &b->m)
+			other->told.cont = NULL;
+}
+
+static void tell_value(char kind, va_list *values)
+{
+	const mblk_t *mp;
+	if (kind == 'f' || kind == 't') {
+		fputc(kind == 'f' ? '<' : '>', ddi_traced);
+		if ((mp = va_arg(*values, mblk_t *)) != NULL)
+			fprintf(ddi_traced, "%td", (const struct block *)mp - ddi_blocks);
+	} else if (kind == 'q') {
+		fprintf(ddi_traced, "%c%c", QUEUE_NEXT, 'a' + va_arg(*values, queue_t *)->q_layer->told);
+	} else if (kind == 'l') {
+		fprintf(ddi_traced, "%ld", va_arg(*values, long));
+	} else if (kind == 'd') {
+		fprintf(ddi_traced, "%d", va_arg(*values, int));
+	} else {
+		fputs(va_arg(*values, const char *), ddi_traced);
+	}
+}
+
+void ddi_trace_end(const char *reply, const char *format, ...)
+{
+	va_list values;
+	ddi_trace_caller();
+	fprintf(ddi_traced, "! %s ", ddi_frame && ddi_frame->q ? ddi_module(ddi_frame->q) : "head");
+	va_start(values, format);
+	for (; *format; format++)
+		if (*format == '%')
+			tell_value(*++format, &values);
+		else if (strcmp(format, "service %q") == 0) {
+			fprintf(ddi_traced, "service | queue %c%c\n", QUEUE_NEXT, 'a' + va_arg(values, queue_t *)->q_layer->told);
+			va_end(values);
+			return;
+		} else {
+			fputc(*format, ddi_traced);
+		}
+	va_end(values);
+	fprintf(ddi_traced, " | %s\n", reply);
+	for (struct block *b = ddi_blocks; b < ddi_blocks + ddi_block_count; b++)
+		if (b->told.is_held && b->where != HELD)
+			tell_end(b);
+	for (struct block *b = ddi_blocks; b < ddi_blocks + ddi_block_count; b++)
+		if (b->where == HELD && is_changed(b))
+			tell_block('=', b);
+}
+
+/* ---- the header and the report */
+
+/* Numbers the queues: each after those that lead to it. */
+static void number_queues(int numbers[STRM_MOST_QUEUES], queue_t *in_order[STRM_MOST_QUEUES])
+{
+	int is_placed[STRM_MOST_QUEUES] = { 0 }, count = 0;
+	while (count < queue_count)
+		for (int k = 0; k < queue_count; k++) {
+			int is_led_to = is_placed[k];
+			for (int other = 0; other < queue_count; other++)
+				is_led_to |= !is_placed[other] && queues[other]->q_next == queues[k];
+			if (!is_led_to) {
+				is_placed[k] = 1;
+				in_order[count] = queues[k];
+				numbers[k] = count++;
+			}
+		}
+}
+
+static void write_header(FILE *out, queue_t *in_order[], const int numbers[])
+{
+	struct strm_class_info info;
+	struct strm_census census;
+	strm_census(&ddi_pools[0].pool, &census);
+	fprintf(out, "h pool 1 %u\n", census.free + census.queued + census.held);
+	for (uint32_t c = 0; strm_class_info(&ddi_pools[0].pool, c, &info) == STRM_OK; c++)
+		fprintf(out, "h class %u %u\n", info.size, info.total);
+	for (int k = 0; k < queue_count; k++) {
+		const queue_t *q = in_order[k];
+		fprintf(out, "h queue %u %u %c ", q->q_layer->marks.hiwat, q->q_layer->marks.lowat, q->q_qinfo->qi_srvp ? 's' : 'n');
+		if (q->q_next)
+			fprintf(out, "%d\n", numbers[q->q_next->q_layer->told]);
+		else
+			fputs("-\n", out);
+	}
+	fputs("h bufcalls 64 1\n", out);
+	for (int k = 0; k < queue_count; k++)
+		fprintf(out, "#: queue %d %s %s\n", k, ddi_module(in_order[k]), ddi_side(in_order[k]));
+}
+
+static void write_queue(FILE *out, int number, const queue_t *q)
+{
+	struct strm_queue_info info = { .read = 1 };
+	struct strm_band_info band;
+	const struct strm_pool *pool = &ddi_pools[q->q_layer->pool].pool;
+	uint32_t own = (uint32_t)q->q_layer->number;
+	if (q->q_layer->number >= 0)
+		strm_queue_info(pool, own, &info);
+	fprintf(out, "r queue %d msgs=%u bytes=%u read=%u noenable=%u enabled=%u\n", number, info.msgs, info.bytes, info.read,
+		q->q_qinfo->qi_srvp ? info.noenable : 0, q->q_qinfo->qi_srvp ? info.enabled : 0);
+	for (uint32_t b = STRM_BANDS; info.msgs > 0 && b-- > 0;)
+		if (strm_band_info(pool, own, b, &band) == STRM_OK && band.bytes > 0)
+			fprintf(out, "r band %u bytes=%u full=%u wanted=%u\n", b, band.bytes, band.full, band.wanted);
+}
+
+static void write_report(FILE *out, queue_t *in_order[], const int numbers[])
+{
+	struct strm_class_info info;
+	struct strm_census census;
+	struct strm_wish wish;
+	uint32_t at, number;
+	int count = 0;
+	strm_census(&ddi_pools[0].pool, &census);
+	fprintf(out, "r blocks free=%u queued=%u held=%u total=%u\n", census.free, census.queued, census.held, census.free + census.queued + census.held);
+	for (uint32_t c = 0; strm_class_info(&ddi_pools[0].pool, c, &info) == STRM_OK; c++)
+		fprintf(out, "r data size=%u free=%u total=%u\n", info.size, info.free, info.total);
+	for (int k = 0; k < queue_count; k++)
+		write_queue(out, k, in_order[k]);
+	fputs("r run", out);
+	for (at = 0; strm_run_at(&ddi_pools[0].pool, at, &number) == STRM_OK; at++) {
+		const queue_t *q = ddi_pools[0].queue_at[number];
+		if (q && q->q_qinfo->qi_srvp && count++ >= 0)
+			fprintf(out, " %d", numbers[q->q_layer->told]);
+	}
+	fputs(count > 0 ? "\nr wishes" : " -\nr wishes", out);
+	for (at = 0; strm_wish_at(&ddi_pools[0].pool, at, &wish) == STRM_OK; at++)
+		fprintf(out, " %u:%u", wish.id, wish.size);
+	fputs(at > 0 ? "\n" : " -\n", out);
+}
+
+void ddi_trace_close(void)
+{
+	int numbers[STRM_MOST_QUEUES], c;
+	queue_t *in_order[STRM_MOST_QUEUES];
+	FILE *body = ddi_traced, *out = body ? fopen(getenv("STRM_DDI_TRACE"), "w") : NULL;
+	if (out) {
+		ddi_trace_begin();
+		number_queues(numbers, in_order);
+		write_header(out, in_order, numbers);
+		rewind(body);
+		while ((c = getc(body)) != EOF)
+			if (c == QUEUE_NEXT)
+				fprintf(out, "%d", numbers[getc(body) - 'a']);
+			else
+				putc(c, out);
+		write_report(out, in_order, numbers);
+		fclose(out);
+	}
+	if (body)
+		fclose(body);
+	ddi_traced = NULL;
+	for (int pool = 0; pool < ddi_pool_count; pool++)
+		for (struct data *d = ddi_pools[pool].data; d && body && d < ddi_pools[pool].data + ddi_pools[pool].data_count; d++) {
+			free(d->told);
+			d->told = NULL;
+		}
+}

@@ -1,0 +1,94 @@
+/*
+ * For testing modules in user space; tested, not proved. strm_ddi.h: streams in one process of one
+ * thread, for the program that tests STREAMS modules and drivers as they are. It runs on Linux. The
+ * messages and queues are those of pools of strm.h.
+ *
+ *     str_init(NULL);
+ *     str_open(&driverinfo, 0, 0, &head);
+ *     str_push(head, &moduleinfo);
+ *     str_write(head, "lion", 4);
+ *     str_read(head, bytes, sizeof bytes, &count);
+ *     str_close(head);
+ *     return str_fini();
+ *
+ * Calls return 0 or a number of errno, unless they say else. None waits: time passes by str_wait
+ * alone, in ticks of 10 ms, and is otherwise as long as a call of the clock needs.
+ *
+ *
+ * Misuse
+ *
+ * Misuse by a module is reported on standard error, with the file and the line of the call and the
+ * last calls that were made with the message. Then the program ends by abort. With STRM_DDI=report
+ * in the environment it goes on without what the call would do.
+ *
+ * With STRM_DDI_TRACE=FILE, FILE gets a trace for strm-record, of at most 16 queues, up to the
+ * first str_pop or str_close.
+ */
+#ifndef STRM_DDI_H
+#define STRM_DDI_H
+
+#include <strm.h>
+#include <sys/stream.h>
+
+typedef struct strhead strhead_t;
+
+/* ---- streams in one process: strm_ddi(3) */
+
+/*
+ * Opens the first pool, with the message blocks, the classes and the wishes of `config`, or for null
+ * with 2,048 blocks. More pools like it are opened for each 16 queues.
+ */
+int str_init(const struct strm_config *config);
+
+/* Closes all pools. Returns how many kinds of misuse were reported, messages that are left included. */
+int str_fini(void);
+
+/* Says how often the procedures of a module may run inside one another: D_MP as they like, D_MTPERMOD
+ * one in the module, D_MTQPAIR one at a pair of queues. Without this call, as they like. */
+void str_flag(struct streamtab *module, int flag);
+
+/* Opens a driver as `device`, and stores its stream. */
+int str_open(struct streamtab *driver, dev_t device, int flag, strhead_t **head);
+
+/* Opens a module below the stream head. */
+int str_push(strhead_t *head, struct streamtab *module);
+
+/* Runs what can run, then closes the module below the stream head. Returns EINVAL if there is none. */
+int str_pop(strhead_t *head);
+
+/* Closes all modules and the driver of a stream, each as str_pop does. */
+int str_close(strhead_t *head);
+
+/* Sends bytes down, in messages of the size that the module below takes. EAGAIN if flow control holds them. */
+int str_write(strhead_t *head, const void *bytes, size_t length);
+
+/* Reads bytes of the first message, and leaves the rest. EAGAIN if there is none, EBADMSG if it is not M_DATA. */
+int str_read(strhead_t *head, void *into, size_t length, size_t *count);
+
+/* Sends a message down: of `type` with bytes of `control`, if that is not null, and an M_DATA block. */
+int str_putmsg(strhead_t *head, const void *control, size_t control_length, const void *bytes, size_t length, int type, int band);
+
+/* Returns the first message, or null. The caller frees it. */
+mblk_t *str_getmsg(strhead_t *head);
+
+/* Sends an ioctl as I_STR does, with *length bytes; its reply has up to `room` bytes. ETIME if none comes in 15 s. */
+int str_ioctl(strhead_t *head, int command, void *bytes, size_t *length, size_t room, int *value);
+
+/* Sends a transparent ioctl, whose M_COPYIN and M_COPYOUT are answered from memory. */
+int str_ioctl_transparent(strhead_t *head, int command, void *argument, int *value);
+
+/* Links a stream below a multiplexing driver, whose stream is `upper`; and unlinks it. */
+int str_link(strhead_t *upper, strhead_t *lower);
+int str_unlink(strhead_t *upper, strhead_t *lower);
+
+/* Runs service procedures of enabled queues, functions of wishes that can be met, and timeouts that
+ * are due. Returns how many ran. */
+int str_run(void);
+
+/* Has time pass: runs what can run, and so the timeouts of the next ticks. Returns how many ran. */
+int str_wait(clock_t ticks);
+
+/* Returns the read queue of a stream head, and the queue of the module or driver `place` below it. */
+queue_t *str_queue(strhead_t *head, int place);
+
+#endif

@@ -1,0 +1,246 @@
+/* Tested, not proved: runs the modules of modules.c over ddi, and checks what comes of each routine. */
+#include "modules.h"
+
+#include <strm_ddi.h>
+
+#include <errno.h>
+#include <stdio.h>
+#include <string.h>
+
+static int passed, failed;
+
+#define CHECK(what) ((what) ? (void)passed++ : (void)(failed++, printf("%s:%d: not %s\n", __FILE__, __LINE__, #what)))
+
+static unsigned char frame[8192], back[8192];
+
+static int comes_back(strhead_t *head, size_t size)
+{
+	size_t count;
+
+	return str_write(head, frame, size) == 0 && str_read(head, back, sizeof back, &count) == 0 && count == size && memcmp(frame, back, size) == 0;
+}
+
+static int value_of(strhead_t *head, int command)
+{
+	int value = -1;
+
+	return str_ioctl(head, command, NULL, NULL, 0, &value) == 0 ? value : -1;
+}
+
+/* Reads a message as text. */
+static const char *text_of(strhead_t *head)
+{
+	size_t count;
+
+	if (str_read(head, back, sizeof back - 1, &count) != 0)
+		return "none";
+	back[count] = 0;
+	return (const char *)back;
+}
+
+static void send_band(strhead_t *head, const char *text, int band)
+{
+	CHECK(str_putmsg(head, NULL, 0, text, strlen(text), 0, band) == 0);
+}
+
+static void test_messages(void)
+{
+	uchar_t own[2000];
+	frtn_t none = { 0 };
+	mblk_t *mp, *copy, *rest;
+
+	(void)none;
+	CHECK(str_init(NULL) == 0);
+	CHECK(allocb(4097, BPRI_MED) == NULL);
+	CHECK(esballoc(own, 5000, BPRI_MED, NULL) == NULL);
+	CHECK(testb(4096, BPRI_MED) && !testb(4097, BPRI_MED));
+	mp = allocb(10, BPRI_MED);
+	memcpy(mp->b_wptr, "0123456789", 10);
+	mp->b_wptr += 10;
+	CHECK(msgdsize(mp) == 10 && mp->b_datap->db_ref == 1);
+	copy = dupmsg(mp);
+	CHECK(mp->b_datap->db_ref == 2 && copy->b_datap == mp->b_datap);
+	linkb(mp, copy);
+	CHECK(msgdsize(mp) == 20 && adjmsg(mp, -12) && adjmsg(mp, 1) && msgdsize(mp) == 7 && !adjmsg(mp, 8) && !adjmsg(mp, -8));
+	rest = copymsg(mp);
+	CHECK(rest && rest->b_datap != mp->b_datap && msgdsize(rest) == 7 && memcmp(rest->b_rptr, "1234567", 7) == 0);
+	freemsg(rest);
+	rest = msgpullup(mp, -1);
+	CHECK(rest && MBLKL(rest) == 7);
+	freemsg(rest);
+	CHECK(unlinkb(mp) == copy && unlinkb(mp) == NULL);
+	mp->b_datap->db_base[4] = 'x';
+	CHECK(copy->b_datap->db_base[4] == 'x');
+	CHECK(rmvb(mp, copy) == (mblk_t *)-1);
+	linkb(copy, mp);
+	CHECK(rmvb(copy, copy) == mp);
+	linkb(copy, mp);
+	CHECK(rmvb(copy, mp) == copy);
+	copy->b_wptr = copy->b_rptr + 3;
+	linkb(mp, copy);
+	CHECK(pullupmsg(mp, 9) && MBLKL(mp) == 9 && MBLKL(copy) == 1 && memcmp(mp->b_rptr, "123x56701", 9) == 0 && *copy->b_rptr == '2');
+	CHECK(pullupmsg(mp, -1) && !mp->b_cont && MBLKL(mp) == 10 && !pullupmsg(mp, 11));
+	freemsg(mp);
+	mp = esballoc(own, sizeof own, BPRI_MED, NULL);
+	memset(mp->b_wptr, 'a', sizeof own);
+	mp->b_wptr += sizeof own;
+	copy = copyb(mp);
+	CHECK(copy && MBLKL(copy) == sizeof own && memcmp(copy->b_rptr, own, sizeof own) == 0 && mp->b_rptr == own);
+	freeb(copy);
+	freeb(mp);
+	CHECK(str_fini() == 0);
+}
+
+static void test_order(void)
+{
+	strhead_t *head;
+	mblk_t *mp;
+	size_t count;
+
+	CHECK(str_init(NULL) == 0);
+	CHECK(str_open(&echoinfo, 0, 0, &head) == 0 && str_push(head, &mixerinfo) == 0);
+	CHECK(value_of(head, HOLD) == 0);
+	send_band(head, "zero", 0);
+	send_band(head, "one", 1);
+	send_band(head, "two", 2);
+	send_band(head, "one more", 1);
+	CHECK(value_of(head, RELEASE) == 4);
+	CHECK(strcmp(text_of(head), "two") == 0 && strcmp(text_of(head), "one") == 0 && strcmp(text_of(head), "one more") == 0);
+	CHECK(strcmp(text_of(head), "zero") == 0 && strcmp(text_of(head), "none") == 0);
+	CHECK(value_of(head, HOLD) == 0);
+	send_band(head, "zero", 0);
+	send_band(head, "one", 1);
+	send_band(head, "two", 2);
+	mp = str_queue(head, 1)[1].q_first;
+	CHECK(mp && mp->b_band == 2 && mp->b_next->b_band == 1 && mp->b_next->b_next->b_band == 0 && !mp->b_next->b_next->b_next && !mp->b_prev);
+	CHECK(str_queue(head, 1)[1].q_last == mp->b_next->b_next && str_queue(head, 1)[1].q_count == 4);
+	CHECK(value_of(head, SWAP) == 3 && value_of(head, DROP_BAND) == 2);
+	CHECK(value_of(head, RELEASE) == 2 && strcmp(text_of(head), "zero") == 0 && strcmp(text_of(head), "two") == 0);
+	CHECK(value_of(head, LEND) == 0 && mixer_freed == 0 && strcmp(text_of(head), "lent bytes") == 0 && mixer_freed == 1);
+	CHECK(value_of(head, TICK) == 0 && str_run() == 0 && mixer_ticks == 0);
+	CHECK(str_wait(4) == 0 && str_wait(1) == 2 && mixer_ticks == 1);
+	CHECK(value_of(head, AWAIT) == 0);
+	str_run();
+	CHECK(mixer_ticks == 2);
+	CHECK(str_ioctl(head, 'x' << 8, NULL, NULL, 0, NULL) == EINVAL);
+	CHECK(str_read(head, back, sizeof back, &count) == EAGAIN);
+	CHECK(str_pop(head) == 0 && str_pop(head) == EINVAL && str_close(head) == 0 && str_fini() == 0);
+}
+
+static void test_flow(void)
+{
+	strhead_t *head;
+	int sent, came, way;
+	size_t count;
+	mblk_t *mp;
+
+	CHECK(str_init(NULL) == 0);
+	CHECK(str_open(&echoinfo, 0, 0, &head) == 0);
+	for (way = 0; way < 3; way++) {
+		if (way > 0)
+			CHECK(str_push(head, way == 1 ? &passinfo : &holdinfo) == 0);
+		CHECK(str_putmsg(head, "p", 1, NULL, 0, M_PCPROTO, 0) == 0);
+		CHECK((mp = str_getmsg(head)) != NULL && queclass(mp) == QPCTL);
+		freemsg(mp);
+		CHECK(comes_back(head, 1) && comes_back(head, 4096) && comes_back(head, 8000));
+		echo_is_stopped = 1;
+		for (sent = 0; str_write(head, frame, 504) == 0 && sent < 100; sent++)
+			;
+		CHECK(sent > 10 && sent < 40);
+		echo_is_stopped = 0;
+		qenable(WR(str_queue(head, way + 1)));
+		str_run();
+		CHECK(qsize(str_queue(head, 0)) > 0 && qsize(WR(str_queue(head, way + 1))) > 0);
+		for (came = 0; str_read(head, back, sizeof back, &count) == 0; came++)
+			CHECK(count == 504);
+		CHECK(came == sent);
+		echo_is_stopped = 1;
+		str_write(head, frame, 504);
+		str_run();
+		CHECK(qsize(WR(str_queue(head, way + 1))) == 1);
+		CHECK(putctl1(str_queue(head, 0)[1].q_next, M_FLUSH, FLUSHRW) && (str_run(), qsize(WR(str_queue(head, way + 1)))) == 0);
+		echo_is_stopped = 0;
+	}
+	CHECK(str_close(head) == 0 && str_fini() == 0);
+}
+
+/* Streams with more queues than a pool has, between which messages pass in both directions and flow control holds. */
+static void test_many_queues(void)
+{
+	strhead_t *head;
+	int sent, came, modules = 40;
+	size_t count;
+
+	CHECK(str_init(NULL) == 0);
+	CHECK(str_open(&echoinfo, 0, 0, &head) == 0);
+	for (int k = 0; k < modules; k++)
+		CHECK(str_push(head, &holdinfo) == 0);
+	for (size_t k = 0; k < sizeof frame; k++)
+		frame[k] = (unsigned char)(k * 7);
+	CHECK(comes_back(head, 1) && comes_back(head, 1500) && comes_back(head, 8192));
+	echo_is_stopped = 1;
+	for (sent = 0; str_write(head, frame, 1500) == 0 && sent < 1000; sent++)
+		;
+	CHECK(sent > modules && sent < 300);
+	echo_is_stopped = 0;
+	qenable(WR(str_queue(head, modules + 1)));
+	for (came = 0; str_read(head, back, sizeof back, &count) == 0; came++)
+		CHECK(count == 1500 && memcmp(frame, back, 1500) == 0);
+	CHECK(came == sent);
+	CHECK(str_close(head) == 0 && str_fini() == 0);
+}
+
+static void send_signal(strhead_t *head)
+{
+	mblk_t *mp = allocb(1, BPRI_MED);
+
+	mp->b_datap->db_type = M_SIG;
+	put(str_queue(head, 1) + 1, mp);
+}
+
+static void test_perimeter(void)
+{
+	strhead_t *head;
+
+	CHECK(str_init(NULL) == 0);
+	CHECK(str_open(&suminfo, 0, 0, &head) == 0 && str_push(head, &holdinfo) == 0 && str_push(head, &holdinfo) == 0);
+	hold_deepest = 0;
+	send_signal(head);
+	CHECK(hold_depth == 0 && hold_deepest == 1);
+	CHECK(str_close(head) == 0 && str_open(&echoinfo, 0, 0, &head) == 0 && str_push(head, &holdinfo) == 0 && str_push(head, &holdinfo) == 0);
+	for (int flag = D_MP; flag <= D_MTPERMOD; flag += D_MTPERMOD - D_MP) {
+		str_flag(&holdinfo, flag);
+		hold_deepest = 0;
+		putctl(str_queue(head, 1) + 1, M_START);
+		CHECK(hold_depth == 0 && hold_deepest == (flag == D_MP ? 2 : 1));
+		str_run();
+	}
+	str_flag(&holdinfo, D_MP);
+	while (str_getmsg(head) != NULL)
+		;
+	CHECK(str_close(head) == 0);
+	str_fini();
+}
+
+static void test_copying(void)
+{
+	strhead_t *head;
+	int pair[2] = { 30, 12 }, value = 0;
+
+	CHECK(str_init(NULL) == 0);
+	CHECK(str_open(&suminfo, 0, 0, &head) == 0);
+	CHECK(str_ioctl_transparent(head, 1, pair, &value) == 0 && value == 42 && pair[0] == 42);
+	CHECK(str_close(head) == 0 && str_fini() == 0);
+}
+
+int main(void)
+{
+	test_messages();
+	test_order();
+	test_flow();
+	test_many_queues();
+	test_perimeter();
+	test_copying();
+	printf("%d passed, %d failed\n", passed, failed);
+	return failed > 0;
+}
