@@ -124,8 +124,8 @@ soak-mt: build/libstrm.a
 
 # Records calls of ppp and lwIP, and executes them (tests/field). It fetches the sources of both from Debian. OPTIONS are those of
 # tests/field_run, as --scripts N. With KEEP=DIR, that folder gets the recordings and their pages.
-field: $(BUILT)
-	@tests/field_run $(if $(KEEP),--keep $(KEEP)) $(OPTIONS) $(BUILT)
+field: $(BUILT) build/libstrm.a
+	@tests/field_run $(if $(KEEP),--keep $(KEEP)) $(OPTIONS) --library build/libstrm.a $(BUILT)
 
 # Tests pages of tools/strm-view in Chromium. It measures how fast a page of 100,000 lines is, and puts pictures of some pages into
 # build/view. It needs no `rt`. If there is no Chromium, it installs one if apt-get may.

@@ -55,6 +55,7 @@ struct pool {
 	size_t data_count;
 	queue_t *queue_at[STRM_MOST_QUEUES];
 };
+extern struct strm_config ddi_config;
 extern struct pool ddi_pools[MOST_POOLS];
 extern int ddi_pool_count;
 extern struct block *ddi_blocks;
@@ -107,6 +108,7 @@ void ddi_check_left(queue_t *q);
 void ddi_enter(struct frame *frame, queue_t *q, const char *procedure);
 void ddi_leave(void);
 void ddi_forget(queue_t *q);
+int ddi_serve(void);
 int ddi_is_full(const queue_t *q, int band);
 
 /* trace.c: as messages change, lines of a trace, between begin and end of a call. In the format %f is a message that the call takes, %t one that

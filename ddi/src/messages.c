@@ -15,7 +15,7 @@ int ddi_pool_count;
 struct block *ddi_blocks;
 size_t ddi_block_count;
 
-static struct strm_config config;
+struct strm_config ddi_config;
 static struct strm_class_spec classes[STRM_MOST_CLASSES];
 static const struct strm_class_spec usual[] = { { 64, 512 }, { 256, 512 }, { 1024, 256 }, { 2048, 256 }, { 4096, 512 } };
 static size_t most_blocks, free_count;
@@ -45,14 +45,14 @@ int ddi_open_pool(void)
 	struct data *d;
 	for (int k = 0; k < STRM_MOST_QUEUES; k++)
 		queues[k] = (struct strm_queue_spec){ .hiwat = 1, .service = 1, .next = STRM_NO_QUEUE };
-	config.id = (uint32_t)ddi_pool_count + 1;
-	config.queues = queues;
-	if (ddi_pool_count == MOST_POOLS || strm_open(&pool->pool, &config) != STRM_OK)
+	ddi_config.id = (uint32_t)ddi_pool_count + 1;
+	ddi_config.queues = queues;
+	if (ddi_pool_count == MOST_POOLS || strm_open(&pool->pool, &ddi_config) != STRM_OK)
 		return -1;
-	for (size_t c = 0; c < config.class_count; c++)
+	for (size_t c = 0; c < ddi_config.class_count; c++)
 		count += classes[c].count;
 	d = pool->data = calloc(pool->data_count = count, sizeof *d);
-	pool->of = calloc(config.mblks, sizeof *pool->of);
+	pool->of = calloc(ddi_config.mblks, sizeof *pool->of);
 	for (uint32_t c = 0; strm_region(&pool->pool, c, &base, &size, &stride) == STRM_OK; c++)
 		for (size_t at = 0; at < size; at += stride, d++)
 			*d = (struct data){ .base = (uchar_t *)(uintptr_t)base + at, .size = (uint32_t)stride, .pool = (uint8_t)ddi_pool_count,
@@ -62,18 +62,18 @@ int ddi_open_pool(void)
 
 int ddi_open(const struct strm_config *given)
 {
-	config = given ? *given : (struct strm_config){ .mblks = 2048, .classes = usual, .class_count = sizeof usual / sizeof *usual,
+	ddi_config = given ? *given : (struct strm_config){ .mblks = 2048, .classes = usual, .class_count = sizeof usual / sizeof *usual,
 		.bufcalls = STRM_MOST_WISHES };
-	config.queue_count = STRM_MOST_QUEUES;
-	config.first_id = 1;
-	if (config.class_count > STRM_MOST_CLASSES)
+	ddi_config.queue_count = STRM_MOST_QUEUES;
+	ddi_config.first_id = 1;
+	if (ddi_config.class_count > STRM_MOST_CLASSES)
 		return -1;
-	memcpy(classes, config.classes, config.class_count * sizeof *classes);
-	config.classes = classes;
+	memcpy(classes, ddi_config.classes, ddi_config.class_count * sizeof *classes);
+	ddi_config.classes = classes;
 	ddi_pool_count = 0;
 	ddi_block_count = free_count = 0;
 	free_first = free_last = NULL;
-	most_blocks = (size_t)config.mblks * MOST_POOLS + QUARANTINE;
+	most_blocks = (size_t)ddi_config.mblks * MOST_POOLS + QUARANTINE;
 	ddi_blocks = calloc(most_blocks, sizeof *ddi_blocks);
 	return ddi_open_pool();
 }
@@ -509,7 +509,7 @@ static int pull(struct block *first, size_t size)
 	size_t at = 0, cut;
 	mblk_t *bp, *next;
 	int code;
-	if (size > sizeof bytes || size > classes[config.class_count - 1].size)
+	if (size > sizeof bytes || size > classes[ddi_config.class_count - 1].size)
 		return STRM_TOO_LARGE;
 	if (!ddi_join(&first->m, first->pool, "pullupmsg"))
 		return STRM_INVALID;

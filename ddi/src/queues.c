@@ -628,19 +628,25 @@ static int call_ready(void)
 	return 0;
 }
 
-/* What is wrong if messages are left after a service procedure, and nothing is to run it again. */
+/* Whether messages are on a queue that has a service procedure, which neither waits to run nor for room at another queue. */
+static int is_asleep(queue_t *q)
+{
+	return q->q_first && q->q_qinfo->qi_srvp && !is_enabled(q) && !(q->q_next && decides(q->q_next)->q_layer->is_asked);
+}
+
+/* Reports a service procedure for which an allocb failed, if nothing is to run it again. */
 static void check_sleep(queue_t *q, const struct strm_ddi_place *failed)
 {
-	if (!failed->file || !q->q_first || is_enabled(q) || ddi_pending_count > 0)
+	if (!failed->file || ddi_pending_count > 0 || !is_asleep(q))
 		return;
 	strm_ddi_at = *failed;
 	ddi_misuse("allocb", (struct block *)q->q_first, "it failed, and the service procedure left messages without a bufcall, a timeout or a qenable");
 }
 
-/* Messages that nothing was to take off a queue which is closed. */
+/* Reports messages that nothing was to take off a queue which is closed. */
 void ddi_check_left(queue_t *q)
 {
-	if (q->q_first && q->q_qinfo->qi_srvp && !is_enabled(q) && !(q->q_next && decides(q->q_next)->q_layer->is_asked))
+	if (is_asleep(q))
 		ddi_misuse("close", (struct block *)q->q_first, "messages are left on the queue of %s %s: nothing was to enable it", ddi_module(q),
 			ddi_side(q));
 }
@@ -659,7 +665,7 @@ static queue_t *next_service(void)
 	return NULL;
 }
 
-static int serve(void)
+int ddi_serve(void)
 {
 	struct frame frame;
 	queue_t *q;
@@ -679,7 +685,7 @@ static int serve(void)
 int str_run(void)
 {
 	int count = 0;
-	while (serve() || call_ready())
+	while (ddi_serve() || call_ready())
 		count++;
 	return count;
 }
@@ -703,7 +709,7 @@ void qwait(queue_t *q)
 	struct frame *inside = ddi_frame;
 	(void)q;
 	ddi_frame = NULL;
-	if (!serve() && !call_ready() && !str_wait(1500))
+	if (!ddi_serve() && !call_ready() && !str_wait(1500))
 		ddi_misuse("qwait", NULL, "nothing came in 15 s");
 	ddi_frame = inside;
 }

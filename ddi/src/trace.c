@@ -111,12 +111,23 @@ static void check_alone(const struct block *b)
 		ddi_misuse("a pointer", b, "the module changed a data block to which %d message blocks refer", b->data->references);
 }
 
+/* The name of a queue's module, with a number if pairs before have it too. */
+static const char *label_of(const queue_t *q)
+{
+	static char label[32];
+	int pair = q->q_layer->told & ~1, same = 1;
+	for (int k = 0; k < pair; k += 2)
+		same += strcmp(ddi_module(queues[k]), ddi_module(q)) == 0;
+	snprintf(label, sizeof label, same > 1 ? "%.20s/%d" : "%.20s", ddi_module(q), same);
+	return label;
+}
+
 /* Prints who calls, if it is another caller than before. */
 void ddi_trace_caller(void)
 {
 	const queue_t *q = ddi_frame ? ddi_frame->q : NULL;
 	char label[sizeof said];
-	snprintf(label, 41, "%s%s%s%s%s", q ? ddi_module(q) : "", q ? " " : "", ddi_side(q), q ? " " : "", ddi_frame ? ddi_frame->procedure : "head");
+	snprintf(label, 41, "%s%s%s%s%s", q ? label_of(q) : "", q ? " " : "", ddi_side(q), q ? " " : "", ddi_frame ? ddi_frame->procedure : "head");
 	if (strcmp(label, said) != 0)
 		fprintf(ddi_traced, "#: caller %s\n", label);
 	strcpy(said, label);
@@ -188,21 +199,19 @@ void ddi_trace_end(const char *reply, const char *format, ...)
 
 /* ---- the header and the report */
 
-/* Numbers the queues: each after those that lead to it. */
+/* Numbers the queues: each stream's from the first one on, to which none leads. */
 static void number_queues(int numbers[STRM_MOST_QUEUES], queue_t *in_order[STRM_MOST_QUEUES])
 {
-	int is_placed[STRM_MOST_QUEUES] = { 0 }, count = 0;
-	while (count < queue_count)
-		for (int k = 0; k < queue_count; k++) {
-			int is_led_to = is_placed[k];
-			for (int other = 0; other < queue_count; other++)
-				is_led_to |= !is_placed[other] && queues[other]->q_next == queues[k];
-			if (!is_led_to) {
-				is_placed[k] = 1;
-				in_order[count] = queues[k];
-				numbers[k] = count++;
-			}
+	int count = 0;
+	for (int k = 0; k < queue_count; k++) {
+		int is_led_to = 0;
+		for (int other = 0; other < queue_count; other++)
+			is_led_to |= queues[other]->q_next == queues[k];
+		for (queue_t *q = is_led_to ? NULL : queues[k]; q; q = q->q_next) {
+			in_order[count] = q;
+			numbers[q->q_layer->told] = count++;
 		}
+	}
 }
 
 static void write_header(FILE *out, queue_t *in_order[], const int numbers[])
@@ -221,9 +230,11 @@ static void write_header(FILE *out, queue_t *in_order[], const int numbers[])
 		else
 			fputs("-\n", out);
 	}
-	fputs("h bufcalls 64 1\n", out);
+	fprintf(out, "h bufcalls %u 1\n", ddi_config.bufcalls);
 	for (int k = 0; k < queue_count; k++)
-		fprintf(out, "#: queue %d %s %s\n", k, ddi_module(in_order[k]), ddi_side(in_order[k]));
+		fprintf(out, "#: queue %d %s %s\n", k, label_of(in_order[k]), ddi_side(in_order[k]));
+	for (int k = 0; k < queue_count; k += 2)
+		fprintf(out, "#: module %s %d %d\n", label_of(queues[k]), numbers[k + 1], numbers[k]);
 }
 
 static void write_queue(FILE *out, int number, const queue_t *q)

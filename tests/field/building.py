@@ -5,15 +5,10 @@ import subprocess
 from typing import NamedTuple
 
 HERE = os.path.dirname(os.path.abspath(__file__))
-STREAMS = os.path.join(HERE, "streams")
+TOP = os.path.dirname(os.path.dirname(HERE))
+DDI = os.path.join(TOP, "ddi")
 PLAYERS = os.path.join(HERE, "players")
 OPTIONS = os.path.join(HERE, "options")
-# Headers of a kernel that ppp's modules include, each of which is one of `streams`.
-KERNEL = {
-    "streams.h": "sys/types sys/param sys/stat sys/stream sys/stropts sys/errno sys/ioccom sys/time sys/cmn_err sys/conf sys/dlpi"
-    " sys/ddi sys/socket sys/sockio sys/kmem sys/byteorder net/if",
-    "inet.h": "netinet/in netinet/in_systm netinet/ip netinet/tcp",
-}
 # Ways of System V Release 4 in which the modules can be built.
 VARIANTS = {
     "ppp": [],
@@ -21,8 +16,8 @@ VARIANTS = {
     "ppp in bands": ["-DD_MP", "-DPRIOQ"],
 }
 MODULES = "ppp ppp_ahdlc ppp_comp vjcompress bsd-comp".split()
-# The modules take no compiler for granted, and no header of this machine; what they call `time` is no function.
-OF_A_KERNEL = "-std=gnu89 -nostdinc -w -DSVR4 -U__GNUC__ -Dtime=kernel_time -DDO_DEFLATE=0".split()
+# The modules take no compiler for granted; what they call `time` is no function.
+OF_A_KERNEL = "-std=gnu89 -w -DSVR4 -U__GNUC__ -Dtime=kernel_time -DDO_DEFLATE=0".split()
 OWN = "-std=gnu11 -Wall -Wextra -Werror".split()
 BUFFERS = "pbuf mem memp def stats".split()
 
@@ -49,27 +44,16 @@ def link(room, name, objects):
     return Player(name, program)
 
 
-def write_kernel(room):
-    """Writes the headers of a kernel into a folder."""
-    for header, names in KERNEL.items():
-        for name in names.split():
-            path = os.path.join(room, f"{name}.h")
-            os.makedirs(os.path.dirname(path), exist_ok=True)
-            with open(path, "w") as file:
-                file.write(f'#include "{header}"\n')
-
-
-def build_ppp(room, source, name, variant):
-    """A player of ppp's modules, built in one of their ways."""
+def build_ppp(room, source, name, variant, archive):
+    """A player of ppp's modules, built in one of their ways, over ddi and the library for C."""
     own = os.path.join(room, name.replace(" ", "-"))
-    kernel = os.path.join(own, "kernel")
-    write_kernel(kernel)
-    include = os.path.join(source.folder, "include")
+    os.mkdir(own)
+    words = [f"-I{DDI}", f"-I{os.path.join(DDI, 'include')}", f"-I{os.path.join(TOP, 'c')}", f"-I{os.path.join(source.folder, 'include')}"]
     modules = [os.path.join(source.folder, "modules", f"{module}.c") for module in MODULES]
-    objects = [compile_one(own, module, [*OF_A_KERNEL, *variant, f"-I{kernel}", f"-I{STREAMS}", f"-I{include}"]) for module in modules]
-    here = glob.glob(os.path.join(STREAMS, "*.c")) + [os.path.join(PLAYERS, f"{part}.c") for part in ("dice", "packets", "line", "ppp")]
-    objects += [compile_one(own, part, [*OWN, *variant, f"-I{STREAMS}", f"-I{include}"]) for part in here]
-    return link(own, name, objects)
+    objects = [compile_one(own, module, [*OF_A_KERNEL, *variant, *words]) for module in modules]
+    here = glob.glob(os.path.join(DDI, "src", "*.c")) + [os.path.join(PLAYERS, f"{part}.c") for part in ("dice", "packets", "line", "looks", "ppp")]
+    objects += [compile_one(own, part, [*OWN, *words]) for part in here]
+    return link(own, name, [*objects, archive])
 
 
 def build_lwip(room, source):
@@ -83,5 +67,5 @@ def build_lwip(room, source):
     return link(own, "lwip", objects)
 
 
-def players(room, ppp, lwip):
-    return [*(build_ppp(room, ppp, name, variant) for name, variant in VARIANTS.items()), build_lwip(room, lwip)]
+def players(room, ppp, lwip, archive):
+    return [*(build_ppp(room, ppp, name, variant, archive) for name, variant in VARIANTS.items()), build_lwip(room, lwip)]

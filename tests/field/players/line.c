@@ -1,28 +1,14 @@
 #include "line.h"
-#include "packets.h"
 
-#include <stdlib.h>
-#include <string.h>
+#include <errno.h>
 
 /* What the modules export, and the clock that they read. */
 extern struct streamtab pppinfo, pcmpinfo, phdlinfo;
 time_t kernel_time;
 
-struct part control_head, control, network_head, network, lower, compressor, framer, terminal;
+strhead_t *control, *network, *line_stream;
 struct line line;
 int is_stopped;
-
-void *kmem_alloc(size_t size, int flag)
-{
-    (void)flag;
-    return malloc(size);
-}
-
-void kmem_free(void *memory, size_t size)
-{
-    (void)size;
-    free(memory);
-}
 
 /* The ends */
 
@@ -81,9 +67,9 @@ static int put_at_terminal(queue_t *q, mblk_t *mp)
 static void send(const mblk_t *mp)
 {
     for (; mp; mp = mp->b_cont)
-        if (mp->b_datap->db_type == M_DATA && line.size + length_of(mp) <= sizeof line.bytes) {
-            memcpy(line.bytes + line.size, mp->b_rptr, length_of(mp));
-            line.size += length_of(mp);
+        if (mp->b_datap->db_type == M_DATA && line.size + (size_t)MBLKL(mp) <= sizeof line.bytes) {
+            memcpy(line.bytes + line.size, mp->b_rptr, (size_t)MBLKL(mp));
+            line.size += (size_t)MBLKL(mp);
         }
 }
 
@@ -98,85 +84,63 @@ static int serve_terminal(queue_t *q)
     return 0;
 }
 
-static struct module_info head_info = {0, "ends", 0, INFPSZ, 1500, 0}, terminal_info = {0, "ends", 0, INFPSZ, 600, 128};
-static struct qinit head_read = {.qi_putp = put_at_head, .qi_minfo = &head_info};
-static struct qinit head_write = {.qi_putp = pass_on, .qi_minfo = &head_info};
+static struct module_info control_info = {0, "head/control", 0, INFPSZ, 1500, 0}, network_info = {0, "head/network", 0, INFPSZ, 1500, 0};
+static struct module_info terminal_info = {0, "terminal", 0, INFPSZ, 600, 128};
+static struct qinit control_read = {.qi_putp = put_at_head, .qi_minfo = &control_info};
+static struct qinit control_write = {.qi_putp = pass_on, .qi_minfo = &control_info};
+static struct qinit network_read = {.qi_putp = put_at_head, .qi_minfo = &network_info};
+static struct qinit network_write = {.qi_putp = pass_on, .qi_minfo = &network_info};
 static struct qinit terminal_read = {.qi_putp = pass_on, .qi_minfo = &terminal_info};
 static struct qinit terminal_write = {.qi_putp = put_at_terminal, .qi_srvp = serve_terminal, .qi_minfo = &terminal_info};
+static struct streamtab terminal = {.st_rdinit = &terminal_read, .st_wrinit = &terminal_write};
 
 /* The streams */
 
-static void make_write_side(struct part *parts[], int count)
+queue_t *read_of(strhead_t *head, int place)
 {
-    for (int k = 0; k < count; k++) {
-        parts[k]->write = new_queue(parts[k]->write_side, 0, parts[k]->name);
-        if (k > 0)
-            parts[k - 1]->write->q_next = parts[k]->write;
-    }
+    return str_queue(head, place);
 }
 
-static void make_read_side(struct part *parts[], int count)
+queue_t *write_of(strhead_t *head, int place)
 {
-    for (int k = count - 1; k >= 0; k--) {
-        parts[k]->read = new_queue(parts[k]->read_side, QREADR, parts[k]->name);
-        parts[k]->read->q_other = parts[k]->write;
-        parts[k]->write->q_other = parts[k]->read;
-        if (k < count - 1)
-            parts[k + 1]->read->q_next = parts[k]->read;
-    }
+    return WR(str_queue(head, place));
 }
 
-static void set_part(struct part *part, const char *name, struct qinit *read_side, struct qinit *write_side)
+/* Has the queues of a stream head do something else. */
+static void set_head(strhead_t *head, struct qinit *read_side, struct qinit *write_side)
 {
-    part->name = name;
-    part->read_side = read_side;
-    part->write_side = write_side;
+    read_of(head, HEAD)->q_qinfo = read_side;
+    write_of(head, HEAD)->q_qinfo = write_side;
 }
 
-/* Makes all queues, each before its next one, so next queues have greater numbers. */
+static void open_upper(strhead_t **head, struct qinit *read_side, struct qinit *write_side)
+{
+    str_open(&pppinfo, 0, CLONEOPEN, head);
+    set_head(*head, read_side, write_side);
+    strqset(read_of(*head, HEAD), QLOWAT, 0, 0);
+    strqset(read_of(*head, HEAD), QHIWAT, 0, 1500);
+}
+
 void make_streams(void)
 {
-    struct part *control_parts[] = {&control_head, &control}, *network_parts[] = {&network_head, &network};
-    struct part *line_parts[] = {&lower, &compressor, &framer, &terminal};
-    set_part(&control_head, "head/control", &head_read, &head_write);
-    set_part(&network_head, "head/network", &head_read, &head_write);
-    set_part(&control, "ppp/control", pppinfo.st_rdinit, pppinfo.st_wrinit);
-    set_part(&network, "ppp/network", pppinfo.st_rdinit, pppinfo.st_wrinit);
-    set_part(&lower, "ppp/line", pppinfo.st_muxrinit, pppinfo.st_muxwinit);
-    set_part(&compressor, "ppp_comp", pcmpinfo.st_rdinit, pcmpinfo.st_wrinit);
-    set_part(&framer, "ppp_ahdlc", phdlinfo.st_rdinit, phdlinfo.st_wrinit);
-    set_part(&terminal, "terminal", &terminal_read, &terminal_write);
-    make_write_side(control_parts, 2);
-    make_write_side(network_parts, 2);
-    make_write_side(line_parts, 4);
-    make_read_side(line_parts, 4);
-    make_read_side(control_parts, 2);
-    make_read_side(network_parts, 2);
+    open_upper(&control, &control_read, &control_write);
+    open_upper(&network, &network_read, &network_write);
+    str_open(&terminal, 0, 0, &line_stream);
+    str_push(line_stream, &phdlinfo);
+    str_push(line_stream, &pcmpinfo);
+    set_head(line_stream, pppinfo.st_muxrinit, pppinfo.st_muxwinit);
 }
 
-void open_part(struct part *part, int flag)
+void close_part(strhead_t *head, int place)
 {
-    dev_t device = 0;
-    struct caller before = enter(part->read, "open");
-    part->read_side->qi_qopen(part->read, &device, 0, flag, NULL);
-    leave(before);
-}
-
-void close_part(struct part *part)
-{
-    struct caller before = enter(part->read, "close");
-    part->read_side->qi_qclose(part->read, 0, NULL);
-    leave(before);
+    queue_t *q = read_of(head, place);
+    struct frame frame;
+    ddi_enter(&frame, q, "close");
+    q->q_qinfo->qi_qclose(q, 0, NULL);
+    ddi_leave();
 }
 
 void serve_next(void)
 {
-    struct caller before = enter(NULL, "scheduler");
-    queue_t *q = next_service();
-    if (q) {
-        enter(q, "service");
-        q->q_qinfo->qi_srvp(q);
-    }
-    leave(before);
+    ddi_serve();
 }
-

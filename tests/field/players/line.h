@@ -1,19 +1,16 @@
-/* The streams around ppp's driver. Above it are a control stream and a stream of the network layer. Below it is a line with ppp_comp,
- * ppp_ahdlc and a terminal. line.c is the two stream heads and the terminal. */
+/* The streams around ppp's driver, over ddi. Above it are a control stream and a stream of the network layer. Below it is a line with ppp_comp,
+ * ppp_ahdlc and a terminal. line.c has what the stream heads and the terminal do; looks.c, calls that change nothing. */
 #ifndef FIELD_LINE_H
 #define FIELD_LINE_H
-#include "field.h"
+#include "../../../ddi/src/ddi.h"
 #include "packets.h"
 
 #define FRAMES 64
 
-/* A module, a driver or an end of a stream, with its two queues. */
-struct part {
-    const char *name;
-    struct qinit *read_side, *write_side;
-    queue_t *read, *write;
-};
-extern struct part control_head, control, network_head, network, lower, compressor, framer, terminal;
+/* The streams: of each, queues are at places below the head. */
+extern strhead_t *control, *network, *line_stream;
+enum { HEAD, DRIVER };
+enum { LOWER, COMPRESSOR, FRAMER, TERMINAL };
 
 /* What was sent over the line and not received yet. */
 extern struct line {
@@ -24,8 +21,15 @@ extern struct line {
 extern int is_stopped;
 
 void make_streams(void);
-void open_part(struct part *part, int flag);
-void close_part(struct part *part);
-/* Takes the next queue off the run list, if there is one, and runs its service procedure. */
+queue_t *read_of(strhead_t *head, int place);
+queue_t *write_of(strhead_t *head, int place);
+/* Closes a module or driver, without taking it out. */
+void close_part(strhead_t *head, int place);
+/* Runs the next service procedure, if there is one. */
 void serve_next(void);
+
+/* looks.c: of a message, or of all queues. `each` calls a function for each queue. */
+void look(mblk_t *mp);
+void look_around(void);
+void each(void (*function)(queue_t *q));
 #endif

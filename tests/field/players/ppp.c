@@ -6,9 +6,7 @@
 #include "line.h"
 #include "packets.h"
 
-#include <stdlib.h>
-#include <string.h>
-
+#include <sys/dlpi.h>
 #include <net/ppp_defs.h>
 #include <net/ppp-comp.h>
 #include <net/pppio.h>
@@ -61,13 +59,13 @@ static mblk_t *headed(int type, const void *head, int size, mblk_t *behind)
     return mp;
 }
 
-static void send_down(struct part *head, mblk_t *mp)
+static void send_down(strhead_t *head, mblk_t *mp)
 {
     if (mp)
-        put_to(head->write, mp);
+        put(write_of(head, HEAD), mp);
 }
 
-static void ioctl(struct part *head, int command, const void *data, int size)
+static void send_ioctl(strhead_t *head, int command, const void *data, int size)
 {
     static uint number;
     struct iocblk block;
@@ -79,21 +77,21 @@ static void ioctl(struct part *head, int command, const void *data, int size)
     send_down(head, headed(M_IOCTL, &block, sizeof block, behind));
 }
 
-static void ioctl_number(struct part *head, int command, int number)
+static void send_number(strhead_t *head, int command, int number)
 {
-    ioctl(head, command, &number, sizeof number);
+    send_ioctl(head, command, &number, sizeof number);
 }
 
-static void ioctl_pair(struct part *head, int command, int one, int other)
+static void send_pair(strhead_t *head, int command, int one, int other)
 {
     int pair[2] = {one, other};
-    ioctl(head, command, pair, sizeof pair);
+    send_ioctl(head, command, pair, sizeof pair);
 }
 
 static void request(int primitive, uint value)
 {
     uint words[4] = {primitive, value, DL_CLDLS, 0};
-    send_down(&network_head, headed(M_PROTO, words, sizeof words, NULL));
+    send_down(network, headed(M_PROTO, words, sizeof words, NULL));
 }
 
 /* Actions */
@@ -101,8 +99,8 @@ static void request(int primitive, uint value)
 static void write_control(void)
 {
     u_char bytes[MOST_PACKET];
-    if (bcanput(control_head.write, 0))
-        send_down(&control_head, message(bytes, draw_control_packet(bytes)));
+    if (bcanput(write_of(control, HEAD), 0))
+        send_down(control, message(bytes, draw_control_packet(bytes)));
 }
 
 static void let_go(int place)
@@ -134,7 +132,7 @@ static void write_network(void)
         mp = headed(M_PROTO, words, sizeof words, mp);
     if (mp && once_in(3))
         keep(mp);
-    send_down(&network_head, mp);
+    send_down(network, mp);
 }
 
 static void write_many(void)
@@ -159,13 +157,13 @@ static void receive(void)
         draw_frame();
     if (size > line.size)
         size = line.size;
-    if (size == 0 || !bcanput(terminal.read->q_next, 0))
+    if (size == 0 || !bcanput(read_of(line_stream, TERMINAL)->q_next, 0))
         return;
     mp = message(line.bytes, size);
     line.size -= size;
     memmove(line.bytes, line.bytes + size, line.size);
     if (mp)
-        putnext(terminal.read, mp);
+        putnext(read_of(line_stream, TERMINAL), mp);
 }
 
 static void serve_some(void)
@@ -175,9 +173,9 @@ static void serve_some(void)
 }
 
 /* Reads a message of a stream, if there is one. */
-static int read_from(struct part *head)
+static int read_from(strhead_t *head)
 {
-    mblk_t *mp = getq(head->read);
+    mblk_t *mp = getq(read_of(head, HEAD));
     if (mp) {
         look(mp);
         freemsg(mp);
@@ -187,51 +185,51 @@ static int read_from(struct part *head)
 
 static void read_control(void)
 {
-    read_from(&control_head);
+    read_from(control);
 }
 
 static void read_network(void)
 {
-    read_from(&network_head);
+    read_from(network);
 }
 
 static void read_all(void)
 {
-    while (read_from(&control_head))
+    while (read_from(control))
         ;
-    while (read_from(&network_head))
+    while (read_from(network))
         ;
 }
 
 static void set_flags(void)
 {
     int bits = COMP_AC | DECOMP_AC | COMP_PROT | DECOMP_PROT | COMP_VJC | DECOMP_VJC;
-    ioctl_pair(&control_head, PPPIO_CFLAGS, once_in(4) ? below(256) & bits : bits, bits);
+    send_pair(control, PPPIO_CFLAGS, once_in(4) ? below(256) & bits : bits, bits);
 }
 
 static void set_maps(void)
 {
     if (once_in(2))
-        ioctl_number(&control_head, PPPIO_XACCM, below(2) * 0x000a0000);
+        send_number(control, PPPIO_XACCM, below(2) * 0x000a0000);
     else
-        ioctl_number(&control_head, PPPIO_RACCM, below(2) * 0x000a0000);
+        send_number(control, PPPIO_RACCM, below(2) * 0x000a0000);
 }
 
 static void set_sizes(void)
 {
     static const int sizes[] = {1500, 1500, 296, 4000, 60000};
-    ioctl_number(&control_head, once_in(2) ? PPPIO_MRU : PPPIO_MTU, sizes[below(5)]);
+    send_number(control, once_in(2) ? PPPIO_MRU : PPPIO_MTU, sizes[below(5)]);
 }
 
 static void ask(void)
 {
     static const int commands[] = {PPPIO_GETSTAT, PPPIO_GETCSTAT, PPPIO_GIDLE, PPPIO_GCLEAN, PPPIO_LASTMOD, PPPIO_BIND};
-    ioctl(once_in(4) ? &network_head : &control_head, commands[below(6)], NULL, 0);
+    send_ioctl(once_in(4) ? network : control, commands[below(6)], NULL, 0);
 }
 
 static void set_mode(void)
 {
-    ioctl_pair(&control_head, PPPIO_NPMODE, PPP_IP, once_in(3) ? below(4) : NPMODE_PASS);
+    send_pair(control, PPPIO_NPMODE, PPP_IP, once_in(3) ? below(4) : NPMODE_PASS);
 }
 
 /* Has both directions allocate memory for compression, and agrees to it as a peer would: the driver sees its own message come back.
@@ -244,21 +242,21 @@ static void begin_compression(void)
         return;
     is_compressing = 1;
     memcpy(agreed + sizeof agreed - sizeof option, option, sizeof option);
-    ioctl(&control_head, PPPIO_XCOMP, option, sizeof option);
-    ioctl(&control_head, PPPIO_RCOMP, option, sizeof option);
-    ioctl_pair(&control_head, PPPIO_CFLAGS, CCP_ISOPEN, CCP_ISOPEN | CCP_ISUP);
-    send_down(&control_head, message(agreed, sizeof agreed));
+    send_ioctl(control, PPPIO_XCOMP, option, sizeof option);
+    send_ioctl(control, PPPIO_RCOMP, option, sizeof option);
+    send_pair(control, PPPIO_CFLAGS, CCP_ISOPEN, CCP_ISOPEN | CCP_ISUP);
+    send_down(control, message(agreed, sizeof agreed));
 }
 
 static void use_compression(void)
 {
-    ioctl_pair(&control_head, PPPIO_CFLAGS, CCP_ISUP, CCP_ISUP);
+    send_pair(control, PPPIO_CFLAGS, CCP_ISUP, CCP_ISUP);
 }
 
 static void reset_header_compression(void)
 {
     static const u_char slots[2] = {15, 15};
-    ioctl(&control_head, PPPIO_VJINIT, slots, sizeof slots);
+    send_ioctl(control, PPPIO_VJINIT, slots, sizeof slots);
 }
 
 /* Sends a primitive of the network layer, in an order that may be wrong. */
@@ -281,9 +279,9 @@ static void flush(void)
     if (once_in(3)) {
         mblk_t *mp = headed(M_FLUSH, &what, 1, NULL);
         if (mp)
-            putnext(terminal.read, mp);
+            putnext(read_of(line_stream, TERMINAL), mp);
     } else {
-        send_down(once_in(2) ? &control_head : &network_head, headed(M_FLUSH, &what, 1, NULL));
+        send_down(once_in(2) ? control : network, headed(M_FLUSH, &what, 1, NULL));
     }
 }
 
@@ -291,20 +289,20 @@ static void hang_up(void)
 {
     mblk_t *mp = headed(M_HANGUP, "", 0, NULL);
     if (mp)
-        putnext(terminal.read, mp);
+        putnext(read_of(line_stream, TERMINAL), mp);
 }
 
 static void link_or_unlink(int command)
 {
     struct linkblk block;
     memset(&block, 0, sizeof block);
-    block.l_qbot = lower.write;
-    ioctl(&control_head, command, &block, sizeof block);
+    block.l_qbot = write_of(line_stream, LOWER);
+    send_ioctl(control, command, &block, sizeof block);
 }
 
 static int is_linked(void)
 {
-    return lower.write->q_ptr != NULL;
+    return write_of(line_stream, LOWER)->q_ptr != NULL;
 }
 
 /* ppp_ahdlc never frees the message with its unit number, so there are few links. */
@@ -322,7 +320,7 @@ static void stop_or_go(void)
 {
     is_stopped = !is_stopped;
     if (!is_stopped)
-        qenable(terminal.write);
+        qenable(write_of(line_stream, TERMINAL));
 }
 
 /* An action: how often it is drawn, and as whom it makes calls. */
@@ -342,29 +340,30 @@ static const struct {
 static void act(void)
 {
     int sum = 0, k = 0, drawn;
-    struct caller before;
+    struct frame frame;
     for (size_t i = 0; i < sizeof actions / sizeof *actions; i++)
         sum += actions[i].often;
     for (drawn = below(sum); drawn >= actions[k].often; k++)
         drawn -= actions[k].often;
-    before = enter(NULL, actions[k].caller);
+    ddi_enter(&frame, NULL, actions[k].caller);
     actions[k].act();
     if (once_in(400))
         relink();
-    leave(before);
+    ddi_leave();
 }
 
 static void begin(void)
 {
-    open_part(&control, CLONEOPEN);
-    open_part(&network, CLONEOPEN);
-    open_part(&compressor, MODOPEN);
-    open_part(&framer, MODOPEN);
-    ioctl(&control_head, PPPIO_NEWPPA, NULL, 0);
+    send_ioctl(control, PPPIO_NEWPPA, NULL, 0);
     relink();
     set_flags();
     bind_network();
     set_mode();
+}
+
+static void flush_all(queue_t *q)
+{
+    flushq(q, FLUSHALL);
 }
 
 static void finish(void)
@@ -373,29 +372,29 @@ static void finish(void)
         let_go(place);
     if (is_linked())
         link_or_unlink(I_UNLINK);
-    close_part(&framer);
-    close_part(&compressor);
-    close_part(&network);
-    close_part(&control);
-    for (queue_t *q = queues; q < queues + queue_count(); q++)
-        flushq(q, FLUSHALL);
+    close_part(line_stream, FRAMER);
+    close_part(line_stream, COMPRESSOR);
+    close_part(network, DRIVER);
+    close_part(control, DRIVER);
+    each(flush_all);
     look_around();
 }
 
 int main(int count, char **words)
 {
-    static const struct pool ample = {400, 8, {16, 64, 128, 256, 512, 1024, 2048, 4096}, {90, 120, 90, 60, 30, 20, 16, 12}};
-    static const struct pool scarce = {60, 5, {16, 64, 256, 1024, 4096}, {20, 20, 20, 6, 4}};
+    static const struct strm_class_spec many[] = {{16, 90}, {64, 120}, {128, 90}, {256, 60}, {512, 30}, {1024, 20}, {2048, 16}, {4096, 12}};
+    static const struct strm_class_spec few[] = {{16, 20}, {64, 20}, {256, 20}, {1024, 6}, {4096, 4}};
+    static const struct strm_config ample = {.mblks = 400, .classes = many, .class_count = 8}, scarce = {.mblks = 60, .classes = few, .class_count = 5};
     if (count != 3)
         return 64;
     seed_dice(atol(words[1]));
-    open_pool(once_in(3) ? &scarce : &ample);
+    if (str_init(once_in(3) ? &scarce : &ample) != 0)
+        return 1;
     make_streams();
-    tell_header();
     begin();
     for (int left = atoi(words[2]); left > 0; left--)
         act();
     finish();
-    tell_report();
+    str_fini();
     return 0;
 }

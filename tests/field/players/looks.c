@@ -1,0 +1,89 @@
+/* Calls that change nothing, with replies read from messages and queues. */
+#include "line.h"
+
+/* The most bytes of a reply. */
+#define PIECE 64
+
+static void look_at_size(mblk_t *mp)
+{
+    char reply[32];
+    BEGIN_CALL();
+    sprintf(reply, "size %zu", ddi_size(mp));
+    END_CALL(reply, "size %f", mp);
+}
+
+static void look_at_block(mblk_t *mp, const mblk_t *bp, int place)
+{
+    char reply[128] = "refused 5 NoSuchBlock";
+    BEGIN_CALL();
+    if (bp)
+        sprintf(reply, "block %s len=%td band=%d room=%td names=%d", ddi_type_name(DB_TYPE(bp)), MBLKL(bp), bp->b_band, MBLKTAIL(bp), DB_REF(bp));
+    END_CALL(reply, "block %f %d", mp, place);
+}
+
+/* Writes the byte of a message at a place in hexadecimal. Returns whether there is one. */
+static int write_byte(char *text, const mblk_t *mp, ptrdiff_t at)
+{
+    while (mp && at >= MBLKL(mp)) {
+        at -= MBLKL(mp);
+        mp = mp->b_cont;
+    }
+    if (mp)
+        sprintf(text, "%02x", mp->b_rptr[at]);
+    return mp != NULL;
+}
+
+static void look_at_bytes(mblk_t *mp, int at)
+{
+    char reply[8 + 2 * PIECE] = "bytes -";
+    int count = 0;
+    BEGIN_CALL();
+    while (count < PIECE && write_byte(reply + strlen("bytes ") + 2 * count, mp, at + count))
+        count++;
+    END_CALL(reply, "read %f %d", mp, at);
+}
+
+void look(mblk_t *mp)
+{
+    int place = 0, size = (int)ddi_size(mp);
+    look_at_size(mp);
+    msgdsize(mp);
+    for (const mblk_t *bp = mp; bp; bp = bp->b_cont)
+        look_at_block(mp, bp, place++);
+    look_at_block(mp, NULL, place);
+    for (int at = 0; at <= size; at += PIECE)
+        look_at_bytes(mp, at);
+}
+
+void each(void (*function)(queue_t *q))
+{
+    strhead_t *const heads[] = {control, network, line_stream};
+    for (int k = 0; k < 3; k++)
+        for (int place = 0; str_queue(heads[k], place); place++) {
+            function(write_of(heads[k], place));
+            function(read_of(heads[k], place));
+        }
+}
+
+static void look_at_queue(queue_t *q)
+{
+    char reply[64];
+    size_t hiwat, lowat;
+    qsize(q);
+    strqget(q, QHIWAT, 0, &hiwat);
+    strqget(q, QLOWAT, 0, &lowat);
+    BEGIN_CALL();
+    sprintf(reply, "marks %zu %zu", hiwat, lowat);
+    END_CALL(reply, "strqget %q 0", q);
+}
+
+void look_around(void)
+{
+    char reply[64];
+    struct strm_census census;
+    each(look_at_queue);
+    strm_census(&ddi_pools[0].pool, &census);
+    BEGIN_CALL();
+    sprintf(reply, "census %u %u %u", census.free, census.queued, census.held);
+    END_CALL(reply, "census");
+}
