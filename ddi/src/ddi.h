@@ -10,7 +10,7 @@
 #include <stdlib.h>
 #include <string.h>
 
-enum { MOST_POOLS = 16, MOST_EVENTS = 6, QUARANTINE = 256, MOST_PENDING = 256 };
+enum { MOST_POOLS = 16, MOST_EVENTS = 8, QUARANTINE = 256, MOST_PENDING = 256 };
 
 /* A data block: what a module sees, then its bytes, the references and the type that the pool has, and what a trace has of it. */
 struct data {
@@ -23,7 +23,8 @@ struct data {
 
 /* What happened to a message: the routine, who called it, and where. */
 struct event {
-	const char *routine, *module, *procedure;
+	const char *routine, *procedure;
+	const struct module_info *module;
 	struct strm_ddi_place at;
 };
 
@@ -39,6 +40,7 @@ struct block {
 	uint32_t at, length;
 	uint16_t rank;
 	uint8_t band, pool, where;
+	uint16_t joined;		/* blocks of the message while it is on a queue */
 	const struct module_info *owner;
 	struct block *next;		/* of those that are free */
 	queue_t *queue;
@@ -63,6 +65,7 @@ extern size_t ddi_block_count;
 
 /* A queue as the layer has it: its stream, pool and number there, or -1; the bands that a queue behind waits for; and its number in a trace. */
 struct strm_ddi_queue {
+	struct strm_pool *at;
 	strhead_t *head;
 	struct streamtab *tab;
 	int pool, number, told, is_asked;
@@ -74,11 +77,12 @@ struct strm_ddi_queue {
 /* The procedure that runs, and that it runs inside. `failed` is where an allocb failed in it for which nothing waits. */
 struct frame {
 	queue_t *q;
-	const char *procedure;
+	const char *procedure;		/* ddi_service in service procedures */
 	struct frame *before;
 	struct strm_ddi_place failed;
 };
 extern struct frame *ddi_frame;
+extern const char ddi_service[];
 extern int ddi_pending_count;		/* timeouts and wishes that wait */
 
 /* misuse.c: each reports, and ends the program or returns. */
@@ -86,9 +90,19 @@ void ddi_misuse(const char *routine, const struct block *b, const char *format, 
 int ddi_misuse_count(void);
 const char *ddi_module(const queue_t *q);
 const char *ddi_side(const queue_t *q);
-void ddi_note(struct block *b, const char *routine);
 void ddi_census(void);
 void ddi_catch_faults(void);
+
+/* Notes a call with a message. */
+static inline void ddi_note(struct block *b, const char *routine)
+{
+	const struct frame *frame = ddi_frame;
+	struct event *event = &b->events[b->event_count++ % MOST_EVENTS];
+	event->routine = routine;
+	event->procedure = frame ? frame->procedure : "";
+	event->module = frame && frame->q ? frame->q->q_qinfo->qi_minfo : NULL;
+	event->at = strm_ddi_at;
+}
 
 /* messages.c */
 int ddi_open_pool(void);
@@ -98,7 +112,7 @@ struct block *ddi_held(mblk_t *mp, const char *routine);
 int ddi_give(struct block *b, const char *routine);
 int ddi_join(mblk_t *mp, int pool, const char *routine);
 void ddi_part(struct block *b, const char *routine);
-void ddi_end_block(struct block *b, const char *routine);
+void ddi_end_block(struct block *b);
 void ddi_own(mblk_t *mp, const queue_t *q);
 size_t ddi_size(const mblk_t *mp);
 

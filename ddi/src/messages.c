@@ -149,9 +149,8 @@ static void end_reference(struct data *d)
 }
 
 /* A block is freed in the pool. No address is left in it, so a module that follows a pointer there faults. */
-void ddi_end_block(struct block *b, const char *routine)
+void ddi_end_block(struct block *b)
 {
-	ddi_note(b, routine);
 	b->where = FREE;
 	memset(&b->m, 0xA5, sizeof b->m);
 	ASAN_POISON_MEMORY_REGION(&b->m, sizeof b->m);
@@ -254,7 +253,8 @@ int ddi_join(mblk_t *mp, int pool, const char *routine)
 		if (!b || (b->pool != pool && !cross(b, pool, routine)) || !ddi_give(b, routine))
 			return 0;
 	}
-	for (mblk_t *bp = mp->b_cont; bp; bp = bp->b_cont)
+	first->joined = 1;
+	for (mblk_t *bp = mp->b_cont; bp; bp = bp->b_cont, first->joined++)
 		if (strm_linkb(&ddi_pools[pool].pool, first->name, ((struct block *)bp)->name) != STRM_OK) {
 			ddi_misuse(routine, first, "b_cont leads back to the same block");
 			return 0;
@@ -267,19 +267,20 @@ void ddi_part(struct block *b, const char *routine)
 {
 	struct strm_pool *pool = &ddi_pools[b->pool].pool;
 	struct strm_msg rest;
-	for (b->where = HELD; strm_unlinkb(pool, b->name, &rest) == STRM_OK; b->where = HELD) {
-		struct block *next = ddi_pools[b->pool].of[rest.head];
-		if (b->m.b_cont != &next->m) {
+	struct block *next;
+	b->where = HELD;
+	for (; (b->joined > 1 || b->m.b_cont) && strm_unlinkb(pool, b->name, &rest) == STRM_OK; b = next) {
+		next = ddi_pools[b->pool].of[rest.head];
+		if (b->m.b_cont != &next->m)
 			ddi_misuse(routine, b, "b_cont was changed while the message was on a queue");
-			b->m.b_cont = &next->m;
-		}
-		b = next;
-		b->name = rest;
+		b->m.b_cont = &next->m;
+		next->name = rest;
+		next->where = HELD;
+		next->joined = (uint16_t)(b->joined - 1);
 	}
-	if (b->m.b_cont) {
+	if (b->m.b_cont)
 		ddi_misuse(routine, b, "b_cont was changed while the message was on a queue");
-		b->m.b_cont = NULL;
-	}
+	b->m.b_cont = NULL;
 }
 
 size_t ddi_size(const mblk_t *mp)
@@ -333,7 +334,7 @@ static mblk_t *release(mblk_t *mp, const char *routine)
 	struct block *b = ddi_held(mp, routine);
 	mblk_t *rest = b ? mp->b_cont : NULL;
 	if (b && strm_freemsg(&ddi_pools[b->pool].pool, b->name) == STRM_OK)
-		ddi_end_block(b, routine);
+		ddi_end_block(b);
 	return rest;
 }
 
@@ -527,7 +528,7 @@ static int pull(struct block *first, size_t size)
 			((struct block *)bp)->length -= (uint32_t)cut;
 			if (MBLKL(bp) == 0) {
 				first->m.b_cont = next;
-				ddi_end_block((struct block *)bp, "pullupmsg");
+				ddi_end_block((struct block *)bp);
 			}
 		}
 		first->data = new_data(first->pool, first->name);

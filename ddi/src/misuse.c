@@ -31,17 +31,6 @@ const char *ddi_side(const queue_t *q)
 	return !q ? "" : q->q_flag & QREADR ? "read" : "write";
 }
 
-void ddi_note(struct block *b, const char *routine)
-{
-	const queue_t *q = ddi_frame ? ddi_frame->q : NULL;
-	struct event *event = &b->events[b->event_count % MOST_EVENTS];
-	const struct event *last = &b->events[(b->event_count - 1) % MOST_EVENTS];
-	if (b->event_count > 0 && last->routine == routine && last->at.line == strm_ddi_at.line)
-		return;
-	b->event_count++;
-	*event = (struct event){ routine, ddi_module(q), ddi_frame ? ddi_frame->procedure : "", strm_ddi_at };
-}
-
 static void print_place(const char *routine, const char *module, const char *procedure, const struct strm_ddi_place *at)
 {
 	fprintf(stderr, "    %-10s %s:%d, in %s%s%s\n", routine, at->file ? at->file : "?", at->line, module, procedure[0] ? " " : "", procedure);
@@ -52,7 +41,7 @@ static void print_history(const struct block *b)
 	uint32_t k = b->event_count > MOST_EVENTS ? b->event_count - MOST_EVENTS : 0;
 	for (; k < b->event_count; k++) {
 		const struct event *event = &b->events[k % MOST_EVENTS];
-		print_place(event->routine, event->module, event->procedure, &event->at);
+		print_place(event->routine, event->module ? event->module->mi_idname : "the test", event->procedure, &event->at);
 	}
 }
 

@@ -3,6 +3,7 @@
 #include "ddi.h"
 
 struct frame *ddi_frame;
+const char ddi_service[] = "service";
 int ddi_pending_count;
 
 /* ---- procedures */
@@ -83,14 +84,26 @@ void ddi_leave(void)
 		}
 }
 
-static void put_to(queue_t *q, mblk_t *mp, const char *routine)
+/* The queue that decides whether one may send to `q`. */
+static queue_t *decides(queue_t *q)
 {
-	if (!ddi_held(mp, routine))
+	while (!q->q_qinfo->qi_srvp && q->q_next)
+		q = q->q_next;
+	return q;
+}
+
+static void put_to(queue_t *q, mblk_t *mp, const char *routine, int is_next)
+{
+	struct block *b = ddi_held(mp, routine);
+	if (!b)
 		return;
 	if (!q) {
-		ddi_misuse(routine, (struct block *)mp, "there is no next queue");
+		ddi_misuse(routine, b, "there is no next queue");
 		return;
 	}
+	if (is_next && ddi_frame && ddi_frame->procedure == ddi_service && (mp->b_datap->db_type == M_DATA || mp->b_datap->db_type == M_PROTO)
+		&& ddi_is_full(decides(q), mp->b_band))
+		ddi_misuse(routine, b, "band %d of %s is full: a service procedure asks canputnext before", mp->b_band, ddi_module(decides(q)));
 	ddi_own(mp, q);
 	if (is_inside(q, 0))
 		add_later(q, mp, run_put);
@@ -100,24 +113,12 @@ static void put_to(queue_t *q, mblk_t *mp, const char *routine)
 
 void put(queue_t *q, mblk_t *mp)
 {
-	put_to(q, mp, "put");
-}
-
-/* The queue that decides whether one may send to `q`. */
-static queue_t *decides(queue_t *q)
-{
-	while (!q->q_qinfo->qi_srvp && q->q_next)
-		q = q->q_next;
-	return q;
+	put_to(q, mp, "put", 0);
 }
 
 void putnext(queue_t *q, mblk_t *mp)
 {
-	queue_t *target = q->q_next ? decides(q->q_next) : NULL;
-	struct block *b = target && ddi_frame && strcmp(ddi_frame->procedure, "service") == 0 ? ddi_held(mp, "putnext") : NULL;
-	if (b && (mp->b_datap->db_type == M_DATA || mp->b_datap->db_type == M_PROTO) && ddi_is_full(target, mp->b_band))
-		ddi_misuse("putnext", b, "band %d of %s is full: a service procedure asks canputnext before", mp->b_band, ddi_module(target));
-	put_to(q->q_next, mp, "putnext");
+	put_to(q->q_next, mp, "putnext", 1);
 }
 
 void qreply(queue_t *q, mblk_t *mp)
@@ -166,12 +167,10 @@ queue_t *backq(queue_t *q)
 
 /* ---- queues of a pool */
 
-/* The number of a queue in its pool. It gets one when it is first needed. */
-static uint32_t number_of(queue_t *q)
+/* Gives a queue a number in the first pool that has one left. */
+static void number_queue(queue_t *q)
 {
 	struct strm_ddi_queue *own = q->q_layer;
-	if (own->number >= 0)
-		return (uint32_t)own->number;
 	for (own->pool = 0; own->number < 0; own->pool += own->number < 0) {
 		if (own->pool == ddi_pool_count && ddi_open_pool() < 0) {
 			fprintf(stderr, "strm_ddi: no more than %d pools of 16 queues can be open\n", MOST_POOLS);
@@ -182,24 +181,33 @@ static uint32_t number_of(queue_t *q)
 				own->number = k;
 	}
 	ddi_pools[own->pool].queue_at[own->number] = q;
+	own->at = &ddi_pools[own->pool].pool;
 	for (uint32_t band = 0; band < STRM_BANDS; band++)
-		strm_strqset(&ddi_pools[own->pool].pool, (uint32_t)own->number, band, own->marks.hiwat, own->marks.lowat);
+		strm_strqset(own->at, (uint32_t)own->number, band, own->marks.hiwat, own->marks.lowat);
 	if (!q->q_qinfo->qi_srvp)
-		strm_noenable(&ddi_pools[own->pool].pool, (uint32_t)own->number);
-	return (uint32_t)own->number;
+		strm_noenable(own->at, (uint32_t)own->number);
 }
 
-/* Its pool. */
-static struct strm_pool *pool_of(queue_t *q)
+/* The pool of a queue, which gets a number when it is first needed; and both, as arguments. */
+static inline struct strm_pool *pool_of(queue_t *q)
 {
-	number_of(q);
-	return &ddi_pools[q->q_layer->pool].pool;
+	if (q->q_layer->number < 0)
+		number_queue(q);
+	return q->q_layer->at;
 }
+
+static inline uint32_t number_of(queue_t *q)
+{
+	if (q->q_layer->number < 0)
+		number_queue(q);
+	return (uint32_t)q->q_layer->number;
+}
+#define AT(q) pool_of(q), number_of(q)
 
 static int is_enabled(queue_t *q)
 {
 	struct strm_queue_info info;
-	return q->q_layer->number >= 0 && strm_queue_info(pool_of(q), number_of(q), &info) == STRM_OK && info.enabled;
+	return q->q_layer->number >= 0 && strm_queue_info(AT(q), &info) == STRM_OK && info.enabled;
 }
 
 int ddi_is_full(const queue_t *q, int band)
@@ -236,14 +244,14 @@ void qenable(queue_t *q)
 {
 	BEGIN_CALL();
 	if (q->q_qinfo->qi_srvp)
-		strm_qenable(pool_of(q), number_of(q));
+		strm_qenable(AT(q));
 	END_CALL("ok", "qenable %q", q);
 }
 
 void noenable(queue_t *q)
 {
 	BEGIN_CALL();
-	strm_noenable(pool_of(q), number_of(q));
+	strm_noenable(AT(q));
 	END_CALL("ok", "noenable %q", q);
 }
 
@@ -251,7 +259,7 @@ void enableok(queue_t *q)
 {
 	BEGIN_CALL();
 	if (q->q_qinfo->qi_srvp)
-		strm_enableok(pool_of(q), number_of(q));
+		strm_enableok(AT(q));
 	END_CALL("ok", "enableok %q", q);
 }
 
@@ -266,7 +274,7 @@ static void wake(queue_t *q)
 	own->is_asked = 0;
 	for (uint32_t band = 0; band < STRM_BANDS; band++)
 		if (own->asked[band / 32] >> band % 32 & 1) {
-			strm_band_info(pool_of(q), number_of(q), band, &info);
+			strm_band_info(AT(q), band, &info);
 			own->is_asked |= info.wanted;
 			is_woken |= !info.wanted;
 			if (!info.wanted)
@@ -274,7 +282,7 @@ static void wake(queue_t *q)
 		}
 	for (q = is_woken ? backq(q) : NULL; q; q = backq(q))
 		if (q->q_qinfo->qi_srvp) {
-			strm_qenable(pool_of(q), number_of(q));
+			strm_qenable(AT(q));
 			return;
 		}
 }
@@ -284,7 +292,7 @@ int bcanput(queue_t *q, uchar_t band)
 	queue_t *target = decides(q);
 	uint32_t yes = 1;
 	BEGIN_CALL();
-	strm_bcanput(pool_of(target), number_of(target), band, &yes);
+	strm_bcanput(AT(target), band, &yes);
 	if (!yes) {
 		target->q_layer->asked[band / 32] |= 1u << band % 32;
 		target->q_layer->is_asked = 1;
@@ -301,13 +309,13 @@ int strqset(queue_t *q, qfields_t what, uchar_t band, long value)
 	if (what != QHIWAT && what != QLOWAT)
 		return what == QMINPSZ || what == QMAXPSZ ? 0 : 22;
 	BEGIN_CALL();
-	strm_strqget(pool_of(q), number_of(q), band, &marks);
+	strm_strqget(AT(q), band, &marks);
 	*(what == QHIWAT ? &marks.hiwat : &marks.lowat) = (uint32_t)value;
 	if (marks.hiwat == 0)
 		marks.hiwat = 1;
 	if (marks.lowat >= marks.hiwat)
 		marks.lowat = marks.hiwat - 1;
-	strm_strqset(pool_of(q), number_of(q), band, marks.hiwat, marks.lowat);
+	strm_strqset(AT(q), band, marks.hiwat, marks.lowat);
 	if (band == 0) {
 		q->q_hiwat = marks.hiwat;
 		q->q_lowat = marks.lowat;
@@ -322,9 +330,9 @@ int strqget(queue_t *q, qfields_t what, uchar_t band, void *value)
 	struct strm_marks marks;
 	struct strm_band_info of_band;
 	struct strm_queue_info info;
-	strm_strqget(pool_of(q), number_of(q), band, &marks);
-	strm_band_info(pool_of(q), number_of(q), band, &of_band);
-	strm_queue_info(pool_of(q), number_of(q), &info);
+	strm_strqget(AT(q), band, &marks);
+	strm_band_info(AT(q), band, &of_band);
+	strm_queue_info(AT(q), &info);
 	if (what == QFIRST || what == QLAST)
 		*(mblk_t **)value = what == QFIRST ? q->q_first : q->q_last;
 	else if (what == QFLAG)
@@ -393,7 +401,7 @@ int putq(queue_t *q, mblk_t *mp)
 	if (!b)
 		return 0;
 	BEGIN_CALL();
-	strm_putq(pool_of(q), number_of(q), b->name);
+	strm_putq(AT(q), b->name);
 	link_after(q, !q->q_last || ((struct block *)q->q_last)->rank >= b->rank ? q->q_last : before_in_pool(q, b), mp);
 	END_CALL("ok", "putq %q %f", q, mp);
 	return 1;
@@ -404,10 +412,10 @@ int putbq(queue_t *q, mblk_t *mp)
 	struct block *b = joined(q, mp, "putbq");
 	if (!b)
 		return 0;
-	if (b->rank == STRM_BANDS && ddi_frame && ddi_frame->q == q && strcmp(ddi_frame->procedure, "service") == 0)
+	if (b->rank == STRM_BANDS && ddi_frame && ddi_frame->q == q && ddi_frame->procedure == ddi_service)
 		ddi_misuse("putbq", b, "a service procedure that puts high priority back is enabled for ever");
 	BEGIN_CALL();
-	strm_putbq(pool_of(q), number_of(q), b->name);
+	strm_putbq(AT(q), b->name);
 	link_after(q, !q->q_first || ((struct block *)q->q_first)->rank <= b->rank ? NULL : before_in_pool(q, b), mp);
 	END_CALL("ok", "putbq %q %f", q, mp);
 	return 1;
@@ -422,7 +430,7 @@ int insq(queue_t *q, mblk_t *before, mblk_t *mp)
 	BEGIN_CALL();
 	for (const mblk_t *at = q->q_first; at && at != before; at = at->b_next)
 		place++;
-	code = strm_insq_at(pool_of(q), number_of(q), before ? ((struct block *)before)->name.head : STRM_NO_HEAD, b->name);
+	code = strm_insq_at(AT(q), before ? ((struct block *)before)->name.head : STRM_NO_HEAD, b->name);
 	if (code == STRM_NO_SUCH_PLACE)
 		ddi_misuse("insq", b, "the message before which it is to be is not on the queue");
 	if (code != STRM_OK)
@@ -451,7 +459,7 @@ mblk_t *getq(queue_t *q)
 	struct strm_msg name;
 	mblk_t *mp;
 	BEGIN_CALL();
-	mp = strm_getq(pool_of(q), number_of(q), &name) == STRM_OK ? taken(q, name, "getq") : NULL;
+	mp = strm_getq(AT(q), &name) == STRM_OK ? taken(q, name, "getq") : NULL;
 	END_CALL(mp ? "ok" : "none", "getq %q %t", q, mp);
 	return mp;
 }
@@ -488,14 +496,15 @@ static void flush(queue_t *q, int band, int flag)
 		}
 	}
 	if (band < 0)
-		strm_flushq(pool_of(q), number_of(q), what);
+		strm_flushq(AT(q), what);
 	else
-		strm_flushband(pool_of(q), number_of(q), (uint32_t)band, what);
+		strm_flushband(AT(q), (uint32_t)band, what);
 	for (; gone; gone = next) {
 		next = gone->b_next;
 		for (mblk_t *mp = gone; mp; mp = rest) {
 			rest = mp->b_cont;
-			ddi_end_block((struct block *)mp, "flushq");
+			ddi_note((struct block *)mp, "flushq");
+			ddi_end_block((struct block *)mp);
 		}
 	}
 	wake(q);
@@ -520,7 +529,7 @@ int qsize(queue_t *q)
 	uint32_t count = 0;
 	char reply[32];
 	BEGIN_CALL();
-	strm_qsize(pool_of(q), number_of(q), &count);
+	strm_qsize(AT(q), &count);
 	snprintf(reply, sizeof reply, "size %u", count);
 	END_CALL(reply, "qsize %q", q);
 	return (int)count;
@@ -669,13 +678,12 @@ int ddi_serve(void)
 {
 	struct frame frame;
 	queue_t *q;
-	ddi_enter(&frame, NULL, "scheduler");
-	if ((q = next_service()) != NULL)
-		END_CALL("queue", "service %q", q);
-	ddi_leave();
-	if (!q)
+	if (ddi_traced)
+		ddi_trace_begin();
+	if ((q = next_service()) == NULL)
 		return 0;
-	ddi_enter(&frame, q, "service");
+	END_CALL("queue", "service %q", q);
+	ddi_enter(&frame, q, ddi_service);
 	q->q_qinfo->qi_srvp(q);
 	check_sleep(q, &frame.failed);
 	ddi_leave();
