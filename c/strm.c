@@ -15,6 +15,7 @@
 static union {
 	uint8_t byte;
 	struct strm_block_info block;
+	struct strm_block_shape shape;
 	struct strm_class_spec class_spec;
 	struct strm_iov iov;
 	struct strm_msg msg;
@@ -270,6 +271,13 @@ int strm_prepend(struct strm_pool *pool, struct strm_msg msg, const void *bytes,
 	if (pool == NULL || !is_buffer(bytes, length))
 		return fault_of(pool);
 	return strm_c_prepend(pool, msg, length == 0 ? &nothing.byte : (const uint8_t *)bytes, length);
+}
+
+int strm_shape_all(struct strm_pool *pool, struct strm_msg msg, const struct strm_block_shape *shapes, size_t length)
+{
+	if (pool == NULL || !is_array(shapes, length, sizeof *shapes))
+		return fault_of(pool);
+	return strm_c_shape_all(pool, msg, length == 0 ? &nothing.shape : shapes, length);
 }
 
 int strm_transfer(struct strm_pool *pool, struct strm_pool *other, struct strm_msg msg, struct strm_msg *moved)

@@ -374,6 +374,14 @@ struct strm_block_place {
 	uint32_t capacity;		/* bytes of the data block */
 };
 
+/* What strm_shape_all gives a message block. Since 0.5.0. */
+struct strm_block_shape {
+	uint32_t at;			/* the read place in its data block, in bytes */
+	uint32_t length;		/* bytes between its read place and its write place */
+	uint32_t type;			/* the type of its data block, STRM_M_DATA to STRM_M_IOCDATA */
+	uint32_t band;			/* 0 to 255 */
+};
+
 /* Bytes of a message block, where they are. Its layout is that of Linux's struct iovec. */
 struct strm_iov {
 	const void *base;
@@ -743,6 +751,16 @@ int strm_advance(struct strm_pool *pool, struct strm_msg msg, uint32_t place, ui
  * STREAMS: setting b_rptr and b_wptr.
  */
 int strm_shape(struct strm_pool *pool, struct strm_msg msg, uint32_t place, uint32_t at, uint32_t length);
+
+/*
+ * Gives each of the first `length` blocks of a message its places, type and band, or changes none.
+ * It takes two steps a block, and writes no byte: see strm_shape. Since 0.5.0.
+ * Refused as STRM_BAD_ARGUMENT for a number of no type or band, STRM_NO_SUCH_BLOCK if there are
+ * fewer blocks. Then by the first block that does not fit: as STRM_NO_ROOM, or as STRM_SHARED if
+ * its type would change.
+ * STREAMS: setting b_rptr, b_wptr, db_type and b_band.
+ */
+int strm_shape_all(struct strm_pool *pool, struct strm_msg msg, const struct strm_block_shape *shapes, size_t length);
 
 /* ---- names compared: strm_same_msg(3) */
 

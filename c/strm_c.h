@@ -129,6 +129,7 @@ int32_t strm_c_iov(struct strm_reader *pool, struct strm_msg msg, uint32_t from,
 	size_t *count);
 int32_t strm_c_overwrite(struct strm_pool *pool, struct strm_msg msg, uint32_t at, const uint8_t *bytes, size_t length);
 int32_t strm_c_prepend(struct strm_pool *pool, struct strm_msg msg, const uint8_t *bytes, size_t length);
+int32_t strm_c_shape_all(struct strm_pool *pool, struct strm_msg msg, const struct strm_block_shape *shapes, size_t length);
 int32_t strm_c_transfer(struct strm_pool *pool, struct strm_pool *other, struct strm_msg msg, struct strm_msg *moved);
 int32_t strm_c_read_queued(struct strm_reader *pool, uint32_t queue, uint32_t place, uint32_t at, uint8_t *into, size_t length,
 	size_t *count);

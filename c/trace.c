@@ -471,7 +471,7 @@ PER_CALL char *add_item(char *at, const struct traced *traced, const struct form
 {
 	if (form->kind == OUT_IOV)
 		return add_number(at, ((const struct strm_iov *)items)[item].length);
-	if (form->kind == OUT_FIELDS)
+	if (form->kind == OUT_FIELDS || form->kind == IN_FIELDS)
 		return add_fields(at, form, (const uint32_t *)items + item * form->fields);
 	return add_msg(at, traced, ((const struct strm_msg *)items)[item]);
 }
@@ -514,6 +514,7 @@ PER_CALL char *add_argument(char *at, const struct traced *traced, const struct 
 	case IN_BYTES:
 		return value->at ? add_bytes(at, value->at, value[1].number) : add_text(at, "null");
 	case IN_MSGS:
+	case IN_FIELDS:
 		return value->at ? add_items(at, traced, form, value->at, value[1].number) : add_text(at, "null");
 	default:
 		return add_number(at, value->number);
@@ -682,10 +683,11 @@ static inline union value of_pointer(const void *at)
 
 #define KIND(x) _Generic((x), struct strm_pool *: CALLED, const struct strm_pool *: SEEN, struct strm_msg: MSG, uint32_t: NUMBER, \
 	int32_t: SIGNED, size_t: LENGTH, const void *: IN_BYTES, const struct strm_msg *: IN_MSGS, void *: OUT_BYTES, \
+	const struct strm_block_shape *: IN_FIELDS, \
 	struct strm_msg *: OUT_MSG, size_t *: OUT_LENGTH, const uint8_t **: OUT_ADDRESS, uint8_t **: OUT_ADDRESS, \
 	struct strm_iov *: OUT_IOV, default: OUT_FIELDS)
 #define NAMES(x) _Generic((x), struct strm_block_info *: "type length band room names", \
-	struct strm_block_place *: "data at length capacity", struct strm_queued *: "head type band bytes blocks", \
+	const struct strm_block_shape *: "at length type band", struct strm_block_place *: "data at length capacity", struct strm_queued *: "head type band bytes blocks", \
 	struct strm_marks *: "hiwat lowat", struct strm_wish *: "id size", struct strm_queue_spec *: "hiwat lowat service next", \
 	struct strm_census *: "free queued held", struct strm_class_info *: "size free total", \
 	struct strm_queue_info *: "msgs bytes read noenable enabled", struct strm_band_info *: "bytes full wanted", default: "")

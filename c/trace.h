@@ -23,6 +23,8 @@
 	CALL(overwrite, (struct strm_pool *pool, struct strm_msg msg, uint32_t at, const void *bytes, size_t length), \
 		(pool, msg, at, bytes, length), 1) \
 	CALL(prepend, (struct strm_pool *pool, struct strm_msg msg, const void *bytes, size_t length), (pool, msg, bytes, length), 1) \
+	CALL(shape_all, (struct strm_pool *pool, struct strm_msg msg, const struct strm_block_shape *shapes, size_t length), \
+		(pool, msg, shapes, length), 1) \
 	CALL(transfer, (struct strm_pool *pool, struct strm_pool *other, struct strm_msg msg, struct strm_msg *moved), \
 		(pool, other, msg, moved), 1) \
 	CALL(read_queued, (POOL, uint32_t queue, uint32_t place, uint32_t at, void *into, size_t length, size_t *count), \
@@ -51,10 +53,10 @@ int strm_untraced_open_with(struct strm_pool *pool, const struct strm_config *co
 
 #define MOST_LABEL 40
 
-/* What an argument of a call is. The results of OUT ones, and those of IN_BYTES and IN_MSGS, are where it points. */
-enum kind { CALLED, SEEN, MSG, NUMBER, SIGNED, LENGTH, IN_BYTES, IN_MSGS, OUT_BYTES, OUT_MSG, OUT_LENGTH, OUT_ADDRESS, OUT_IOV, OUT_FIELDS };
+/* What an argument of a call is. The results of OUT ones, and the items of IN ones, are where it points. */
+enum kind { CALLED, SEEN, MSG, NUMBER, SIGNED, LENGTH, IN_BYTES, IN_MSGS, IN_FIELDS, OUT_BYTES, OUT_MSG, OUT_LENGTH, OUT_ADDRESS, OUT_IOV, OUT_FIELDS };
 
-/* What an argument is, and of OUT_FIELDS, whose results have fields of 32 bits, their number and names. */
+/* What an argument is, and of FIELDS ones, whose items have fields of 32 bits, their number and names. */
 struct form {
 	enum kind kind;
 	uint32_t fields;

@@ -9,10 +9,9 @@
  * strm.h says what each call does and when it is refused. A function has the name of its call, or its comment names the call.
  * Structs and constants that are not here are those of strm.h.
  *
- * Each call has two forms, as in the standard library: `msg.write(0, bytes)` throws std::system_error, and
- * `msg.write(0, bytes, code)` sets a std::error_code, to 0 if the call was done. After a refusal this second form returns an
- * empty message, 0 or the like. With -fno-exceptions there is only the second form. STRM_NONE is no failure: then a function
- * returns an empty std::optional or message.
+ * Each call has two forms: `msg.write(0, bytes)` throws std::system_error, and `msg.write(0, bytes, code)` sets a
+ * std::error_code, to 0 if the call was done. After a refusal this second form returns an empty message, 0 or the like. With
+ * -fno-exceptions it is the only one. STRM_NONE is no failure: then a function returns an empty std::optional or message.
  *
  * A message is freed when it goes out of scope, unless it was handed over or released. One that was handed over or moved from
  * is empty. A call on an empty message is refused as bad_argument, on a moved-from pool as not_open. A message may outlive its
@@ -233,6 +232,7 @@ public:
     void reserve(uint32_t place, uint32_t count, STRM_REPORT) { to(call(strm_reserve, place, count)); }
     void advance(uint32_t place, uint32_t count, STRM_REPORT) { to(call(strm_advance, place, count)); }
     void shape(uint32_t place, uint32_t at, uint32_t length, STRM_REPORT) { to(call(strm_shape, place, at, length)); }
+    void shape_all(span<const strm_block_shape> shapes, STRM_REPORT) { to(call(strm_shape_all, shapes.data(), shapes.size())); }
     void settype(uint32_t place, uint32_t type, STRM_REPORT) { to(call(strm_settype, place, type)); }
     void setband(uint32_t band, STRM_REPORT) { to(call(strm_setband, band)); }
     void adjmsg(int32_t count, STRM_REPORT) { to(call(strm_adjmsg, count)); }

@@ -222,6 +222,11 @@ void bytes_in_place() {
     CHECK(msg.room(0, code).size() == 0 && !code);
     msg.shape(0, 1, 3, code);
     CHECK(text_of(msg) == "ion" && msg.window(0, code).data() == bytes.data() && msg.window(0, code).size() == 8 && !code);
+    const strm_block_shape shapes[] = { { 0, 5, STRM_M_PROTO, 2 }, { 0, 0, STRM_M_DATA, 0 } };
+    msg.shape_all({ shapes, 2 }, code);
+    REFUSED(no_such_block);
+    msg.shape_all({ shapes, 1 }, code);
+    CHECK(text_of(msg) == "Lions" && msg.block(0, code).type == STRM_M_PROTO && msg.block(0, code).band == 2 && !code);
     const strm::message copy = msg.dupb(code);
     CHECK(msg.edit(0, code).size() == 0);
     REFUSED(shared);

@@ -145,6 +145,12 @@ def bytes_in_place():
         msg.shape(0, 1, 3)
         check(msg.read() == b"ion" and bytes(msg.window(0)) == b"Lions!\0\0", "a block's places in its data block")
         msg.shape(0, 0, 8)
+        msg.shape_all([strm.BlockShape(1, 3, strm.MsgType.M_PROTO, 2)])
+        check(msg.read() == b"ion" and msg.block(0)[:3] == (strm.MsgType.M_PROTO, 3, 2), "a block's places, type and band")
+        for number in (-1, 256, 2**32):
+            refused(strm.Code.BAD_ARGUMENT, msg.shape_all, [strm.BlockShape(0, 8, 0, number)])
+        refused(strm.Code.NO_SUCH_BLOCK, msg.shape_all, [strm.BlockShape(0, 8, 0, 0)] * 2)
+        msg.shape_all([]) or msg.shape_all([strm.BlockShape(0, 8, 0, 0)])
         copy = msg.dupb()
         refused(strm.Code.SHARED, msg.edit, 0)
         refused(strm.Code.NO_SUCH_BLOCK, copy.room, 1)

@@ -301,6 +301,7 @@ reply apply_to_message(lent& it, lent& other, const call& call, strm::report to)
     case ADVANCE: return x.advance(call.place, call.number, to), reply_of(DONE);
     case ROOM: return written_told(x.room(call.place, to), octets);
     case WINDOW: return written_told(x.window(call.place, to), octets);
+    case SHAPE_ALL: return x.shape_all({ call.shapes, call.items }, to), reply_of(DONE);
     case SHAPE: return x.shape(call.place, call.number, call.lowat, to), reply_of(DONE);
     case INSQ_AT: return queue.insq_at(call.number, std::move(x), to), reply_of(DONE);
     case EDIT: return written_told(x.edit(call.place, to), octets);

@@ -1,7 +1,7 @@
 //! Does the drawn calls of tests/c/drawn.c through the crate of bindings/rust. It takes the place of tests/c/face.c.
 use std::ffi::{c_char, c_int, c_uint, CStr};
 
-use strm::{BlockInfo, Flush, Handle, Iov, Marks, Message, MsgType, Name, Pool, Refusal, Rejected};
+use strm::{BlockInfo, BlockShape, Flush, Handle, Iov, Marks, Message, MsgType, Name, Pool, Refusal, Rejected};
 
 const REGISTERS: usize = 26;
 const MOST_OCTETS: usize = 64;
@@ -72,6 +72,7 @@ pub struct Call {
     items: u32,
     count: i32,
     many: [c_int; MOST_ITEMS],
+    shapes: [BlockShape; MOST_ITEMS],
     octets: [u8; MOST_OCTETS],
 }
 
@@ -332,6 +333,7 @@ impl Face {
             "room" => told_written(pool.room(&x, place)?, octets),
             "window" => told_written(pool.window(&x, place)?, octets),
             "shape" => done(pool.shape(&x, place, number, call.lowat)?),
+            "shape_all" => done(pool.shape_all(&x, &call.shapes[..call.items as usize])?),
             "insq_at" => done(self.spent(call.x, pool.insq_at(queue, (number != u32::MAX).then_some(number), x))?),
             "edit" => told_written(pool.edit(&x, place)?, octets),
             "transfer" => {

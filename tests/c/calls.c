@@ -145,6 +145,14 @@ static void print_many(FILE *to, const struct call *call)
 		fprintf(to, " %c", 'a' + call->many[i]);
 }
 
+static void print_shapes(FILE *to, const struct call *call)
+{
+	const struct strm_block_shape *shape;
+
+	for (shape = call->shapes; shape < call->shapes + call->items; shape++)
+		fprintf(to, " %lu+%lu:%s:%lu", (unsigned long)shape->at, (unsigned long)shape->length, types[shape->type], (unsigned long)shape->band);
+}
+
 void print_call(FILE *to, const struct call *call)
 {
 	const char *at;
@@ -157,6 +165,7 @@ void print_call(FILE *to, const struct call *call)
 		case 'y': case 'w': fprintf(to, " %c", 'a' + call->y); break;
 		case 'Z': fprintf(to, " %c", 'a' + call->z); break;
 		case 'g': case 'p': print_many(to, call); break;
+		case 'j': print_shapes(to, call); break;
 		case 'i': fprintf(to, " %lu", (unsigned long)call->items); break;
 		case 'q': fprintf(to, " %lu", (unsigned long)call->queue); break;
 		case 'k': fprintf(to, " %lu", (unsigned long)call->place); break;

@@ -26,7 +26,7 @@
  *
  * x, X and Z are registers that it takes from, X and Z if their messages are handed over, and v is one whose name need not be valid. y is a
  * register that it puts into, w one of the other pool. g are registers that it takes from, p some that it puts into, as many as an array has
- * items. i is the number of items. q is a queue, k a place, b a band, s a signed number, t a type, f a flush, o octets. h and l are water
+ * items. i is the number of items, j shapes, as many. q is a queue, k a place, b a band, s a signed number, t a type, f a flush, o octets. h and l are water
  * marks. u are octets that are written where the call found room for them. Other letters are for a number: r of bytes to move by, d for the id
  * of a wish, n for any other. m and e are for the first block of a held and of a queued message.
  *
@@ -101,6 +101,8 @@
 		IS(TOLD_BYTES) | IS(EMPTY) | NOT(STRM_NO_SUCH_BLOCK) | NOT(STRM_SHARED)) \
 	CALL(SHAPE, shape, "xkrl", (pool, a->x, c->place, c->number, c->lowat), 5, \
 		IS(DONE) | IS(EMPTY) | NOT(STRM_NO_SUCH_BLOCK) | NOT(STRM_NO_ROOM)) \
+	CALL(SHAPE_ALL, shape_all, "xj", (pool, a->x, a->shapes, a->length), 5, \
+		IS(DONE) | IS(EMPTY) | NOT(STRM_NO_SUCH_BLOCK) | NOT(STRM_NO_ROOM) | NOT(STRM_SHARED)) \
 	CALL(TRANSFER, transfer, "Xw", (pool, other, a->x, a->y), 6, \
 		IS(DONE) | IS(EMPTY) | NOT(STRM_TOO_LARGE) | NOT(STRM_NO_MBLK) | NOT(STRM_NO_DATA)) \
 	LOOK(QUEUED_AT, queued_at, "qk", (pool, c->queue, c->place, TO(struct strm_queued)), 2, \
@@ -156,6 +158,7 @@ struct call {
 	uint32_t queue, place, band, number, type, flush, hiwat, lowat, length, items;
 	int32_t count;
 	int many[MOST_ITEMS];
+	struct strm_block_shape shapes[MOST_ITEMS];
 	uint8_t octets[MOST_OCTETS];
 };
 
@@ -191,6 +194,7 @@ struct reply told_from(enum kind kind, const void *numbers);
 /* What a call of strm.h takes beside numbers, and where it stores what. `length` is that of what it reads, or of what it fills. */
 struct arguments {
 	struct strm_msg x, z, *msgs, *y, *rest;
+	const struct strm_block_shape *shapes;
 	const void *octets;
 	void *out;
 	size_t length, *done, *stride;

@@ -85,6 +85,8 @@ void close_scene(struct scene *scene)
 
 void set_call(struct scene *scene, int verb)
 {
+	static const struct strm_block_shape shapes[] = { { 1, 2, STRM_M_PROTO, 1 }, { 2, 1, STRM_M_DATA, 2 } };
+
 	memset(&scene->call, 0, sizeof scene->call);
 	scene->call.verb = (enum verb)verb;
 	scene->call.place = 1;
@@ -99,6 +101,7 @@ void set_call(struct scene *scene, int verb)
 	scene->a.x = scene->x;
 	scene->a.z = scene->z;
 	scene->a.octets = "ab";
+	scene->a.shapes = shapes;
 	scene->a.length = 2;
 	if (names(verb, "g")) {
 		scene->results.msgs[0] = scene->x;

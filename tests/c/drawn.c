@@ -116,6 +116,21 @@ static void draw_many(const struct model *model, struct call *call, int holding)
 	}
 }
 
+/* Draws a shape for each item, mostly for no more blocks than there are, with their types. */
+static void draw_shapes(const struct model *model, struct call *call)
+{
+	uint32_t i, blocks = model_blocks(model, call->x);
+
+	if (blocks < call->items && below(4) > 0)
+		call->items = blocks;
+	for (i = 0; i < call->items; i++) {
+		call->shapes[i].at = below(8);
+		call->shapes[i].length = below(below(4) > 0 ? 8 : 60);
+		call->shapes[i].type = i < blocks && below(4) > 0 ? model_block(model, call->x, i).type : below(STRM_TYPES);
+		call->shapes[i].band = drawn_bands[below(DRAWN_BANDS)];
+	}
+}
+
 /* One of the first `verbs` verbs. */
 static enum verb drawn_verb(int verbs)
 {
@@ -156,6 +171,8 @@ static struct call drawn_call(const struct model *model, const struct model *oth
 		draw_many(model, &call, names(call.verb, "g"));
 	if (names(call.verb, "r") && below(4) > 0)
 		call.number = below(8);
+	if (names(call.verb, "j"))
+		draw_shapes(model, &call);
 	if (names(call.verb, "e") && below(16) == 0)
 		call.number = STRM_NO_HEAD;
 	if (names(call.verb, "ou"))

@@ -753,6 +753,48 @@ static void test_shape(void)
 	ANSWERS(strm_close(&pool), STRM_OK);
 }
 
+/* Places, types and bands of a message's first blocks: all change or none. The first block has a duplicate. */
+static void test_shape_all(void)
+{
+	static const struct strm_block_shape first = { 2, 4, STRM_M_DATA, 7 };
+	struct strm_block_shape shapes[3] = { { 1, 3, STRM_M_DATA, 5 }, { 4, 2, STRM_M_PROTO, 9 }, { 0, 0, STRM_M_DATA, 0 } };
+	struct strm_pool pool = opened(6);
+	struct strm_msg a = message(&pool, "abcdef"), copy;
+	struct strm_block_info info;
+	struct strm_block_place where;
+
+	ANSWERS(strm_linkb(&pool, a, message(&pool, "ghijkl")), STRM_OK);
+	ANSWERS(strm_dupb(&pool, a, &copy), STRM_OK);
+	ANSWERS(strm_shape_all(&pool, a, NULL, 0), STRM_OK);
+	ANSWERS(strm_shape_all(&pool, a, shapes, 3), STRM_NO_SUCH_BLOCK);
+	/* the first block that its shape does not fit, and no room before a type */
+	shapes[1].length = 13;
+	ANSWERS(strm_shape_all(&pool, a, shapes, 2), STRM_NO_ROOM);
+	shapes[0].type = STRM_M_PROTO;
+	ANSWERS(strm_shape_all(&pool, a, shapes, 3), STRM_NO_SUCH_BLOCK);
+	ANSWERS(strm_shape_all(&pool, a, shapes, 2), STRM_SHARED);
+	shapes[0].at = 0xFFFFFFFFu;
+	ANSWERS(strm_shape_all(&pool, a, shapes, 2), STRM_NO_ROOM);
+	shapes[0].type = STRM_TYPES;
+	ANSWERS(strm_shape_all(&pool, a, shapes, 3), STRM_BAD_ARGUMENT);
+	shapes[0].type = STRM_M_DATA;
+	shapes[1].band = STRM_BANDS;
+	ANSWERS(strm_shape_all(&pool, a, shapes, 2), STRM_BAD_ARGUMENT);
+	CHECK(has_bytes(&pool, a, "abcdefghijkl") && strm_block(&pool, a, 1, &info) == STRM_OK && info.type == STRM_M_DATA && info.band == 0);
+	shapes[0].at = 1;
+	shapes[1].length = 2;
+	shapes[1].band = 9;
+	ANSWERS(strm_shape_all(&pool, a, shapes, 2), STRM_OK);
+	CHECK(has_bytes(&pool, a, "bcdkl") && has_bytes(&pool, copy, "abcdef"));
+	CHECK(strm_block(&pool, a, 0, &info) == STRM_OK && info.type == STRM_M_DATA && info.band == 5 && info.names == 2);
+	CHECK(strm_block(&pool, a, 1, &info) == STRM_OK && info.type == STRM_M_PROTO && info.band == 9 && info.length == 2);
+	/* fewer shapes than blocks */
+	ANSWERS(strm_shape_all(&pool, a, &first, 1), STRM_OK);
+	CHECK(has_bytes(&pool, a, "cdefkl") && strm_block(&pool, a, 0, &info) == STRM_OK && info.band == 7);
+	CHECK(strm_place(&pool, a, 1, &where) == STRM_OK && where.at == 4 && where.length == 2);
+	ANSWERS(strm_close(&pool), STRM_OK);
+}
+
 /* The bytes of each class are where its data blocks have them, and stay there. */
 static void test_region(void)
 {
@@ -1941,6 +1983,7 @@ int main(void)
 	test_writable();
 	test_readv();
 	test_shape();
+	test_shape_all();
 	test_region();
 	test_overwrite();
 	test_headroom();

@@ -194,7 +194,8 @@ struct reply face_apply(struct face *face, struct face *other, const struct call
 	a.x = face->registers[call->x];
 	a.z = face->registers[call->z];
 	a.octets = call->octets;
-	a.length = names(call->verb, "o") ? call->length : names(call->verb, "gpi") ? call->items : MOST_OCTETS;
+	a.shapes = call->shapes;
+	a.length = names(call->verb, "o") ? call->length : names(call->verb, "gpij") ? call->items : MOST_OCTETS;
 	for (i = 0; names(call->verb, "g") && i < call->items; i++)
 		results.msgs[i] = face->registers[call->many[i]];
 	code = call_made(call, &face->pool, &other->pool, &a);

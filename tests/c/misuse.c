@@ -285,7 +285,7 @@ static const struct {
 	size_t at;
 } pointers[] = {
 	{ "->y", offsetof(struct arguments, y) }, { "->rest", offsetof(struct arguments, rest) },
-	{ "->msgs", offsetof(struct arguments, msgs) }, { "->octets", offsetof(struct arguments, octets) },
+	{ "->msgs", offsetof(struct arguments, msgs) }, { "->shapes", offsetof(struct arguments, shapes) }, { "->octets", offsetof(struct arguments, octets) },
 	{ "TO(", offsetof(struct arguments, out) }, { "->done", offsetof(struct arguments, done) },
 	{ "->stride", offsetof(struct arguments, stride) }
 };
@@ -442,6 +442,7 @@ static void try_arrays(struct scene *scene)
 
 	try_length(scene, BLOCKS, most / sizeof(struct strm_block_info) + 1);
 	try_length(scene, IOV, most / sizeof(struct strm_iov) + 1);
+	try_length(scene, SHAPE_ALL, most / sizeof(struct strm_block_shape) + 1);
 	try_length(scene, ALLOCB_N, most / sizeof(struct strm_msg) + 1);
 	try_length(scene, FREEMSG_N, most / sizeof(struct strm_msg) + 1);
 	try_length(scene, PUTQ_N, most / sizeof(struct strm_msg) + 1);

@@ -745,6 +745,30 @@ static struct reply shaped(struct model *v, const struct call *call)
 	return reply_of(DONE);
 }
 
+/* Looks at each block, and then changes each. */
+static struct reply all_shaped(struct model *v, const struct call *call)
+{
+	struct cell *cell = v->registers[call->x];
+	const struct strm_block_shape *shape;
+
+	if (call->items > length_of(cell))
+		return refused(STRM_NO_SUCH_BLOCK);
+	for (shape = call->shapes; shape < call->shapes + call->items; shape++, cell = cell->next) {
+		if (shape->at + shape->length > capacity(v, cell->datum))
+			return refused(STRM_NO_ROOM);
+		if (shape->type != cell->datum->type && references_to(v, cell->datum) > 1)
+			return refused(STRM_SHARED);
+	}
+	cell = v->registers[call->x];
+	for (shape = call->shapes; shape < call->shapes + call->items; shape++, cell = cell->next) {
+		cell->read = shape->at;
+		cell->write = shape->at + shape->length;
+		cell->band = shape->band;
+		cell->datum->type = shape->type;
+	}
+	return reply_of(DONE);
+}
+
 static struct reply typed(struct model *v, const struct call *call)
 {
 	struct cell *cell = cell_at(v->registers[call->x], call->place);
@@ -1006,6 +1030,8 @@ static struct reply act_on_messages(struct model *v, const struct call *call)
 		return advanced(v, call);
 	case SHAPE:
 		return shaped(v, call);
+	case SHAPE_ALL:
+		return all_shaped(v, call);
 	case FREEB:
 		v->registers[call->x] = m->next;
 		m->next = NULL;

@@ -23,7 +23,7 @@ import ctypes
 import enum
 import itertools
 import os
-from typing import Any, Dict, Iterator, List, NamedTuple, Optional, Sequence, Tuple, Type, TypeVar, Union, cast
+from typing import Any, Dict, Iterable, Iterator, List, NamedTuple, Optional, Sequence, Tuple, Type, TypeVar, Union, cast
 
 __all__ = (
     "BandInfo BlockInfo BlockPlace Census ClassInfo Code Flush Marks Message MsgType Name Pool Queue QueueInfo QueueSpec Queued Refusal Wish version"
@@ -110,6 +110,7 @@ Census = NamedTuple("Census", [("free", int), ("queued", int), ("held", int)])
 ClassInfo = NamedTuple("ClassInfo", [("size", int), ("free", int), ("total", int)])
 BlockInfo = NamedTuple("BlockInfo", [("type", int), ("length", int), ("band", int), ("room", int), ("names", int)])
 BlockPlace = NamedTuple("BlockPlace", [("data", int), ("at", int), ("length", int), ("capacity", int)])
+BlockShape = NamedTuple("BlockShape", [("at", int), ("length", int), ("type", int), ("band", int)])
 Queued = NamedTuple("Queued", [("head", int), ("type", int), ("band", int), ("bytes", int), ("blocks", int)])
 QueueInfo = NamedTuple("QueueInfo", [("msgs", int), ("bytes", int), ("read", int), ("noenable", int), ("enabled", int)])
 BandInfo = NamedTuple("BandInfo", [("bytes", int), ("full", int), ("wanted", int)])
@@ -160,7 +161,7 @@ CALLS: Dict[str, str] = {
     "putq_n": "Pu*z*", "getq_n": "Pu*z*", "bcanput": "Puu*", "strqset": "Puuuu", "strqget": "puu*", "qenable": "Pu", "noenable": "Pu",
     "enableok": "Pu", "next_service": "P*", "run_at": "pu*", "bufcall": "Pu*", "unbufcall": "Pu", "take_ready": "P*", "wish_at": "pu*",
     "queue_spec": "pu*", "census": "p*", "class_info": "pu*", "least_free_blocks": "p*", "least_free": "pu*", "reset_least": "P", "queue_info": "pu*",
-    "band_info": "puu*",
+    "band_info": "puu*", "shape_all": "Pm*z",
 }
 _KINDS: Dict[str, Any] = {
     **dict.fromkeys("Pp*", ctypes.c_void_p), "m": _Msg, "u": ctypes.c_uint32, "i": ctypes.c_int32, "z": ctypes.c_size_t, "b": ctypes.c_char_p,
@@ -171,8 +172,7 @@ _NO_MSG = _Msg()
 
 
 def _loaded() -> ctypes.PyDLL:
-    """The library: that of the variable STRM_LIBRARY, or the one beside this file, as in a wheel, or the one of the repository or of the prefix that
-    this file is in, or the one that the loader finds."""
+    """The library that STRM_LIBRARY names, the one beside this file, as in a wheel, that of its repository or prefix, or what the loader finds."""
     here = os.path.dirname(os.path.abspath(__file__))
     near = [os.path.join(here, folder, "libstrm.so") for folder in ("", "../../../build", "../../../lib")]
     return ctypes.PyDLL(os.environ.get("STRM_LIBRARY") or next((path for path in near if os.path.exists(path)), "libstrm.so.0"))
@@ -211,13 +211,17 @@ def _call(name: str, *args: Any) -> bool:
     return code == 0
 
 
-def _with_config(id: int, mblks: int, classes: Sequence[Tuple[int, int]], queues: Sequence[QueueSpec], bufcalls: int, first_id: int) -> _Config:
-    """A configuration for a call, which keeps its arrays."""
-    numbers = [id, mblks, bufcalls, first_id, *itertools.chain.from_iterable(classes), *itertools.chain.from_iterable(queues)]
+def _array(structs: Iterable[Iterable[int]]) -> Any:
+    """Structs one after another, as an array of their numbers."""
+    numbers = [*itertools.chain.from_iterable(structs)]
     if not all(0 <= number < 2**32 for number in numbers):
         raise Refusal(Code.BAD_ARGUMENT)
-    of_classes = (ctypes.c_uint32 * (2 * len(classes)))(*itertools.chain.from_iterable(classes))
-    of_queues = (ctypes.c_uint32 * (4 * len(queues)))(*itertools.chain.from_iterable(queues))
+    return (ctypes.c_uint32 * len(numbers))(*numbers)
+
+
+def _with_config(id: int, mblks: int, classes: Sequence[Tuple[int, int]], queues: Sequence[QueueSpec], bufcalls: int, first_id: int) -> _Config:
+    """A configuration for a call, which keeps its arrays."""
+    of_classes, of_queues, _ = _array(classes), _array(queues), _array([(id, mblks, bufcalls, first_id)])
     config = _Config(id, mblks, ctypes.addressof(of_classes), len(classes), ctypes.addressof(of_queues), len(queues), bufcalls, first_id)
     config.kept = of_classes, of_queues
     return config
@@ -231,15 +235,8 @@ _ids = itertools.count(1)
 class Pool:
     """A pool, which is open until `close`. Its id is another one for each pool of the process, unless it is given."""
 
-    def __init__(
-        self,
-        mblks: int,
-        classes: Sequence[Tuple[int, int]],
-        queues: Sequence[QueueSpec],
-        bufcalls: int = 0,
-        first_id: int = 1,
-        id: Optional[int] = None,
-    ) -> None:
+    def __init__(self, mblks: int, classes: Sequence[Tuple[int, int]], queues: Sequence[QueueSpec], bufcalls: int = 0, first_id: int = 1,
+                 id: Optional[int] = None) -> None:
         self.id = next(_ids) if id is None else id
         self.mblks = mblks
         self._handle = _Handle()
@@ -520,6 +517,9 @@ class Message:
     def shape(self, place: int, at: int, length: int) -> None:
         self.pool._change("shape", self._msg, place, at, length)
 
+    def shape_all(self, shapes: Sequence[BlockShape]) -> None:
+        self.pool._change("shape_all", self._msg, _array(shapes), len(shapes))
+
     def settype(self, place: int, type: int) -> None:
         self.pool._change("settype", self._msg, place, type)
 
@@ -576,8 +576,7 @@ class Message:
         return Message(other, moved)
 
     def _put(self, name: str, data: Buffer, *args: Any) -> None:
-        own = bytes(data)
-        self.pool._change(name, self._msg, *args, own, len(own))
+        self.pool._change(name, self._msg, *args, own := bytes(data), len(own))
 
     def _hand_over(self, name: str, *args: Any, of: Optional[Pool] = None) -> None:
         if of is not None and of is not self.pool:

@@ -349,6 +349,8 @@ structs! {
     BlockInfo { r#type: MsgType, length: u32, band: u32, room: u32, names: u32, }
     /// Where the bytes of a message block are: `struct strm_block_place`.
     BlockPlace { data: u32, at: u32, length: u32, capacity: u32, }
+    /// What a message block is to be like: `struct strm_block_shape`.
+    BlockShape { at: u32, length: u32, r#type: MsgType, band: u32, }
     /// A message on a queue: `struct strm_queued`.
     Queued { head: u32, r#type: MsgType, band: u32, bytes: u32, blocks: u32, }
     /// A queue: `struct strm_queue_info`.
@@ -618,6 +620,12 @@ impl Pool {
     #[inline]
     pub fn shape(&mut self, msg: &Message, place: u32, at: u32, length: u32) -> Result<(), Refusal> {
         done(raw::strm_shape(&mut self.handle, msg.0, place, at, length))
+    }
+
+    /// Gives the first blocks their places, types and bands, one shape each: all or none.
+    #[inline]
+    pub fn shape_all(&mut self, msg: &Message, shapes: &[BlockShape]) -> Result<(), Refusal> {
+        done(raw::shape_all(&mut self.handle, msg.0, shapes))
     }
 }
 

@@ -10,7 +10,7 @@ use core::marker::PhantomData;
 use core::ops::Deref;
 use core::slice;
 
-use crate::{BlockInfo, BlockPlace, Census, ClassInfo, ClassSpec, Config, Marks, Message, Name, Pool, Queued, Refusal, Wish};
+use crate::{BlockInfo, BlockPlace, BlockShape, Census, ClassInfo, ClassSpec, Config, Marks, Message, Name, Pool, Queued, Refusal, Wish};
 
 /// A pool's handle, as `struct strm_pool` of strm.h.
 #[derive(Debug)]
@@ -149,6 +149,7 @@ unsafe extern "C" {
     fn strm_prepend(pool: &mut Handle, msg: Name, bytes: *const c_void, length: usize) -> c_int;
     pub(crate) safe fn strm_advance(pool: &mut Handle, msg: Name, place: u32, count: u32) -> c_int;
     pub(crate) safe fn strm_shape(pool: &mut Handle, msg: Name, place: u32, at: u32, length: u32) -> c_int;
+    fn strm_shape_all(pool: &mut Handle, msg: Name, shapes: *const BlockShape, length: usize) -> c_int;
     pub(crate) safe fn strm_same_msg(a: Name, b: Name) -> c_int;
     pub(crate) safe fn strm_is_no_msg(msg: Name) -> c_int;
     pub(crate) safe fn strm_linkb(pool: &mut Handle, msg: Name, tail: Name) -> c_int;
@@ -248,6 +249,12 @@ pub(crate) fn overwrite(pool: &mut Handle, msg: Name, at: u32, bytes: &[u8]) -> 
 pub(crate) fn prepend(pool: &mut Handle, msg: Name, bytes: &[u8]) -> c_int {
     // SAFETY: as in `write`.
     unsafe { strm_prepend(pool, msg, bytes.as_ptr().cast(), bytes.len()) }
+}
+
+#[inline]
+pub(crate) fn shape_all(pool: &mut Handle, msg: Name, shapes: &[BlockShape]) -> c_int {
+    // SAFETY: the pointer and the length are those of a slice.
+    unsafe { strm_shape_all(pool, msg, shapes.as_ptr(), shapes.len()) }
 }
 
 #[inline]

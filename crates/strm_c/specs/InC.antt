@@ -1,6 +1,7 @@
 -- Numbers and structs of strm.h, and what they mean.
-use Rattle.std.specs.Prelude.{ℕ, Bool, true, false, ◌==◌, nat_lt, Option, None, Some, Ok, if◌then◌else◌, slice_get, unwrap_or}
-use Rattle.std.specs.Option.{option_map_or}
+use Rattle.std.specs.Prelude.{ℕ, Bool, true, false, ◌&&◌, ◌==◌, nat_lt, List, map, Option, None, Some, Ok, if◌then◌else◌, slice_get, unwrap_or}
+use Rattle.std.specs.List.{list_all}
+use Rattle.std.specs.Option.{is_some, option_map_or}
 use Rattle.strm_data.specs.declared.class_info.ClassInfo.{ClassInfo}
 use Rattle.strm_data.specs.DataStore.{DataStore, class_infos}
 use Rattle.strm_data.specs.MsgType.{all_types}
@@ -8,6 +9,7 @@ use Rattle.strm_data.specs.declared.msg_type.MsgType.{MsgType}
 use Rattle.strm_data.specs.declared.msg_type.MsgType.TheVariants.{MData, MProto, MBreak, MPassfp, MSig, MDelay, MCtl, MIoctl, MSetopts, MIocack, MIocnak, MPcproto, MPcsig, MRead, MFlush, MStop, MStart, MHangup, MError, MCopyin, MCopyout, MIocdata}
 use Rattle.strm_mblk.specs.declared.block_info.BlockInfo.{BlockInfo}
 use Rattle.strm_mblk.specs.declared.block_place.BlockPlace.{BlockPlace}
+use Rattle.strm_mblk.specs.declared.block_place.Shape.{Shape}
 use Rattle.strm_mblk.specs.declared.census.Census.{Census}
 use Rattle.strm_queue.specs.declared.band_info.BandInfo.{BandInfo}
 use Rattle.strm_queue.specs.declared.flush.Flush.{Flush}
@@ -28,6 +30,7 @@ use Rattle.strm_c.specs.declared.layout.StrmMarks.{StrmMarks}
 use Rattle.strm_c.specs.declared.layout.StrmQueueInfo.{StrmQueueInfo}
 use Rattle.strm_c.specs.declared.layout.StrmQueueSpec.{StrmQueueSpec}
 use Rattle.strm_c.specs.declared.layout.StrmQueued.{StrmQueued}
+use Rattle.strm_c.specs.declared.layout.StrmBlockShape.{StrmBlockShape}
 use Rattle.strm_c.specs.declared.layout.StrmWish.{StrmWish}
 
 -- ---- numbers that C gives
@@ -121,6 +124,18 @@ class_in_c c = record { size = c.size; free = c.free; total = c.total }
 -- the number of bytes of each data block of a class
 abbrev pub stride_of : ℕ → DataStore → ℕ
 stride_of c s = option_map_or (λ k. k.size) (slice_get (class_infos s) c) 0
+
+-- whether the type and the band of a shape from C are such
+abbrev pub is_shape : StrmBlockShape → Bool
+is_shape x = is_some (type_of x.kind) && is_some (band_of x.band)
+
+-- the shape that C gives; a number of no type or band, which no call takes, is read as 0
+abbrev pub shape_of : StrmBlockShape → Shape
+shape_of x = record { at = x.at; len = x.length; kind = unwrap_or (type_of x.kind) MData; band = unwrap_or (band_of x.band) 0 }
+
+-- the shapes of an array from C, if all of their types and bands are such
+abbrev pub shapes_of : List StrmBlockShape → Option (List Shape)
+shapes_of xs = if list_all is_shape xs then Some (map shape_of xs) else None
 
 -- the name of no message
 abbrev pub no_name : Name

@@ -1,20 +1,21 @@
 //! Calls on bytes where they are, and on the places of a message's blocks.
 ghost use Rattle.std.specs.Prelude.{◌≡◌, [], Ok, length, option_map};
+ghost use Rattle.std.specs.List.{list_all};
 ghost use Rattle.std.specs.Option.{option_map_or};
 ghost use Rattle.strm_data.specs.DataStore.{class_region};
 ghost use Rattle.strm_mblk.specs.InPlace as in_place;
 ghost use Rattle.strm_pool.specs.PoolValue.{on_arena};
 ghost use Rattle.strm_named.specs.NamedCalls.{asked, no_message, on_name};
 ghost use Rattle.strm_c.specs.Codes.{answer_of_result, any_or_nothing};
-ghost use Rattle.strm_c.specs.Exports.{Asks, CallsNamed};
-ghost use Rattle.strm_c.specs.InC.{capped_number, place_in_c, stride_of};
+ghost use Rattle.strm_c.specs.Exports.{Asks, CallsNamed, Ranged};
+ghost use Rattle.strm_c.specs.InC.{capped_number, is_shape, place_in_c, shapes_of, stride_of};
 ghost use Rattle.strm_c.specs.InPlace.{AsksAddress, number_lent};
 
 use crate::address::address_of;
 use crate::answer::{coded, number, put};
 use crate::code::Code;
 use crate::handle::StrmPool;
-use crate::layout::StrmBlockPlace;
+use crate::layout::{StrmBlockPlace, StrmBlockShape};
 use crate::numbers::capped_number;
 use crate::reader::StrmReader;
 use strm_named::Name;
@@ -161,6 +162,31 @@ pub extern "C" fn strm_c_shape(
         return Code::NotOpen.number();
     };
     let answer = named.shape(msg, place, at, length);
+    number(coded(answer))
+}
+
+// Whether all of these are shapes.
+fn are_shapes(shapes: &[StrmBlockShape]) -> bool
+    ensures { result ≡ list_all is_shape shapes.now }
+{
+    shapes.iter().all(|shape| shape.is_shape())
+}
+
+/// Gives the first blocks of a message these shapes. As [`NamedPool::shape_all`] of strm_named. A number of no type or band is
+/// a `BadArgument`.
+#[unsafe(no_mangle)]
+pub extern "C" fn strm_c_shape_all(pool: &mut StrmPool, msg: Name, shapes: &[StrmBlockShape]) -> i32
+    ensures { Ranged (shapes_of shapes.now) (λ xs. CallsNamed no_message Ok (λ v. on_name v msg
+        (on_arena v.pool (in_place.shape_all msg.head xs v.pool.arena)))
+        []) pool.old.at.named pool.new.at.named result tt tt }
+{
+    let Some(named) = pool.named_mut() else {
+        return Code::NotOpen.number();
+    };
+    if !are_shapes(shapes) {
+        return Code::BadArgument.number();
+    }
+    let answer = named.shape_all(msg, shapes);
     number(coded(answer))
 }
 

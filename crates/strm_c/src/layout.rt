@@ -1,10 +1,11 @@
 //! The structs of strm.h, field by field, and how values of the pool are stored in them.
-ghost use Rattle.std.specs.Prelude.{◌≡◌};
-ghost use Rattle.strm_c.specs.InC.{band_in_c, block_in_c, census_in_c, class_in_c, marks_in_c, place_in_c, queue_in_c, queued_in_c, spec_in_c, wish_in_c};
+ghost use Rattle.std.specs.Prelude.{◌≡◌, ◌&&◌};
+ghost use Rattle.strm_c.specs.InC.{band_in_c, block_in_c, census_in_c, class_in_c, marks_in_c, is_shape, place_in_c, queue_in_c, queued_in_c, shape_of, spec_in_c, wish_in_c};
 
-use crate::numbers::number_of_next;
+use crate::numbers::{band_of, number_of_next, type_of};
 use strm_pool::{
-    BandInfo, BlockInfo, BlockPlace, Census, ClassInfo, Marks, QueueInfo, QueueSpec, QueuedInfo,
+    BandInfo, BlockInfo, BlockPlace, Census, ClassInfo, Marks, MsgType, QueueInfo, QueueSpec,
+    QueuedInfo, Shape, Shaped,
 };
 
 /// A size class of a configuration.
@@ -45,6 +46,20 @@ pub struct StrmBlockInfo {
     pub room: u32,
     /// The number of references to its data block.
     pub names: u32,
+}
+
+/// What a block of a message is to be like.
+#[repr(C)]
+#[derive(Clone, Copy, Debug)]
+pub struct StrmBlockShape {
+    /// The read place in its data block, in bytes.
+    pub at: u32,
+    /// The number of bytes between its read place and its write place.
+    pub length: u32,
+    /// The type of its data block, as its number in strm.h.
+    pub kind: u32,
+    /// The block's band, 0 to 255.
+    pub band: u32,
 }
 
 /// Where the bytes of a block are.
@@ -170,6 +185,29 @@ impl StrmBlockInfo {
             band: u32::from(block.band),
             room: block.room,
             names: u32::from(block.names),
+        }
+    }
+}
+
+impl StrmBlockShape {
+    // Whether its type and its band are such.
+    pub(crate) fn is_shape(&self) -> bool
+        ensures { result ≡ is_shape self.now }
+    {
+        type_of(self.kind).is_some() && band_of(self.band).is_some()
+    }
+}
+
+impl Shaped for StrmBlockShape {
+    ghost shape = { shape_of };
+
+    // A number of no type is taken for M_DATA, and one of no band for band 0.
+    fn shape(self) -> Shape {
+        Shape {
+            at: self.at,
+            len: self.length,
+            kind: type_of(self.kind).unwrap_or(MsgType::MData),
+            band: band_of(self.band).unwrap_or(0),
         }
     }
 }

@@ -40,8 +40,8 @@ mod writable;
 pub use code::Code;
 pub use handle::StrmPool;
 pub use layout::{
-    StrmBandInfo, StrmBlockInfo, StrmBlockPlace, StrmCensus, StrmClassInfo, StrmClassSpec, StrmIov,
-    StrmMarks, StrmQueueInfo, StrmQueueSpec, StrmQueued, StrmWish,
+    StrmBandInfo, StrmBlockInfo, StrmBlockPlace, StrmBlockShape, StrmCensus, StrmClassInfo,
+    StrmClassSpec, StrmIov, StrmMarks, StrmQueueInfo, StrmQueueSpec, StrmQueued, StrmWish,
 };
 pub use lending::{Lender, end, join, lend, lend_to_two, look_by_two, split, take_back};
 pub use parts::Parts;
