@@ -325,6 +325,21 @@ int strm_getq_n(struct strm_pool *pool, uint32_t queue, struct strm_msg *msgs, s
 	return strm_c_getq_n(pool, queue, length == 0 ? &nothing.msg : msgs, length, count);
 }
 
+int strm_takeq(struct strm_pool *pool, uint32_t queue, uint32_t flush, struct strm_msg *msgs, size_t length, size_t *count)
+{
+	if (!is_zeroed(count) || pool == NULL || !is_array(msgs, length, sizeof *msgs) || !is_count(count, msgs, length))
+		return fault_of(pool);
+	return strm_c_takeq(pool, queue, flush, length == 0 ? &nothing.msg : msgs, length, count);
+}
+
+int strm_takeq_band(struct strm_pool *pool, uint32_t queue, uint32_t band, uint32_t flush, struct strm_msg *msgs, size_t length,
+	size_t *count)
+{
+	if (!is_zeroed(count) || pool == NULL || !is_array(msgs, length, sizeof *msgs) || !is_count(count, msgs, length))
+		return fault_of(pool);
+	return strm_c_takeq_band(pool, queue, band, flush, length == 0 ? &nothing.msg : msgs, length, count);
+}
+
 int strm_same_msg(struct strm_msg a, struct strm_msg b)
 {
 	return a.pool == b.pool && a.head == b.head && a.stamp == b.stamp;

@@ -73,6 +73,7 @@ struct strm_reader {
 	LOOK(testb, (POOL, uint32_t size, uint32_t *yes), (&reader, size, yes), yes != NULL) \
 	LOOK(size, (POOL, struct strm_msg msg, uint32_t *bytes), (&reader, msg, bytes), bytes != NULL) \
 	LOOK(msgdsize, (POOL, struct strm_msg msg, uint32_t *bytes), (&reader, msg, bytes), bytes != NULL) \
+	LOOK(message, (POOL, struct strm_msg msg, struct strm_queued *info), (&reader, msg, info), info != NULL) \
 	LOOK(block, (POOL, struct strm_msg msg, uint32_t place, struct strm_block_info *block), \
 		(&reader, msg, place, block), block != NULL) \
 	LOOK(has, (POOL, struct strm_msg msg, uint32_t *yes), (&reader, msg, yes), yes != NULL) \
@@ -137,6 +138,9 @@ int32_t strm_c_allocb_n(struct strm_pool *pool, uint32_t size, struct strm_msg *
 int32_t strm_c_freemsg_n(struct strm_pool *pool, const struct strm_msg *msgs, size_t length, size_t *count);
 int32_t strm_c_putq_n(struct strm_pool *pool, uint32_t queue, const struct strm_msg *msgs, size_t length, size_t *count);
 int32_t strm_c_getq_n(struct strm_pool *pool, uint32_t queue, struct strm_msg *msgs, size_t length, size_t *count);
+int32_t strm_c_takeq(struct strm_pool *pool, uint32_t queue, uint32_t flush, struct strm_msg *msgs, size_t length, size_t *count);
+int32_t strm_c_takeq_band(struct strm_pool *pool, uint32_t queue, uint32_t band, uint32_t flush, struct strm_msg *msgs, size_t length,
+	size_t *count);
 
 /* Each copies as much of a text as fits, without a 0, and returns the length of the whole text. */
 size_t strm_c_text(int32_t code, uint8_t *text, size_t length);

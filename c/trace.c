@@ -711,7 +711,8 @@ static inline union value of_pointer(const void *at)
 #define COUNT(...) (sizeof (char[]){ EACH(ONE, __VA_ARGS__) })
 
 /* Whether a message that a call returns is new, or one of its parts, and no message of a queue or a name that was there. */
-#define IS_NEW(call) (strncmp(#call, "getq", 4) != 0 && strncmp(#call, "rmvq", 4) != 0 && strcmp(#call, "name_at") != 0)
+#define IS_NEW(call) (strncmp(#call, "getq", 4) != 0 && strncmp(#call, "rmvq", 4) != 0 && strncmp(#call, "takeq", 5) != 0 \
+	&& strcmp(#call, "name_at") != 0)
 
 /* Which argument names a queued message by its first block, in calls that may move it. */
 #define HEAD_AT(call) (strcmp(#call, "insq_at") == 0 ? 2 : strcmp(#call, "rmvq_msg") == 0 ? 1 : 0)

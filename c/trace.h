@@ -36,7 +36,11 @@
 	CALL(putq_n, (struct strm_pool *pool, uint32_t queue, const struct strm_msg *msgs, size_t length, size_t *count), \
 		(pool, queue, msgs, length, count), 1) \
 	CALL(getq_n, (struct strm_pool *pool, uint32_t queue, struct strm_msg *msgs, size_t length, size_t *count), \
-		(pool, queue, msgs, length, count), 1)
+		(pool, queue, msgs, length, count), 1) \
+	CALL(takeq, (struct strm_pool *pool, uint32_t queue, uint32_t flush, struct strm_msg *msgs, size_t length, size_t *count), \
+		(pool, queue, flush, msgs, length, count), 1) \
+	CALL(takeq_band, (struct strm_pool *pool, uint32_t queue, uint32_t band, uint32_t flush, struct strm_msg *msgs, size_t length, \
+		size_t *count), (pool, queue, band, flush, msgs, length, count), 1)
 
 #pragma GCC visibility push(hidden)
 

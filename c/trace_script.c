@@ -471,6 +471,8 @@ static void tell_wordless(struct traced *traced, const char *name, const struct 
 		begin_line(traced, "freemsg");
 		PRINT(" <%u | ok\n", first_of(traced, values[2].msg));
 		release_all(traced, values[2].msg);
+	} else if (strncmp(name, "takeq", 5) == 0 && code == STRM_OK && *(const size_t *)values[call->count - 1].at > 0) {
+		strm_script_end(traced, "strm_takeq takes messages");
 	} else if (call->forms[0].kind == CALLED && call->forms[1].kind == MSG && code == STRM_OK) {
 		tell_all(traced, '~', values[1].msg, 1);
 	} else if (strcmp(name, "write") == 0 && code > 0 && values[4].number <= MOST_BYTES) {

@@ -214,6 +214,7 @@ public:
     bool has(STRM_REPORT) const { return stored<uint32_t>(to, strm_has) == 1; }
     uint32_t size(STRM_REPORT) const { return stored<uint32_t>(to, strm_size); }
     uint32_t msgdsize(STRM_REPORT) const { return stored<uint32_t>(to, strm_msgdsize); }
+    strm_queued info(STRM_REPORT) const { return stored<strm_queued>(to, strm_message); }  /* strm_message */
     size_t read(uint32_t at, buffer into, STRM_REPORT) const { return filled(to, strm_read, at, into); }
     strm_block_info block(uint32_t place, STRM_REPORT) const { return stored<strm_block_info>(to, strm_block, place); }
     size_t blocks(uint32_t from, span<strm_block_info> into, STRM_REPORT) const { return filled(to, strm_blocks, from, into); }
@@ -386,7 +387,8 @@ protected:
 
 /*
  * A queue: `put` is strm_putq, `put_back` strm_putbq, `insert` strm_insq, `get` strm_getq, and `remove` strm_rmvq. A message that
- * is refused stays as it was. `put_n` and `get_n` return the number of messages that were put, which are empty then, or assigned.
+ * is refused stays as it was. `put_n` returns the number of messages that were put, which are empty then. `get_n`, `takeq` and
+ * `takeq_band` return the number of those that were assigned.
  */
 class queue : public queue_view {
 public:
@@ -402,12 +404,14 @@ public:
     message remove(uint32_t place, STRM_REPORT) { return message::given(to, at_, strm_rmvq, number_, place); }
     size_t put_n(span<message> from, STRM_REPORT) { return message::series<false>(to, at_, from, strm_putq_n, number_); }
     size_t get_n(span<message> into, STRM_REPORT) { return message::series<true>(to, at_, into, strm_getq_n, number_); }
+    size_t takeq(uint32_t flush, span<message> into, STRM_REPORT) { return message::series<true>(to, at_, into, strm_takeq, number_, flush); }
+    size_t takeq_band(uint32_t band, uint32_t flush, span<message> into, STRM_REPORT) {
+        return message::series<true>(to, at_, into, strm_takeq_band, number_, band, flush);
+    }
     void flushq(uint32_t flush, STRM_REPORT) { to(strm_flushq(handle(), number_, flush)); }
     void flushband(uint32_t band, uint32_t flush, STRM_REPORT) { to(strm_flushband(handle(), number_, band, flush)); }
     bool bcanput(uint32_t band, STRM_REPORT) { return look<uint32_t>(to, strm_bcanput, band) == 1; }
-    void strqset(uint32_t band, uint32_t hiwat, uint32_t lowat, STRM_REPORT) {
-        to(strm_strqset(handle(), number_, band, hiwat, lowat));
-    }
+    void strqset(uint32_t band, uint32_t high, uint32_t low, STRM_REPORT) { to(strm_strqset(handle(), number_, band, high, low)); }
     void qenable(STRM_REPORT) { to(strm_qenable(handle(), number_)); }
     void noenable(STRM_REPORT) { to(strm_noenable(handle(), number_)); }
     void enableok(STRM_REPORT) { to(strm_enableok(handle(), number_)); }
@@ -440,9 +444,7 @@ public:
     message allocb(uint32_t size, STRM_REPORT) { return message::given(to, at_.get(), strm_allocb, size); }
     bool testb(uint32_t size, STRM_REPORT) const { return stored<uint32_t>(to, strm_testb, size) == 1; }
     /* They return the number of messages that were assigned, or freed, which are empty then. */
-    size_t allocb_n(uint32_t size, span<message> into, STRM_REPORT) {
-        return message::series<true>(to, at_.get(), into, strm_allocb_n, size);
-    }
+    size_t allocb_n(uint32_t size, span<message> into, STRM_REPORT) { return message::series<true>(to, at_.get(), into, strm_allocb_n, size); }
     size_t freemsg_n(span<message> from, STRM_REPORT) { return message::series<false>(to, at_.get(), from, strm_freemsg_n); }
     optional<strm_msg> name_at(uint32_t head, STRM_REPORT) const { return found<strm_msg>(to, strm_name_at, head); }
     optional<uint32_t> queued_after(uint32_t head, STRM_REPORT) const { return found<uint32_t>(to, strm_queued_after, head); }
@@ -456,9 +458,7 @@ public:
     optional<strm_wish> take_ready(STRM_REPORT) { return found<strm_wish>(to, strm_take_ready); }
     optional<strm_wish> wish_at(uint32_t place, STRM_REPORT) const { return found<strm_wish>(to, strm_wish_at, place); }
     strm_census census(STRM_REPORT) const { return stored<strm_census>(to, strm_census_); }
-    optional<strm_class_info> class_info(uint32_t place, STRM_REPORT) const {
-        return found<strm_class_info>(to, strm_class_info_, place);
-    }
+    optional<strm_class_info> class_info(uint32_t at, STRM_REPORT) const { return found<strm_class_info>(to, strm_class_info_, at); }
     /* The bytes of all data blocks of a size class, each of `stride` bytes. There are none without such a class. */
     bytes region(uint32_t place, size_t& stride, STRM_REPORT) const {
         const uint8_t* base;

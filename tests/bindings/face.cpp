@@ -179,7 +179,10 @@ reply given(lent& it, int reg, strm::message msg) {
 reply gave_many(lent& it, const call& call, strm::report to) {
     std::array<strm::message, MOST_ITEMS + 1> messages;
     const strm::span<strm::message> into(messages.data(), call.items);
-    const size_t count = call.verb == ALLOCB_N ? it.pool.allocb_n(call.number, into, to) : it.pool.queue(call.queue).get_n(into, to);
+    strm::queue queue = it.pool.queue(call.queue);
+    const size_t count = call.verb == ALLOCB_N ? it.pool.allocb_n(call.number, into, to)
+        : call.verb == GETQ_N ? queue.get_n(into, to)
+        : call.verb == TAKEQ ? queue.takeq(call.flush, into, to) : queue.takeq_band(call.band, call.flush, into, to);
     for (size_t i = 0; i < messages.size(); i++)
         if (i < count)
             it.put(call.many[i], std::move(messages[i]));
@@ -258,7 +261,7 @@ reply apply_to_pool(lent& it, const call& call, strm::report to) {
     case QUEUED_BEFORE: return number(TOLD_HEAD, pool.queued_before(call.number, to));
     case QUEUE_OF: return told(TOLD_QUEUE, pool.queue_of(call.number, to), 0);
     case QUEUE_SPEC: return told_of(TOLD_SPEC, queue.spec(to));
-    case ALLOCB_N: case GETQ_N: return gave_many(it, call, to);
+    case ALLOCB_N: case GETQ_N: case TAKEQ: case TAKEQ_BAND: return gave_many(it, call, to);
     default: return took_many(it, call, to);
     }
 }
@@ -283,6 +286,7 @@ reply apply_to_message(lent& it, lent& other, const call& call, strm::report to)
     case ADJMSG: return x.adjmsg(call.count, to), reply_of(DONE);
     case PULLUPMSG: return x.pullupmsg(call.count, to), reply_of(DONE);
     case MSGDSIZE: return told(TOLD_SIZE, x.msgdsize(to), 0);
+    case MESSAGE: return told_of(TOLD_QUEUED, x.info(to));
     case SIZE: return told(TOLD_SIZE, x.size(to), 0);
     case READ: return bytes_told(it, [&](strm::buffer into) { return x.read(call.place, into, to); });
     case BLOCK: return told_of(TOLD_BLOCK, x.block(call.place, to));

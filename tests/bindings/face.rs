@@ -243,7 +243,7 @@ impl Face {
                 let it = pool.queue_spec(queue)?;
                 told(TOLD_SPEC, &[it.hiwat, it.lowat, it.service.into(), it.next.unwrap_or(u32::MAX)])
             }
-            "allocb_n" | "getq_n" => return self.gave_many(pool, word, call),
+            "allocb_n" | "getq_n" | "takeq" | "takeq_band" => return self.gave_many(pool, word, call),
             "freemsg_n" | "putq_n" => return self.took_many(pool, word, call),
             _ => return Err(Fault::Broken),
         })
@@ -254,7 +254,13 @@ impl Face {
         let before = Name { pool: 7, head: 7, stamp: 7 };
         let mut msgs = vec![pool.adopt(before)];
         let items = call.items as usize;
-        let result = if word == "allocb_n" { pool.allocb_n(call.number, items, &mut msgs) } else { pool.getq_n(call.queue, items, &mut msgs) };
+        let flush = if call.flush == 0 { Flush::All } else { Flush::Data };
+        let result = match word {
+            "allocb_n" => pool.allocb_n(call.number, items, &mut msgs),
+            "getq_n" => pool.getq_n(call.queue, items, &mut msgs),
+            "takeq" => pool.takeq(call.queue, flush, items, &mut msgs),
+            _ => pool.takeq_band(call.queue, call.band, flush, items, &mut msgs),
+        };
         must(msgs.len() == 1 + *result.as_ref().unwrap_or(&0) && msgs.remove(0).into_name() == before)?;
         let count = result?;
         for (msg, reg) in msgs.into_iter().zip(call.many) {
@@ -298,6 +304,7 @@ impl Face {
             "adjmsg" => done(pool.adjmsg(&x, call.count)?),
             "pullupmsg" => done(pool.pullupmsg(&x, call.count)?),
             "msgdsize" => told(TOLD_SIZE, &[pool.msgdsize(&x)?]),
+            "message" => { let it = pool.message(&x)?; told(TOLD_QUEUED, &[it.head, it.r#type.0, it.band, it.bytes, it.blocks]) }
             "size" => told(TOLD_SIZE, &[pool.size(&x)?]),
             "read" => told_read(|into| pool.read(&x, place, into))?,
             "block" => told(TOLD_BLOCK, &numbers_of(&pool.block(&x, place)?)),

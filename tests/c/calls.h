@@ -80,6 +80,7 @@
 /* The calls that only strm.h has: */
 #define CALLS_OF_C(CALL, LOOK) \
 	LOOK(BLOCKS, blocks, "xki", (pool, a->x, c->place, TO(struct strm_block_info), a->length, a->done), 2, IS(TOLD_BLOCKS) | IS(EMPTY)) \
+	LOOK(MESSAGE, message, "x", (pool, a->x, TO(struct strm_queued)), 2, IS(TOLD_QUEUED) | IS(EMPTY)) \
 	LOOK(HAS, has, "v", (pool, a->x, TO(uint32_t)), 1, IS(YES) | IS(NO)) \
 	LOOK(NAME_AT, name_at, "m", (pool, c->number, a->y), 2, IS(TOLD_NAME) | IS(NOTHING)) \
 	LOOK(BYTES, bytes, "xk", (pool, a->x, c->place, TO(const uint8_t *), a->done), 3, IS(TOLD_BYTES) | IS(EMPTY) | NOT(STRM_NO_SUCH_BLOCK)) \
@@ -130,7 +131,10 @@
 		IS(TOLD_COUNT) | NOT(STRM_TOO_LARGE) | NOT(STRM_NO_MBLK) | NOT(STRM_NO_DATA)) \
 	CALL(FREEMSG_N, freemsg_n, "g", (pool, a->msgs, a->length, a->done), 2, IS(TOLD_COUNT) | IS(EMPTY)) \
 	CALL(PUTQ_N, putq_n, "qg", (pool, c->queue, a->msgs, a->length, a->done), 3, IS(TOLD_COUNT) | IS(EMPTY) | NOT(STRM_NO_SUCH_QUEUE)) \
-	CALL(GETQ_N, getq_n, "qp", (pool, c->queue, a->msgs, a->length, a->done), 3, IS(TOLD_COUNT) | IS(NOTHING) | NOT(STRM_NO_SUCH_QUEUE))
+	CALL(GETQ_N, getq_n, "qp", (pool, c->queue, a->msgs, a->length, a->done), 3, IS(TOLD_COUNT) | IS(NOTHING) | NOT(STRM_NO_SUCH_QUEUE)) \
+	CALL(TAKEQ, takeq, "qfp", (pool, c->queue, c->flush, a->msgs, a->length, a->done), 3, IS(TOLD_COUNT) | NOT(STRM_NO_SUCH_QUEUE)) \
+	CALL(TAKEQ_BAND, takeq_band, "qbfp", (pool, c->queue, c->band, c->flush, a->msgs, a->length, a->done), 3, \
+		IS(TOLD_COUNT) | NOT(STRM_NO_SUCH_QUEUE))
 
 #define CALLS(CALL, LOOK) WORDS(CALL, LOOK) CALLS_OF_C(CALL, LOOK)
 #define TO(type) (type *)a->out

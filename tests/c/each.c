@@ -1347,6 +1347,15 @@ static void test_looks_at_queues(void)
 	CHECK(queued.head == c.head && queued.type == STRM_M_PCPROTO && queued.band == 0 && queued.bytes == 1 && queued.blocks == 1);
 	ANSWERS(strm_queued_at(&pool, 2, 1, &queued), STRM_OK);
 	CHECK(queued.head == b.head && queued.type == STRM_M_DATA && queued.band == 2 && queued.bytes == 5 && queued.blocks == 2);
+	ANSWERS(strm_message(&pool, held, &queued), STRM_OK);
+	CHECK(queued.head == held.head && queued.type == STRM_M_DATA && queued.band == 0 && queued.bytes == 4 && queued.blocks == 1);
+	ANSWERS(strm_setband(&pool, held, 3), STRM_OK);
+	ANSWERS(strm_settype(&pool, held, 0, STRM_M_PROTO), STRM_OK);
+	ANSWERS(strm_linkb(&pool, held, message(&pool, "up")), STRM_OK);
+	ANSWERS(strm_message(&pool, held, &queued), STRM_OK);
+	CHECK(queued.head == held.head && queued.type == STRM_M_PROTO && queued.band == 3 && queued.bytes == 6 && queued.blocks == 2);
+	ANSWERS(strm_message(&pool, b, &queued), STRM_INVALID);
+	ANSWERS(strm_queued_at(&pool, 2, 1, &queued), STRM_OK);
 	ANSWERS(strm_queued_at(&pool, 2, 3, &queued), STRM_NO_SUCH_PLACE);
 	ANSWERS(strm_queued_at(&pool, 2, 0xFFFFFFFFu, &queued), STRM_NO_SUCH_PLACE);
 	ANSWERS(strm_queued_at(&pool, 3, 9, &queued), STRM_NO_SUCH_QUEUE);
@@ -1365,7 +1374,7 @@ static void test_looks_at_queues(void)
 	ANSWERS(strm_read_queued(&pool, 2, 3, 0, NULL, 0, &count), STRM_NO_SUCH_PLACE);
 	ANSWERS(strm_read_queued(&pool, 3, 9, 0, room, sizeof room, &count), STRM_NO_SUCH_QUEUE);
 	CHECK(count == 77 && memcmp(room, "degi....", 8) == 0);
-	CENSUS(&pool, 3, 4, 1);
+	CENSUS(&pool, 2, 4, 2);
 	ANSWERS(strm_close(&pool), STRM_OK);
 }
 
@@ -1671,6 +1680,52 @@ static void test_flush(void)
 	ANSWERS(strm_flushband(&pool, 2, 1, STRM_FLUSHALL), STRM_OK);
 	CENSUS(&pool, 7, 1, 0);
 	ANSWERS(strm_flushq(&pool, 2, STRM_FLUSHALL), STRM_OK);
+	CENSUS(&pool, 8, 0, 0);
+	ANSWERS(strm_close(&pool), STRM_OK);
+}
+
+/* What a flush would free is taken instead. The queue has b of band 2, then a, which carries no data, c and d. */
+static void test_take(void)
+{
+	struct strm_pool pool = opened(8);
+	struct strm_msg a = message(&pool, "a"), b = message(&pool, "b"), c = message(&pool, "c"), d = message(&pool, "0123456789"), msgs[4], none = STRM_NO_MSG;
+	uint32_t yes, queue, bytes;
+	size_t count = 9, i;
+
+	for (i = 0; i < 4; i++)
+		msgs[i] = none;
+	ANSWERS(strm_settype(&pool, a, 0, STRM_M_CTL), STRM_OK);
+	ANSWERS(strm_setband(&pool, b, 2), STRM_OK);
+	ANSWERS(strm_putq(&pool, 2, a), STRM_OK);
+	ANSWERS(strm_putq(&pool, 2, b), STRM_OK);
+	ANSWERS(strm_putq(&pool, 2, c), STRM_OK);
+	ANSWERS(strm_putq(&pool, 2, d), STRM_OK);
+	ANSWERS(strm_bcanput(&pool, 2, 0, &yes), STRM_OK);
+	CHECK(yes == 0);
+	while (strm_next_service(&pool, &queue) == STRM_OK)
+		continue;
+	ANSWERS(strm_takeq(&pool, 3, STRM_FLUSHALL, msgs, 4, &count), STRM_NO_SUCH_QUEUE);
+	CHECK(count == 0 && strm_is_no_msg(msgs[0]));
+	ANSWERS(strm_takeq_band(&pool, 0xFFFFFFFFu, 0, STRM_FLUSHALL, msgs, 4, &count), STRM_NO_SUCH_QUEUE);
+	ANSWERS(strm_takeq(&pool, 2, STRM_FLUSHALL, NULL, 0, &count), STRM_OK);
+	CHECK(count == 0);
+	ANSWERS(strm_takeq_band(&pool, 2, 3, STRM_FLUSHALL, msgs, 4, &count), STRM_OK);
+	CHECK(count == 0 && strm_is_no_msg(msgs[0]));
+	CENSUS(&pool, 4, 4, 0);
+	ANSWERS(strm_takeq(&pool, 2, STRM_FLUSHDATA, msgs, 2, &count), STRM_OK);
+	CHECK(count == 2 && msgs[0].head == b.head && msgs[1].head == c.head && strm_is_no_msg(msgs[2]));
+	CHECK(has_bytes(&pool, msgs[0], "b") && has_bytes(&pool, msgs[1], "c"));
+	ANSWERS(strm_size(&pool, b, &bytes), STRM_INVALID);
+	ANSWERS(strm_next_service(&pool, &queue), STRM_NONE);
+	/* band 0 has drained once d is gone, and the queue behind is enabled */
+	ANSWERS(strm_takeq_band(&pool, 2, 0, STRM_FLUSHDATA, msgs + 2, 2, &count), STRM_OK);
+	CHECK(count == 1 && msgs[2].head == d.head && strm_is_no_msg(msgs[3]));
+	CENSUS(&pool, 4, 1, 3);
+	ANSWERS(strm_next_service(&pool, &queue), STRM_OK);
+	CHECK(queue == 0);
+	ANSWERS(strm_takeq(&pool, 2, STRM_FLUSHALL, msgs + 3, 1, &count), STRM_OK);
+	CHECK(count == 1 && msgs[3].head == a.head);
+	ANSWERS(strm_freemsg_n(&pool, msgs, 4, &count), STRM_OK);
 	CENSUS(&pool, 8, 0, 0);
 	ANSWERS(strm_close(&pool), STRM_OK);
 }
@@ -2002,6 +2057,7 @@ int main(void)
 	test_all_of_a_queue();
 	test_specs();
 	test_flush();
+	test_take();
 	test_flow_control();
 	test_enabling();
 	test_names();

@@ -447,6 +447,8 @@ static void try_arrays(struct scene *scene)
 	try_length(scene, FREEMSG_N, most / sizeof(struct strm_msg) + 1);
 	try_length(scene, PUTQ_N, most / sizeof(struct strm_msg) + 1);
 	try_length(scene, GETQ_N, most / sizeof(struct strm_msg) + 1);
+	try_length(scene, TAKEQ, most / sizeof(struct strm_msg) + 1);
+	try_length(scene, TAKEQ_BAND, most / sizeof(struct strm_msg) + 1);
 }
 
 static void test_arguments(void)

@@ -885,6 +885,26 @@ static struct reply pulled_up(struct model *v, const struct call *call)
 	return reply_of(DONE);
 }
 
+/* What calls report of a message, held or queued. */
+static struct strm_queued info_of(const struct cell *m)
+{
+	struct strm_queued info;
+
+	info.head = m->number;
+	info.type = m->datum->type;
+	info.band = m->band;
+	info.bytes = bytes_in(m);
+	info.blocks = length_of(m);
+	return info;
+}
+
+static struct reply message_told(const struct model *v, const struct call *call)
+{
+	struct strm_queued info = info_of(v->registers[call->x]);
+
+	return told_from(TOLD_QUEUED, &info);
+}
+
 static struct reply block_told(const struct model *v, const struct call *call)
 {
 	struct strm_block_info info;
@@ -1008,6 +1028,8 @@ static struct reply act_on_messages(struct model *v, const struct call *call)
 		return told(TOLD_SIZE, bytes_in(m), 0);
 	case READ:
 		return bytes_told(v, call);
+	case MESSAGE:
+		return message_told(v, call);
 	case BLOCK:
 		return block_told(v, call);
 	case BLOCKS:
@@ -1125,23 +1147,41 @@ static struct reply got_by_head(struct model *v, const struct call *call)
 	return refused(STRM_NO_SUCH_PLACE);
 }
 
+/* Whether a flush frees a message, or one that is taken instead of that. */
+static int is_flushed(const struct call *call, const struct cell *m)
+{
+	uint32_t type = m->datum->type;
+
+	return (call->verb == FLUSHQ || call->verb == TAKEQ || is_of_band(m, call->band))
+		&& (call->flush == STRM_FLUSHALL || type == STRM_M_DATA || type == STRM_M_PROTO || type == STRM_M_PCPROTO || type == STRM_M_DELAY);
+}
+
 static struct reply flushed(struct model *v, const struct call *call)
 {
 	struct item **at = &v->queues[call->queue].items;
-	const struct cell *m;
-	uint32_t type;
 
-	while (*at != NULL) {
-		m = (*at)->message;
-		type = m->datum->type;
-		if ((call->verb == FLUSHQ || is_of_band(m, call->band)) && (call->flush == STRM_FLUSHALL || type == STRM_M_DATA
-		    || type == STRM_M_PROTO || type == STRM_M_PCPROTO || type == STRM_M_DELAY))
+	while (*at != NULL)
+		if (is_flushed(call, (*at)->message))
 			cells_freed(v, item_taken(v, at));
 		else
 			at = &(*at)->next;
-	}
 	settled(v, call->queue);
 	return reply_of(DONE);
+}
+
+/* Registers get what a flush would free, as many as there are registers. */
+static struct reply flushed_taken(struct model *v, const struct call *call)
+{
+	struct item **at = &v->queues[call->queue].items;
+	uint32_t count = 0;
+
+	while (*at != NULL && count < call->items)
+		if (is_flushed(call, (*at)->message))
+			v->registers[call->many[count++]] = item_taken(v, at);
+		else
+			at = &(*at)->next;
+	settled(v, call->queue);
+	return told(TOLD_COUNT, count, 0);
 }
 
 static struct reply asked_for_room(struct model *v, uint32_t q, uint32_t band)
@@ -1157,16 +1197,10 @@ static struct reply asked_for_room(struct model *v, uint32_t q, uint32_t band)
 struct strm_queued model_queued(const struct model *v, uint32_t queue, uint32_t place)
 {
 	const struct item *item = v->queues[queue].items;
-	struct strm_queued queued;
 
 	for (; place > 0; place--)
 		item = item->next;
-	queued.head = item->message->number;
-	queued.type = item->message->datum->type;
-	queued.band = item->message->band;
-	queued.bytes = bytes_in(item->message);
-	queued.blocks = length_of(item->message);
-	return queued;
+	return info_of(item->message);
 }
 
 static struct reply queued_told(struct model *v, const struct call *call)
@@ -1227,6 +1261,8 @@ static struct reply act_on_queue(struct model *v, const struct call *call)
 		return got(v, call);
 	case FLUSHQ: case FLUSHBAND:
 		return flushed(v, call);
+	case TAKEQ: case TAKEQ_BAND:
+		return flushed_taken(v, call);
 	case BCANPUT:
 		return asked_for_room(v, call->queue, call->band);
 	case STRQSET:
@@ -1458,8 +1494,6 @@ static struct reply done_one_by_one(struct model *v, const struct call *call)
 	struct reply reply;
 	uint32_t count;
 
-	if (names(call->verb, "p") && is_some_taken(v, call))
-		return reply_of(TAKEN);
 	single.verb = single_of(call->verb);
 	for (count = 0; count < call->items; count++) {
 		single.x = single.y = call->many[count];
@@ -1476,7 +1510,9 @@ static struct reply applied(struct model *v, struct model *other, const struct c
 {
 	int verb = call->verb;
 
-	if (names(verb, "gp"))
+	if (names(verb, "p") && is_some_taken(v, call))
+		return reply_of(TAKEN);
+	if (names(verb, "gp") && !names(verb, "f"))
 		return done_one_by_one(v, call);
 	if (names(verb, "q") && call->queue >= v->queue_count)
 		return refused(STRM_NO_SUCH_QUEUE);

@@ -152,16 +152,16 @@ class _Config(ctypes.Structure):
 CALLS: Dict[str, str] = {
     "open": "P*", "memory": "**", "close": "P", "is_open": "p", "allocb": "Pu*", "testb": "pu*", "dupb": "Pm*", "dupmsg": "Pm*", "copyb": "Pm*",
     "copymsg": "Pm*", "freeb": "Pm*", "freemsg": "Pm", "write": "Pmubz", "read": "pmu*z*", "settype": "Pmuu", "setband": "Pmu", "size": "pm*",
-    "msgdsize": "pm*", "block": "pmu*", "blocks": "pmu*z*", "has": "pm*", "name_at": "pu*", "bytes": "pmu**", "iov": "pmu*z*", "place": "pmu*",
-    "region": "pu***", "room": "Pmu**", "edit": "Pmu**", "window": "Pmu**", "shape": "Pmuuu", "overwrite": "Pmubz", "reserve": "Pmuu",
-    "prepend": "Pmbz", "advance": "Pmuu", "same_msg": "mm", "is_no_msg": "m", "linkb": "Pmm", "unlinkb": "Pm*", "rmvb": "Pmu**", "adjmsg": "Pmi",
-    "pullupmsg": "Pmi", "transfer": "PPm*", "putq": "Pum", "putbq": "Pum", "insq": "Puum", "insq_at": "Puum", "getq": "Pu*", "rmvq": "Puu*",
-    "rmvq_msg": "Pu*", "qsize": "pu*", "queued_at": "puu*", "read_queued": "puuu*z*", "first_queued": "pu*", "last_queued": "pu*",
+    "msgdsize": "pm*", "message": "pm*", "block": "pmu*", "blocks": "pmu*z*", "has": "pm*", "name_at": "pu*", "bytes": "pmu**", "iov": "pmu*z*",
+    "place": "pmu*", "region": "pu***", "room": "Pmu**", "edit": "Pmu**", "window": "Pmu**", "shape": "Pmuuu", "overwrite": "Pmubz",
+    "reserve": "Pmuu", "prepend": "Pmbz", "advance": "Pmuu", "same_msg": "mm", "is_no_msg": "m", "linkb": "Pmm", "unlinkb": "Pm*", "rmvb": "Pmu**",
+    "adjmsg": "Pmi", "pullupmsg": "Pmi", "transfer": "PPm*", "putq": "Pum", "putbq": "Pum", "insq": "Puum", "insq_at": "Puum", "getq": "Pu*",
+    "rmvq": "Puu*", "rmvq_msg": "Pu*", "qsize": "pu*", "queued_at": "puu*", "read_queued": "puuu*z*", "first_queued": "pu*", "last_queued": "pu*",
     "queued_after": "pu*", "queued_before": "pu*", "queue_of": "pu*", "flushq": "Puu", "flushband": "Puuu", "allocb_n": "Pu*z*", "freemsg_n": "P*z*",
-    "putq_n": "Pu*z*", "getq_n": "Pu*z*", "bcanput": "Puu*", "strqset": "Puuuu", "strqget": "puu*", "qenable": "Pu", "noenable": "Pu",
-    "enableok": "Pu", "next_service": "P*", "run_at": "pu*", "bufcall": "Pu*", "unbufcall": "Pu", "take_ready": "P*", "wish_at": "pu*",
-    "queue_spec": "pu*", "census": "p*", "class_info": "pu*", "least_free_blocks": "p*", "least_free": "pu*", "reset_least": "P", "queue_info": "pu*",
-    "band_info": "puu*", "shape_all": "Pm*z",
+    "putq_n": "Pu*z*", "getq_n": "Pu*z*", "takeq": "Puu*z*", "takeq_band": "Puuu*z*", "bcanput": "Puu*", "strqset": "Puuuu", "strqget": "puu*",
+    "qenable": "Pu", "noenable": "Pu", "enableok": "Pu", "next_service": "P*", "run_at": "pu*", "bufcall": "Pu*", "unbufcall": "Pu",
+    "take_ready": "P*", "wish_at": "pu*", "queue_spec": "pu*", "census": "p*", "class_info": "pu*", "least_free_blocks": "p*", "least_free": "pu*",
+    "reset_least": "P", "queue_info": "pu*", "band_info": "puu*", "shape_all": "Pm*z",
 }
 _KINDS: Dict[str, Any] = {
     **dict.fromkeys("Pp*", ctypes.c_void_p), "m": _Msg, "u": ctypes.c_uint32, "i": ctypes.c_int32, "z": ctypes.c_size_t, "b": ctypes.c_char_p,
@@ -255,9 +255,7 @@ class Pool:
             self.close()
 
     def __repr__(self) -> str:
-        if not self.is_open():
-            return f"<Pool {self.id}, closed>"
-        return "<Pool {}: free={} queued={} held={}>".format(self.id, *self.census())
+        return "<Pool {}: free={} queued={} held={}>".format(self.id, *self.census()) if self.is_open() else f"<Pool {self.id}, closed>"
 
     @staticmethod
     def memory(
@@ -425,8 +423,7 @@ class Message:
     """A message that the program holds, or a spent one."""
 
     def __init__(self, pool: Pool, msg: _Msg) -> None:
-        self.pool = pool
-        self._msg = msg
+        self.pool, self._msg = pool, msg
 
     def __enter__(self) -> Message:
         return self
@@ -460,6 +457,10 @@ class Message:
 
     def msgdsize(self) -> int:
         return self.pool._number("msgdsize", self._msg)
+
+    def info(self) -> Queued:
+        """strm_message"""
+        return self.pool._told(Queued, "message", self._msg)
 
     def read(self, at: int = 0, length: Optional[int] = None) -> bytes:
         """A copy of the bytes from `at` on, all or at most `length`."""
@@ -603,8 +604,7 @@ class Queue:
     """A queue of a pool."""
 
     def __init__(self, pool: Pool, number: int) -> None:
-        self.pool = pool
-        self.number = number
+        self.pool, self.number = pool, number
 
     def __repr__(self) -> str:
         if not self.pool.is_open():
@@ -676,6 +676,12 @@ class Queue:
     def get_n(self, count: int) -> List[Message]:
         """strm_getq_n. As many messages as there are, up to `count`."""
         return self.pool._several("getq_n", count, self.number)
+
+    def takeq(self, count: int, flush: int = Flush.ALL) -> List[Message]:
+        return self.pool._several("takeq", count, self.number, flush)
+
+    def takeq_band(self, band: int, count: int, flush: int = Flush.ALL) -> List[Message]:
+        return self.pool._several("takeq_band", count, self.number, band, flush)
 
     def flushq(self, flush: int = Flush.ALL) -> None:
         self.pool._change("flushq", self.number, flush)

@@ -526,6 +526,12 @@ impl Pool {
         stored(|bytes| raw::strm_msgdsize(&self.handle, msg.0, bytes))
     }
 
+    /// What a message is like.
+    #[inline]
+    pub fn message(&self, msg: &Message) -> Result<Queued, Refusal> {
+        stored(|info| raw::strm_message(&self.handle, msg.0, info))
+    }
+
     /// The fields of a block.
     #[inline]
     pub fn block(&self, msg: &Message, place: u32) -> Result<BlockInfo, Refusal> {
@@ -778,6 +784,18 @@ impl Pool {
     #[inline]
     pub fn flushband(&mut self, queue: u32, band: u32, flush: Flush) -> Result<(), Refusal> {
         done(raw::strm_flushband(&mut self.handle, queue, band, flush as u32))
+    }
+
+    /// Takes up to `count` messages off a queue that `flushq` would free, and appends them. Returns their number.
+    #[inline]
+    pub fn takeq(&mut self, queue: u32, flush: Flush, count: usize, into: &mut Vec<Message>) -> Result<usize, Refusal> {
+        many(into, count, |into, count| raw::takeq(&mut self.handle, queue, flush as u32, into, count))
+    }
+
+    /// The same of those of a band that `flushband` would free.
+    #[inline]
+    pub fn takeq_band(&mut self, queue: u32, band: u32, flush: Flush, count: usize, into: &mut Vec<Message>) -> Result<usize, Refusal> {
+        many(into, count, |into, count| raw::takeq_band(&mut self.handle, queue, band, flush as u32, into, count))
     }
 
     /// Puts messages from the front of `from`, which keeps the others. Returns their number.

@@ -133,6 +133,7 @@ unsafe extern "C" {
     pub(crate) safe fn strm_setband(pool: &mut Handle, msg: Name, band: u32) -> c_int;
     pub(crate) safe fn strm_size(pool: &Handle, msg: Name, bytes: &mut u32) -> c_int;
     pub(crate) safe fn strm_msgdsize(pool: &Handle, msg: Name, bytes: &mut u32) -> c_int;
+    pub(crate) safe fn strm_message(pool: &Handle, msg: Name, info: &mut Queued) -> c_int;
     pub(crate) safe fn strm_block(pool: &Handle, msg: Name, place: u32, block: &mut BlockInfo) -> c_int;
     fn strm_blocks(pool: &Handle, msg: Name, from: u32, into: *mut BlockInfo, length: usize, count: &mut usize) -> c_int;
     pub(crate) safe fn strm_has(pool: &Handle, msg: Name, yes: &mut u32) -> c_int;
@@ -175,6 +176,8 @@ unsafe extern "C" {
     pub(crate) safe fn strm_queue_of(pool: &Handle, head: u32, queue: &mut u32) -> c_int;
     pub(crate) safe fn strm_flushq(pool: &mut Handle, queue: u32, flush: u32) -> c_int;
     pub(crate) safe fn strm_flushband(pool: &mut Handle, queue: u32, band: u32, flush: u32) -> c_int;
+    fn strm_takeq(pool: &mut Handle, queue: u32, flush: u32, msgs: *mut Message, length: usize, count: &mut usize) -> c_int;
+    fn strm_takeq_band(pool: &mut Handle, queue: u32, band: u32, flush: u32, msgs: *mut Message, length: usize, count: &mut usize) -> c_int;
     fn strm_allocb_n(pool: &mut Handle, size: u32, msgs: *mut Message, length: usize, count: &mut usize) -> c_int;
     fn strm_freemsg_n(pool: &mut Handle, msgs: *const Message, length: usize, count: &mut usize) -> c_int;
     fn strm_putq_n(pool: &mut Handle, queue: u32, msgs: *const Message, length: usize, count: &mut usize) -> c_int;
@@ -344,6 +347,18 @@ pub(crate) fn allocb_n(pool: &mut Handle, size: u32, into: &mut [Message], count
 pub(crate) fn getq_n(pool: &mut Handle, queue: u32, into: &mut [Message], count: &mut usize) -> c_int {
     // SAFETY: as in `read`; a message is a name.
     unsafe { strm_getq_n(pool, queue, into.as_mut_ptr(), into.len(), count) }
+}
+
+#[inline]
+pub(crate) fn takeq(pool: &mut Handle, queue: u32, flush: u32, into: &mut [Message], count: &mut usize) -> c_int {
+    // SAFETY: as in `read`; a message is a name.
+    unsafe { strm_takeq(pool, queue, flush, into.as_mut_ptr(), into.len(), count) }
+}
+
+#[inline]
+pub(crate) fn takeq_band(pool: &mut Handle, queue: u32, band: u32, flush: u32, into: &mut [Message], count: &mut usize) -> c_int {
+    // SAFETY: as in `read`; a message is a name.
+    unsafe { strm_takeq_band(pool, queue, band, flush, into.as_mut_ptr(), into.len(), count) }
 }
 
 #[inline]

@@ -9,7 +9,7 @@ use Rattle.strm_mblk.specs.Given.{Given, answer_of, value_after}
 use Rattle.strm_queue.specs.QueueLooks.{queued_message}
 use Rattle.strm_pool.specs.PoolValue.{PoolValue, queued_blocks_of}
 use Rattle.strm_named.specs.declared.name.Name.{Name}
-use Rattle.strm_named.specs.NamedCalls.{Outcome, Shape, answer_told, named_after, one_message}
+use Rattle.strm_named.specs.NamedCalls.{Outcome, Shape, answer_told, named_after, names_of, one_message, with_names}
 use Rattle.strm_named.specs.NamedValue.{KeepsNames, NamedValue, Renames, is_valid, with_pool}
 use Rattle.strm_c.specs.declared.code.Code.TheVariants.{BadArgument, NotOpen}
 use Rattle.strm_c.specs.Codes.{Answer, number_of, number_returned, answer_of_result, answer_of_refusable, value_written}
@@ -89,6 +89,12 @@ Ranged (Some a) says = says a
 -- an array after this number of these items were stored in it, from its beginning on
 abbrev pub array_with : {X : Type 0} → ℕ → List X → List X → List X
 array_with count items array = take count items ++ drop count array
+
+-- An array after a call with a number that gives messages: their names are at its beginning, if the handle is open and the number means
+-- something.
+abbrev pub array_with_names : {A X Y : Type 0} → Shape X Y → Option A → (A → NamedValue → Outcome X) → Held → Held → List Name → List Name
+array_with_names shape (Some a) outcome (Some v) (Some w) array = with_names (names_of shape w (outcome a v)) array
+array_with_names shape given outcome old new array = array
 
 -- A buffer after bytes of a message were copied into it, from place `at` on: as many as there are and as fit.
 abbrev pub buffer_with_bytes : List ℕ → ℕ → ℕ → List ℕ → List ℕ

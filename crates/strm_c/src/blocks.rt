@@ -4,17 +4,18 @@ ghost use Rattle.strm_mblk.specs.Arena.{message_at};
 ghost use Rattle.strm_mblk.specs.Block.{data_size_of, size_of};
 ghost use Rattle.strm_mblk.specs.BlockCalls as blocks;
 ghost use Rattle.strm_pool.specs.PoolValue.{on_arena, with_arena};
+ghost use Rattle.strm_queue.specs.QueueLooks.{info_of_message};
 ghost use Rattle.strm_mblk.specs.Given.{given_nothing};
-ghost use Rattle.strm_named.specs.NamedCalls.{answer_told, if_valid, on_name, no_message};
+ghost use Rattle.strm_named.specs.NamedCalls.{answer_told, asked, if_valid, on_name, no_message};
 ghost use Rattle.strm_named.specs.NamedValue.{is_valid, name_at};
 ghost use Rattle.strm_c.specs.Codes.{answer_of_result, any_or_nothing};
 ghost use Rattle.strm_c.specs.Exports.{Asks, CallsNamed, Ranged, bytes_read};
-ghost use Rattle.strm_c.specs.InC.{band_of, block_in_c, flag, type_of};
+ghost use Rattle.strm_c.specs.InC.{band_of, block_in_c, flag, queued_in_c, type_of};
 
 use crate::answer::{coded, number, present, put};
 use crate::code::Code;
 use crate::handle::StrmPool;
-use crate::layout::StrmBlockInfo;
+use crate::layout::{StrmBlockInfo, StrmQueued};
 use crate::numbers::{band_of, type_of};
 use crate::reader::StrmReader;
 use strm_named::Name;
@@ -116,6 +117,21 @@ pub extern "C" fn strm_c_msgdsize(pool: &mut StrmReader, msg: Name, bytes: &mut 
     };
     let answer = view.named().msgdsize(msg);
     put(coded(answer), bytes)
+}
+
+/// Stores what a message is like in `info`. As [`NamedPool::message`] of strm_named.
+#[unsafe(no_mangle)]
+pub extern "C" fn strm_c_message(pool: &mut StrmReader, msg: Name, info: &mut StrmQueued) -> i32
+    ensures answer { Asks (λ v. answer_of_result (λ q. Ok (queued_in_c q)) (asked v msg
+        (info_of_message v.pool.arena.store (message_at v.pool.arena msg.head))))
+        pool.old.at.named pool.new.at.named result info.old info.new }
+    ensures same { pool.new ≡ pool.old }
+{
+    let Some(view) = pool.view() else {
+        return Code::NotOpen.number();
+    };
+    let answer = view.named().message(msg);
+    put(coded(answer).map(StrmQueued::of), info)
 }
 
 /// Stores what a block is like in `block`. As [`NamedPool::block`] of strm_named.

@@ -29,6 +29,7 @@ mod reader;
 mod sending;
 mod several;
 mod sizing;
+mod taking;
 mod telling;
 mod texts;
 mod transferring;
