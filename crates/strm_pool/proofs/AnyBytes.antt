@@ -1,8 +1,9 @@
 -- A pool is lawful whatever bytes its data blocks have.
-use Rattle.std.proofs.Common.{◌≡◌, ℕ, ◌+◌, ◌<◌, ◌≤◌, Bool, true, ◌&&◌, ◌==◌, List, [], ◌∷◌, arith, length, map, get_or, refl, sym, ap, ◌∙◌, subst, if◌then◌else◌}
+use Rattle.std.proofs.Common.{◌≡◌, ℕ, zero, suc, ◌+◌, ◌<◌, ◌≤◌, Bool, true, ◌&&◌, ◌==◌, List, [], ◌∷◌, arith, length, map, get_or, refl, sym, ap, ◌∙◌, subst, if◌then◌else◌}
 use Rattle.std.specs.Prelude.{count_by, nat_lt, sum_by}
 use Rattle.std.specs.List.{All, range_with_len}
-use Rattle.std.proofs.lemmas.List.{get_or-map, length-map}
+use Rattle.std.proofs.lemmas.List.{length-map}
+use Rattle.std.proofs.lemmas.List.Folds.{fold-map}
 use Rattle.strm_data.specs.CountedStore.{IsKept}
 use Rattle.strm_data.specs.DataStore.{DataBlock, DataStore, blocks_in as blocks_of_class, capacity_of, class_of, class_spec_at, data_block_at, no_data_block}
 use Rattle.strm_data.specs.Limits.{most_references}
@@ -17,8 +18,13 @@ use Rattle.strm_pool.specs.PoolValue.{PoolValue}
 
 -- a count by what is read of each item
 count_by-map : {X Y : Type 0} (f : X → Y) (p : Y → Bool) (xs : List X) → count_by p (map f xs) ≡ count_by (λ x. p (f x)) xs
-count_by-map f p [] = refl
-count_by-map f p (x ∷ xs) = λ i. if p (f x) then count_by-map f p xs i + 1 else count_by-map f p xs i
+count_by-map f p xs = fold-map (λ n y. n + (if p y then 1 else 0)) f 0 xs
+
+-- what is read of an item, also past the end
+mapped-at : {X Y : Type 0} (f : X → Y) (xs : List X) (k : ℕ) (past : X) → get_or (map f xs) k (f past) ≡ f (get_or xs k past)
+mapped-at f [] k past = refl
+mapped-at f (x ∷ xs) zero past = refl
+mapped-at f (x ∷ xs) (suc k) past = mapped-at f xs k past
 
 module _ (v : PoolValue) (bs : List DataBlock) (differ : DifferInBytes v.arena.store.blocks bs) (law : IsLawful v) where
   abbrev a : Arena
@@ -38,7 +44,7 @@ module _ (v : PoolValue) (bs : List DataBlock) (differ : DifferInBytes v.arena.s
 
   -- what is read of a data block, if it is the same of all
   read : {Y : Type 0} (f : DataBlock → Y) → map f bs ≡ map f s.blocks → (d : ℕ) → f (data_block_at t d) ≡ f (data_block_at s d)
-  read f same d = sym (get_or-map f bs d no_data_block) ∙ ap (λ ys. get_or ys d (f no_data_block)) same ∙ get_or-map f s.blocks d no_data_block
+  read f same d = sym (mapped-at f bs d no_data_block) ∙ ap (λ ys. get_or ys d (f no_data_block)) same ∙ mapped-at f s.blocks d no_data_block
 
   many : length bs ≡ length s.blocks
   many = sym (length-map bs (λ x. x.class)) ∙ ap length differ.classes ∙ length-map s.blocks (λ x. x.class)
