@@ -190,8 +190,7 @@ _TEXT.restype = ctypes.c_char_p
 def _text_of(call: str, *args: Any) -> str:
     function = getattr(_LIBRARY, call)
     function.restype = ctypes.c_size_t
-    room = ctypes.create_string_buffer(function(*args, None, ctypes.c_size_t(0)) + 1)
-    function(*args, room, ctypes.c_size_t(len(room)))
+    function(*args, room := ctypes.create_string_buffer(function(*args, None, ctypes.c_size_t(0)) + 1), ctypes.c_size_t(len(room)))
     return room.value.decode()
 
 
@@ -237,9 +236,7 @@ class Pool:
 
     def __init__(self, mblks: int, classes: Sequence[Tuple[int, int]], queues: Sequence[QueueSpec], bufcalls: int = 0, first_id: int = 1,
                  id: Optional[int] = None) -> None:
-        self.id = next(_ids) if id is None else id
-        self.mblks = mblks
-        self._handle = _Handle()
+        self.id, self.mblks, self._handle = next(_ids) if id is None else id, mblks, _Handle()
         self._lent: List[memoryview] = []
         _call("open", ctypes.byref(self._handle), ctypes.byref(_with_config(self.id, mblks, classes, queues, bufcalls, first_id)))
         self.queues = [Queue(self, number) for number in range(len(queues))]
@@ -258,9 +255,8 @@ class Pool:
         return "<Pool {}: free={} queued={} held={}>".format(self.id, *self.census()) if self.is_open() else f"<Pool {self.id}, closed>"
 
     @staticmethod
-    def memory(
-        mblks: int, classes: Sequence[Tuple[int, int]], queues: Sequence[QueueSpec], bufcalls: int = 0, first_id: int = 1, id: int = 1
-    ) -> int:
+    def memory(mblks: int, classes: Sequence[Tuple[int, int]], queues: Sequence[QueueSpec], bufcalls: int = 0, first_id: int = 1,
+               id: int = 1) -> int:
         """strm_memory"""
         bytes = ctypes.c_size_t()
         _call("memory", ctypes.byref(_with_config(id, mblks, classes, queues, bufcalls, first_id)), ctypes.byref(bytes))
@@ -313,8 +309,7 @@ class Pool:
 
     def next_service(self) -> Optional[Queue]:
         """Takes the first queue off the run list."""
-        number = self._found("next_service")
-        return None if number is None else self.queues[number]
+        return None if (number := self._found("next_service")) is None else self.queues[number]
 
     def run_at(self, place: int) -> Optional[int]:
         return self._found("run_at", place)
