@@ -1,11 +1,10 @@
 -- Queues that are held back: each is enabled again, so all queues stay awake, and a run ends once all on the run list are held back.
-use Rattle.std.proofs.Common.{◌≡◌, ℕ, zero, suc, ◌+◌, ◌<◌, ◌≤◌, inl, inr, true, false, not, ◌&&◌, List, [], ◌∷◌, ◌++◌, drop, length, Some, refl, sym, ap, ◌∙◌, subst, arith, append-nil, append_assoc, length-append, if◌then◌else◌}
+use Rattle.std.proofs.Common.{◌≡◌, ℕ, zero, suc, ◌+◌, ◌<◌, ◌≤◌, inl, inr, Bool, true, false, not, ◌&&◌, List, [], ◌∷◌, ◌++◌, drop, length, Some, refl, sym, ap, ◌∙◌, subst, arith, append-nil, append_assoc, length-append, if◌then◌else◌}
 use Rattle.std.specs.Prelude.{is_some, nat_lt, slice_get}
 use Rattle.std.specs.List.{All}
 use Rattle.std.proofs.lemmas.Bool.{cases_eq, false≢true}
 use Rattle.std.proofs.lemmas.List.Elements.{All-nil, All-push, All-same, All-weaker}
 use Rattle.strm_links.specs.Rows as rows
-use Rattle.strm_mblk.specs.BlockCalls.{testb}
 use Rattle.strm_pool.specs.PoolValue.{PoolValue, has_queue, queued_blocks_of}
 use Rattle.strm_queue.specs.declared.queue_spec.QueueSpec.{QueueSpec}
 use Rattle.strm_queue.specs.Flow.{QueueState, flags_at, spec_at, with_enabled}
@@ -15,6 +14,7 @@ use Rattle.strm_scheduler.specs.Awake.{is_awake}
 use Rattle.strm_scheduler.specs.Holding.{AreLastHeldBack, IsTurned, with_run, work_left}
 use Rattle.strm_scheduler.specs.Laws.{AreKeptAwake}
 use Rattle.strm_scheduler.specs.Modules.{AreHeldBack, IsHeldBack, Needs, with_queue_enabled}
+use Rattle.strm_scheduler.specs.Needs.{are_free, can_be_free}
 use Rattle.strm_scheduler.specs.Serving.{IsBegun, IsServing}
 use Rattle.strm_scheduler.specs.Sides.{AreSides, next_of}
 use Rattle.strm_scheduler.specs.Work.{most_powers, powers, times_of, weigh, work}
@@ -60,25 +60,27 @@ module _ (q n : ℕ) (v : PoolValue) (s : IsServing q n v) where
 -- ---- what is held back stays so while only the run list changes
 
 module _ {M : Type 0} (needs : Needs M) (m : M) where
-  pub held_alike : (q : ℕ) (v w : PoolValue) → w.queues.specs ≡ v.queues.specs → w.arena ≡ v.arena → IsHeldBack needs m q v → IsHeldBack needs m q w
-  held_alike q v w specs arena held = record {
+  pub held_alike : (q : ℕ) (v w : PoolValue) (ever : Bool) → w.queues.specs ≡ v.queues.specs → w.arena ≡ v.arena → IsHeldBack needs m q v ever → IsHeldBack needs m q w ever
+  held_alike q v w ever specs arena held = record {
     first = held.first;
     found = (λ i. queued_at q 0 (record { queues = record w.queues { specs = specs i }; arena = arena i })) ∙ held.found;
-    size = held.size;
+    asked = held.asked;
+    same = arena ∙ held.same;
+    need = held.need;
     needed = held.needed;
-    none = ap (testb held.size) arena ∙ held.none;
+    none = ap (are_free held.need) arena ∙ held.none;
+    can_be = ap (can_be_free held.need) arena ∙ held.can_be;
   }
 
   -- the first queue of the run list of v left it, is held back, and was enabled again
-  pub turned : (q n : ℕ) (v x w : PoolValue) → IsBegun q n v x → IsHeldBack needs m q x → w ≡ with_queue_enabled q x → IsTurned needs m v m w
-  turned q n v x w begun held after =
+  pub turned : (q n : ℕ) (v x w : PoolValue) (ever : Bool) → IsBegun q n v x → IsHeldBack needs m q x ever → w ≡ with_queue_enabled q x → IsTurned needs q ever m v m w
+  turned q n v x w ever begun held after =
       let last : w ≡ with_run (x.queues.run ++ q ∷ []) x = after ∙ enabled_last q n x begun.serving begun.once in
       record {
-        queue = q;
         rest = x.queues.run;
         run = begun.run;
         after = last ∙ ap (with_run (x.queues.run ++ q ∷ [])) begun.after;
-        held = held_alike q x w (ap (λ (p : PoolValue). p.queues.specs) last) (ap (λ (p : PoolValue). p.arena) last) held;
+        held = held_alike q x w ever (ap (λ (p : PoolValue). p.queues.specs) last) (ap (λ (p : PoolValue). p.arena) last) held;
         same = refl;
       }
 
@@ -90,21 +92,22 @@ module _ {M : Type 0} (needs : Needs M) (m : M) where
     back = [];
     run = sym (append-nil v.queues.run);
     count_is = refl;
-    held = All-nil (λ q. IsHeldBack needs m q v);
+    held = All-nil (λ q. IsHeldBack needs m q v true);
   }
 
   -- one more is held back
-  pub last_more : (k : M) (v w : PoolValue) (count : ℕ) → count < length v.queues.run → AreLastHeldBack needs m count v → IsTurned needs m v k w → AreLastHeldBack needs k (count + 1) w
-  last_more k v w count few before step = subst (λ (l : M). AreLastHeldBack needs l (count + 1) w) (sym step.same) (by_front before.front before.run)
+  pub last_more : (k : M) (v w : PoolValue) (count queue : ℕ) → count < length v.queues.run → AreLastHeldBack needs m count v → IsTurned needs queue true m v k w
+      → AreLastHeldBack needs k (count + 1) w
+  last_more k v w count queue few before step = subst (λ (l : M). AreLastHeldBack needs l (count + 1) w) (sym step.same) (by_front before.front before.run)
     where
-      here : IsHeldBack needs m step.queue w
-      here = subst (λ (l : M). IsHeldBack needs l step.queue w) step.same step.held
+      here : IsHeldBack needs m queue w true
+      here = subst (λ (l : M). IsHeldBack needs l queue w true) step.same step.held
 
-      all : All (λ q. IsHeldBack needs m q w) (before.back ++ step.queue ∷ [])
+      all : All (λ q. IsHeldBack needs m q w true) (before.back ++ queue ∷ [])
       all =
-          All-push (λ q. IsHeldBack needs m q w) before.back step.queue
-          (All-weaker (λ q. IsHeldBack needs m q v) (λ q. IsHeldBack needs m q w)
-          (λ q held. held_alike q v w (ap (λ (p : PoolValue). p.queues.specs) step.after) (ap (λ (p : PoolValue). p.arena) step.after) held) before.back before.held)
+          All-push (λ q. IsHeldBack needs m q w true) before.back queue
+          (All-weaker (λ q. IsHeldBack needs m q v true) (λ q. IsHeldBack needs m q w true)
+          (λ q held. held_alike q v w true (ap (λ (p : PoolValue). p.queues.specs) step.after) (ap (λ (p : PoolValue). p.arena) step.after) held) before.back before.held)
           here
 
       by_front : (front : List ℕ) → v.queues.run ≡ front ++ before.back → AreLastHeldBack needs m (count + 1) w
@@ -113,9 +116,9 @@ module _ {M : Type 0} (needs : Needs M) (m : M) where
           let rest : step.rest ≡ front ++ before.back = ap (drop 1) (sym step.run ∙ is) in
           record {
             front = front;
-            back = before.back ++ step.queue ∷ [];
-            run = ap (λ (x : PoolValue). x.queues.run) step.after ∙ ap (λ (qs : List ℕ). qs ++ step.queue ∷ []) rest ∙ append_assoc front before.back (step.queue ∷ []);
-            count_is = omega (arith, length-append before.back (step.queue ∷ []), before.count_is);
+            back = before.back ++ queue ∷ [];
+            run = ap (λ (x : PoolValue). x.queues.run) step.after ∙ ap (λ (qs : List ℕ). qs ++ queue ∷ []) rest ∙ append_assoc front before.back (queue ∷ []);
+            count_is = omega (arith, length-append before.back (queue ∷ []), before.count_is);
             held = all;
           }
 
@@ -124,12 +127,12 @@ module _ {M : Type 0} (needs : Needs M) (m : M) where
   last_all v count few last = by_front last.front last.run
     where
       by_front : (front : List ℕ) → v.queues.run ≡ front ++ last.back → AreHeldBack needs m v × (length v.queues.run ≡ count)
-      by_front [] is = (All-same (λ q. IsHeldBack needs m q v) v.queues.run last.back is last.held, ap length is ∙ last.count_is)
+      by_front [] is = (All-same (λ q. IsHeldBack needs m q v true) v.queues.run last.back is last.held, ap length is ∙ last.count_is)
       by_front (p ∷ front) is = absurd (omega (arith, few, ap length is, length-append front last.back, last.count_is))
 
 -- ---- places of the run list
 
-pub place_within : (xs : List ℕ) (k : ℕ) → is_some (slice_get xs k) ≡ true → k < length xs
+pub place_within : {X : Type 0} (xs : List X) (k : ℕ) → is_some (slice_get xs k) ≡ true → k < length xs
 place_within [] k there = absurd (false≢true there)
 place_within (x ∷ xs) zero there = omega arith
 place_within (x ∷ xs) (suc k) there = let rest = place_within xs k there in omega (arith, rest)
@@ -146,19 +149,20 @@ none_long (x ∷ xs) is = absurd (omega (arith, is))
 -- ---- the work falls
 
 -- the run list is turned: the work is the same, and one queue fewer is left to find held back
-turned_work : {M : Type 0} (needs : Needs M) (m k : M) (v w : PoolValue) → IsTurned needs m v k w → work (queued_blocks_of w) ≡ work (queued_blocks_of v)
+turned_work : {M : Type 0} (needs : Needs M) (m k : M) (v w : PoolValue) (queue : ℕ) (ever : Bool) → IsTurned needs queue ever m v k w → work (queued_blocks_of w) ≡ work (queued_blocks_of v)
 unfolding work
-turned_work needs m k v w step =
-    let joined = powers-append step.rest (step.queue ∷ []) in
-    let same : powers (step.rest ++ step.queue ∷ []) ≡ powers (step.queue ∷ step.rest) = omega (arith, joined) in
+turned_work needs m k v w queue ever step =
+    let joined = powers-append step.rest (queue ∷ []) in
+    let same : powers (step.rest ++ queue ∷ []) ≡ powers (queue ∷ step.rest) = omega (arith, joined) in
     ap (λ (p : PoolValue). work (queued_blocks_of p)) step.after
     ∙ ap (λ k. times_of (weigh v.arena.shelves) (most_powers (length v.queues.specs)) + k) (same ∙ ap powers (sym step.run))
 
-pub turned_left : {M : Type 0} (needs : Needs M) (m k : M) (v w : PoolValue) (held : ℕ) → IsTurned needs m v k w → held < length v.queues.run → work_left w (held + 1) < work_left v held
-turned_left needs m k v w held step few =
-    let same = ap (λ left. times_of left (suc most_queues)) (turned_work needs m k v w step) in
+pub turned_left : {M : Type 0} (needs : Needs M) (m k : M) (v w : PoolValue) (held queue : ℕ) (ever : Bool) → IsTurned needs queue ever m v k w → held < length v.queues.run
+    → work_left w (held + 1) < work_left v held
+turned_left needs m k v w held queue ever step few =
+    let same = ap (λ left. times_of left (suc most_queues)) (turned_work needs m k v w queue ever step) in
     let long = ap (λ (p : PoolValue). length p.queues.run) step.after in
-    let joined = length-append step.rest (step.queue ∷ []) in
+    let joined = length-append step.rest (queue ∷ []) in
     let before = ap length step.run in
     omega (arith, few, same, long, joined, before)
 

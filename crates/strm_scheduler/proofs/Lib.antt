@@ -17,3 +17,4 @@ pub mod Opening
 pub mod Unchanged
 pub mod Treated
 pub mod Holding
+pub mod Needing

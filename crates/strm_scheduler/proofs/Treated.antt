@@ -59,6 +59,9 @@ module _ (q n : ℕ) (v : PoolValue) (law : IsLawful v) (s : IsServing q n v) wh
   pub next_there : has_queue v n ≡ true
   next_there = lt-ltb n (length v.queues.specs) (hop_ahead v.queues.specs law.lawful_queues q n s.next).there
 
+  pub queue_there : has_queue v q ≡ true
+  queue_there = lt-ltb q (length v.queues.specs) (hop_within v.queues.specs law.lawful_queues q n s.next)
+
   n_within : n < length v.arena.shelves
   n_within = omega (arith, (hop_ahead v.queues.specs law.lawful_queues q n s.next).there, law.shelves)
 

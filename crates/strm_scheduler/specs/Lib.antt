@@ -7,5 +7,6 @@ pub mod Order
 pub mod Laws
 pub mod Work
 pub mod Serving
+pub mod Needs
 pub mod Modules
 pub mod Holding

@@ -1,17 +1,21 @@
 -- What the service procedures of a module did, by what the module can do with a message.
-use Rattle.std.specs.Prelude.{◌≡◌, ◌⊎◌, ℕ, zero, suc, Bool, true, false, Option, None, Some, Ok}
+use Rattle.std.specs.Prelude.{◌≡◌, ◌<◌, ◌⊎◌, ℕ, zero, suc, Bool, true, false, IfSome, IsTrue, List, [], ◌∷◌, ◌++◌, length, Option, None, Some, Ok}
 use Rattle.std.specs.List.{All}
 use Rattle.strm_mblk.specs.declared.token.TokenValue.{TokenValue}
+use Rattle.strm_scheduler.specs.declared.ended.Ended.{Ended}
+use Rattle.strm_scheduler.specs.declared.ended.Ended.TheVariants.{Idle, HeldBack, NeverMet}
+use Rattle.strm_scheduler.specs.declared.need.Need.{Need}
 use Rattle.strm_scheduler.specs.Handing.{handed_on}
 use Rattle.strm_links.specs.Rows as rows
-use Rattle.strm_mblk.specs.Arena.{Arena}
-use Rattle.strm_mblk.specs.BlockCalls.{testb}
+use Rattle.strm_mblk.specs.Arena.{has, message_at}
 use Rattle.strm_mblk.specs.Given.{value_after}
 use Rattle.strm_pool.specs.PoolValue.{PoolValue, on_queues, queued_blocks_of, with_queued}
 use Rattle.strm_queue.specs.declared.queued_info.QueuedInfo.{QueuedInfo}
 use Rattle.strm_queue.specs.Flow.{with_enabled}
 use Rattle.strm_queue.specs.QueueCalls.{next_service, putq}
-use Rattle.strm_queue.specs.QueueLooks.{queued_at}
+use Rattle.strm_queue.specs.QueueLooks.{info_of_message, queued_at}
+use Rattle.strm_scheduler.specs.Laws.{KeepsQueued}
+use Rattle.strm_scheduler.specs.Needs.{are_free, can_be_free}
 use Rattle.strm_scheduler.specs.Sides.{next_of}
 use Rattle.strm_scheduler.specs.Serving.{IsTaken}
 
@@ -20,34 +24,51 @@ use Rattle.strm_scheduler.specs.Serving.{IsTaken}
 abbrev pub Treats : Type 0 → Type 1
 Treats M = M → PoolValue → ℕ → TokenValue → Option TokenValue → M → PoolValue → Type 0
 
--- ---- messages that are held back
-
--- `needs m q first need`: for the first message of queue q, which is like this, the module m can say that it needs a block of
--- this size, or none
+-- `needs m v q first need`: for the first message of queue q, which is like this, the module m can say, with pool v, that it needs
+-- this
 abbrev pub Needs : Type 0 → Type 1
-Needs M = M → ℕ → QueuedInfo → Option ℕ → Type 0
+Needs M = M → PoolValue → ℕ → QueuedInfo → Need → Type 0
 
--- no block is needed, or one of this size is free
-abbrev pub is_free : Option ℕ → Arena → Bool
-is_free None a = true
-is_free (Some size) a = testb size a
+-- ---- messages that are held back
 
 -- The first message of queue q, if there is one, is not held back: what the module needs for it is free.
 abbrev pub IsMet : {M : Type 0} → Needs M → M → ℕ → PoolValue → Type 0
 IsMet needs m q v = (first : QueuedInfo) → queued_at q 0 (queued_blocks_of v) ≡ Ok first
-    → (need : Option ℕ) × needs m q first need × (is_free need v.arena ≡ true)
+    → (need : Need) × needs m v q first need × (are_free need v.arena ≡ true)
 
--- The first message of queue q is held back: the module needs a block for it, of a size of which none is free.
-pub record IsHeldBack {M : Type 0} (needs : Needs M) (m : M) (q : ℕ) (v : PoolValue) : Type 0 where
+-- The first message of queue q is held back: what the module needs for it is not free. When the module was asked, the messages were
+-- the same. `ever` says whether the pool has as much.
+pub record IsHeldBack {M : Type 0} (needs : Needs M) (m : M) (q : ℕ) (v : PoolValue) (ever : Bool) : Type 0 where
   pub first : QueuedInfo
   pub found : queued_at q 0 (queued_blocks_of v) ≡ Ok first
-  pub size : ℕ
-  pub needed : needs m q first (Some size)
-  pub none : testb size v.arena ≡ false
+  pub asked : PoolValue
+  pub same : v.arena ≡ asked.arena
+  pub need : Need
+  pub needed : needs m asked q first need
+  pub none : are_free need v.arena ≡ false
+  pub can_be : can_be_free need v.arena ≡ ever
 
--- each queue on the run list is held back
+-- each queue on the run list is held back, and what it needs can become free
 abbrev pub AreHeldBack : {M : Type 0} → Needs M → M → PoolValue → Type 0
-AreHeldBack needs m v = All (λ q. IsHeldBack needs m q v) v.queues.run
+AreHeldBack needs m v = All (λ q. IsHeldBack needs m q v true) v.queues.run
+
+-- What a run leaves, by what it returns. A queue whose need is never met is the last one on the run list.
+abbrev pub IsEnded : {M : Type 0} → Needs M → M → PoolValue → Ended → Type 0
+IsEnded needs m v Idle = v.queues.run ≡ []
+IsEnded needs m v HeldBack = (0 < length v.queues.run) × AreHeldBack needs m v
+IsEnded needs m v (NeverMet q) = IsHeldBack needs m q v false × ((before : List ℕ) × (v.queues.run ≡ before ++ q ∷ []))
+
+-- The message of token t was the first one of queue q, and is held. When the module was asked, with pool `asked`, it needed what is
+-- free now.
+pub record IsReady {M : Type 0} (needs : Needs M) (m : M) (q : ℕ) (t : TokenValue) (v : PoolValue) : Type 0 where
+  pub asked : PoolValue
+  pub next : ℕ
+  pub taken : IsTaken q next t asked v
+  pub first : QueuedInfo
+  pub like : info_of_message v.arena.store (message_at v.arena t.head) ≡ Ok first
+  pub need : Need
+  pub needed : needs m asked q first need
+  pub free : are_free need v.arena ≡ true
 
 -- queue q is enabled
 abbrev pub with_queue_enabled : ℕ → PoolValue → PoolValue
@@ -63,13 +84,15 @@ with_any_put n (Some t) v = value_after v (on_queues v (putq n t.head (queued_bl
 -- the first message of queue q was not held back and could go on to queue n: it was taken and treated, and what the module
 -- returned was put on queue n
 pub record IsTreated {M : Type 0} (needs : Needs M) (treats : Treats M) (q n : ℕ) (m : M) (v : PoolValue) (k : M) (w : PoolValue) : Type 0 where
-  pub met : IsMet needs m q v
   pub token : TokenValue
   pub held : PoolValue
   pub taken : IsTaken q n token v held
+  pub ready : IsReady needs m q token held
   pub returned : Option TokenValue
   pub left : PoolValue
   pub treated : treats m held q token returned k left
+  pub keeps : KeepsQueued held left
+  pub had : IfSome returned (λ t. IsTrue (has left.arena t))
   pub put : w ≡ with_any_put n returned left
 
 -- a number of messages of queue q were treated, one after another
@@ -81,7 +104,7 @@ AreTreated {M} needs treats q n (suc count) m v k w = (l : M) × (x : PoolValue)
 -- queue was enabled again.
 abbrev pub Ends : {M : Type 0} → Needs M → ℕ → ℕ → M → PoolValue → PoolValue → Type 0
 Ends needs q n m v w = (IsMet needs m q v × (handed_on q n (queued_blocks_of v) ≡ (false, queued_blocks_of w)))
-    ⊎ (IsHeldBack needs m q v × (w ≡ with_queue_enabled q v))
+    ⊎ ((ever : Bool) × IsHeldBack needs m q v ever × (w ≡ with_queue_enabled q v))
 
 -- queue q was served: messages were treated, until the service ended
 pub record IsQueueTreated {M : Type 0} (needs : Needs M) (treats : Treats M) (q n : ℕ) (m : M) (v : PoolValue) (k : M) (w : PoolValue) : Type 0 where

@@ -2,7 +2,9 @@
 //! enabled. No wake-up is lost: a message waits only for a band that is wanted, or for a block where none is free.
 #![tactic(auto)]
 
+mod ended;
 mod module;
+mod need;
 mod passing;
 mod service;
 mod serving;
@@ -11,7 +13,9 @@ mod sides_fault;
 mod starting;
 mod treating;
 
+pub use ended::Ended;
 pub use module::Module;
+pub use need::{MOST_SIZES, Need};
 pub use passing::Passing;
 pub use service::{forward, may_go};
 pub use sides::Sides;

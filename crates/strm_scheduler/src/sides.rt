@@ -1,5 +1,5 @@
 //! Sides of streams over a pool.
-ghost use Rattle.std.specs.Prelude.{◌≡◌, ◌≤◌, ◌<◌, ℕ, IsTrue, Ok, [], None, false, length};
+ghost use Rattle.std.specs.Prelude.{◌≡◌, ◌≤◌, ℕ, IsTrue, Ok, [], None, length};
 ghost use Rattle.std.specs.Fn.{FnOnceReturnsAtMut, FnOnceTakesAtMut};
 ghost use Rattle.strm_mblk.specs.Arena.{has};
 ghost use Rattle.strm_mblk.specs.BlockCalls as blocks;
@@ -9,10 +9,11 @@ ghost use Rattle.strm_queue.specs.QueueCalls as queues;
 ghost use Rattle.strm_scheduler.specs.Awake.{AreAllEmpty, AreEndsEmpty};
 ghost use Rattle.strm_scheduler.specs.Laws.{AreKeptAwake, KeepsQueued, take};
 ghost use Rattle.strm_scheduler.specs.Sides.{SidesOpen, fault_from, fault_of_queue, next_of};
-ghost use Rattle.strm_scheduler.specs.Modules.{AreHeldBack, IsRunWith};
+ghost use Rattle.strm_scheduler.specs.Modules.{IsEnded, IsRunWith};
 ghost use Rattle.strm_scheduler.specs.Order.{KeepsOrder};
 ghost use Rattle.strm_scheduler.specs.Running.{IsServed};
 
+use crate::ended::Ended;
 use crate::module::Module;
 use crate::serving::serve_all;
 use crate::sides_fault::SidesFault;
@@ -151,13 +152,11 @@ impl Sides {
 
     /// As `run`, but a module treats each message on its way, after it has left its queue and before it goes to the next one.
     ///
-    /// A message is held back while the module needs a block for it ([`Module::need`]) of a size of which none is free. It
-    /// stays first on its queue, which stays enabled. Other queues are served meanwhile. Returns whether a message is held
-    /// back at the end; then free blocks, and call `run_with` again.
-    pub fn run_with<M: Module>(&mut self, handler: &mut M) -> bool
-        ensures idle { result ≡ false → self.new.queues.run ≡ [] }
-        ensures busy { IsTrue result → 0 < length self.new.queues.run }
-        ensures held { AreHeldBack M.needs handler.new self.new }
+    /// A message is held back while what the module needs for it ([`Module::need`]) is not free. It stays first on its queue,
+    /// which stays enabled. Other queues are served meanwhile. If messages are held back at the end (`HeldBack`), free blocks,
+    /// and call `run_with` again. A need that the pool can never meet ends the run at once (`NeverMet`).
+    pub fn run_with<M: Module>(&mut self, handler: &mut M) -> Ended
+        ensures ended { IsEnded M.needs handler.new self.new result }
         ensures treated { IsRunWith M.needs M.treats handler.old self.old handler.new self.new }
     {
         treat_all(&mut self.pool, handler)

@@ -6,61 +6,72 @@ ghost use Rattle.strm_mblk.specs.declared.token.TokenValue.{TokenValue};
 ghost use Rattle.strm_mblk.specs.Arena.{has};
 ghost use Rattle.strm_pool.specs.PoolValue.{PoolValue, has_queue, queued_blocks_of};
 ghost use Rattle.strm_scheduler.specs.Holding.{IsTurned};
-ghost use Rattle.strm_scheduler.specs.Laws.{AreKeptAwake};
-ghost use Rattle.strm_scheduler.specs.Modules.{AreHeldBack, IsFirstTreated, IsHeldBack, IsMet, IsQueueTreated, IsRunWith, IsTreated, with_any_put, with_queue_enabled};
+ghost use Rattle.strm_scheduler.specs.Laws.{AreKeptAwake, KeepsQueued};
+ghost use Rattle.strm_scheduler.specs.Modules.{IsEnded, IsFirstTreated, IsHeldBack, IsMet, IsQueueTreated, IsReady, IsRunWith, IsTreated, with_any_put, with_queue_enabled};
 ghost use Rattle.strm_scheduler.specs.Serving.{FallsBy, IsServing, KeepsAllowed, TakesTo};
 ghost use Rattle.strm_scheduler.specs.Work.{from_here, power, powers, weigh, work};
 
+use crate::ended::Ended;
 use crate::module::Module;
 use crate::service::may_go;
 use crate::starting::begin;
 use strm_pool::{Pool, Token};
 
-// Takes queues off the run list and serves them, until all that are left on it are held back. Says whether there are any.
-pub(crate) fn treat_all<M: Module>(pool: &mut Pool, handler: &mut M) -> bool
+// A queue that was found held back: its number, and whether what is needed for its first message can become free.
+#[derive(Clone, Copy)]
+struct Held {
+    queue: u8,
+    ever: bool,
+}
+
+// Takes queues off the run list and serves them, until all that are left on it are held back, or the need of one is never met.
+pub(crate) fn treat_all<M: Module>(pool: &mut Pool, handler: &mut M) -> Ended
     requires { AreKeptAwake pool.old }
     ensures awake { AreKeptAwake pool.new }
-    ensures idle { result ≡ false → pool.new.queues.run ≡ [] }
-    ensures busy { IsTrue result → 0 < length pool.new.queues.run }
-    ensures held { AreHeldBack M.needs handler.new pool.new }
+    ensures ended { IsEnded M.needs handler.new pool.new result }
     ensures treated { IsRunWith M.needs M.treats handler.old pool.old handler.new pool.new }
     ensures specs { pool.new.queues.specs ≡ pool.old.queues.specs }
 {
     // How many queues were held back since the last service. They are at the end of the run list.
-    let mut held = 0;
-    while pool.run_at(held).is_some() {
+    let mut count = 0;
+    while pool.run_at(count).is_some() {
         pool.lawful();
-        if treat_first(pool, handler) {
-            held = 0;
-        } else {
-            held += 1;
+        match treat_first(pool, handler) {
+            None => count = 0,
+            Some(held) if held.ever => count += 1,
+            Some(held) => return Ended::NeverMet(held.queue),
         }
     }
-    held > 0
+    if count > 0 {
+        Ended::HeldBack
+    } else {
+        Ended::Idle
+    }
 }
 
-// Takes the first queue off the run list. If it is held back, puts it at the end of the list; otherwise serves it. Says whether
-// it was served.
-fn treat_first<M: Module>(pool: &mut Pool, handler: &mut M) -> bool
+// Takes the first queue off the run list. If it is held back, puts it at the end of the list, and returns it; otherwise serves
+// it.
+fn treat_first<M: Module>(pool: &mut Pool, handler: &mut M) -> Option<Held>
     requires awake { AreKeptAwake pool.old }
     requires some { 0 < length pool.old.queues.run }
     ensures awake { AreKeptAwake pool.new }
     ensures treated { IsFirstTreated M.needs M.treats handler.old pool.old handler.new pool.new }
-    ensures falls { IsTrue result → work (queued_blocks_of pool.new) < work (queued_blocks_of pool.old) }
-    ensures short { IsTrue result → length pool.new.queues.run ≤ length pool.new.queues.specs }
-    ensures turned { result ≡ false → IsTurned M.needs handler.old pool.old handler.new pool.new }
+    ensures falls { result ≡ None → work (queued_blocks_of pool.new) < work (queued_blocks_of pool.old) }
+    ensures short { result ≡ None → length pool.new.queues.run ≤ length pool.new.queues.specs }
+    ensures turned { IfSome result (λ held.
+        IsTurned M.needs held.queue held.ever handler.old pool.old handler.new pool.new) }
     ensures specs { pool.new.queues.specs ≡ pool.old.queues.specs }
 {
     let Some((queue, next)) = begin(pool) else {
         unreachable!()
     };
-    if is_held_back(pool, handler, queue) {
+    if let Some(ever) = held_back(pool, handler, queue) {
         enable(pool, queue);
-        return false;
+        return Some(Held { queue, ever });
     }
     treat_queue(pool, handler, queue, next);
     pool.lawful();
-    true
+    None
 }
 
 // Serves a queue that is not held back: its messages are treated and go on to the next queue, until none is left, one may not
@@ -75,24 +86,26 @@ fn treat_queue<M: Module>(pool: &mut Pool, handler: &mut M, queue: u8, next: u8)
     ensures specs { pool.new.queues.specs ≡ pool.old.queues.specs }
 {
     while treat_one(pool, handler, queue, next) {
-        if is_held_back(pool, handler, queue) {
+        if let Some(_ever) = held_back(pool, handler, queue) {
             enable(pool, queue);
             return;
         }
     }
 }
 
-// Whether the first message of a queue is held back: the module needs a block for it, of a size of which none is free.
-fn is_held_back<M: Module>(pool: &Pool, handler: &M, queue: u8) -> bool
-    ensures held { IsTrue result → IsHeldBack M.needs handler.now queue pool.now }
-    ensures met { result ≡ false → IsMet M.needs handler.now queue pool.now }
+// Whether what the module needs for the first message of a queue can become free; none if it is free, or there is no message.
+fn held_back<M: Module>(pool: &Pool, handler: &M, queue: u8) -> Option<bool>
+    ensures held { IfSome result (λ ever. IsHeldBack M.needs handler.now queue pool.now ever) }
+    ensures met { result ≡ None → IsMet M.needs handler.now queue pool.now }
 {
     let Ok(first) = pool.queued_at(queue, 0) else {
-        return false;
+        return None;
     };
-    match handler.need(queue, &first) {
-        Some(size) => !pool.testb(size),
-        None => false,
+    let need = handler.need(pool, queue, &first);
+    if need.is_free(pool) {
+        None
+    } else {
+        Some(need.can_be_free(pool))
     }
 }
 
@@ -136,9 +149,11 @@ fn pass_on<M: Module>(pool: &mut Pool, handler: &mut M, queue: u8, next: u8, tok
     requires has { IsTrue (has pool.old.arena token) }
     requires ahead { IsTrue (has_queue pool.old next) }
     requires serving { IsServing queue next pool.old }
+    requires ready { IsReady M.needs handler.old queue token pool.old }
     ensures serving { IsServing queue next pool.new }
     ensures treated { (returned : Option TokenValue) × (left : PoolValue)
         × M.treats handler.old pool.old queue token returned handler.new left
+        × KeepsQueued pool.old left × IfSome returned (λ t. IsTrue (has left.arena t))
         × (pool.new ≡ with_any_put next returned left) }
     ensures more { weigh pool.new.arena.shelves ≤ weigh pool.old.arena.shelves + from_here pool.old.arena.shelves next }
     ensures specs { pool.new.queues.specs ≡ pool.old.queues.specs }

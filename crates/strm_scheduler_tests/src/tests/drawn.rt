@@ -9,7 +9,7 @@ use super::{MESSAGES, QUEUES, opened, queue};
 use std::alloc::Global;
 use std::process::Abort;
 use strm_pool::{QueueSpec, Refusal};
-use strm_scheduler::Sides;
+use strm_scheduler::{Ended, Sides};
 
 // The ways in which queues are served.
 const WAYS: [Way; 5] = [Way::Forward, Way::Pass, Way::Mark, Way::Drop, Way::Borrow];
@@ -181,9 +181,9 @@ impl Drawn {
 
     // Serves queues until none is enabled, or each one that is enabled is held back.
     fn run(&mut self, rt: &impl Abort, way: Way) {
-        let held = way.run(&mut self.sides);
-        assert_eq!(rt; held, self.plain.run(rt, way));
-        if held {
+        let ended = way.run(&mut self.sides);
+        assert_eq!(rt; ended, self.plain.run(rt, way));
+        if ended == Ended::HeldBack {
             self.held = self.held.wrapping_add(1);
         }
         if self.plain.waits() {

@@ -1,11 +1,14 @@
-//! A module of each kind: one passes messages on, one changes their bytes, one drops some of them, and one needs blocks.
-ghost use Rattle.std.specs.Prelude.{◌≡◌, IfSome, IsTrue, None};
+//! A module of each kind: one passes messages on, one changes their bytes, one drops some of them, one needs blocks, and one
+//! needs more than there are.
+ghost use Rattle.std.specs.Prelude.{◌≡◌, ◌<◌, IfSome, IsTrue, [], ◌∷◌, false};
 ghost use Rattle.strm_mblk.specs.Arena.{has};
+ghost use Rattle.strm_mblk.specs.BlockCalls.{testb};
 ghost use Rattle.strm_scheduler.specs.Laws.{KeepsQueued};
 
+use super::MOST;
 use super::plain::Standing;
 use strm_pool::{Pool, QueuedInfo, Token};
-use strm_scheduler::{Module, Passing, Sides};
+use strm_scheduler::{Ended, Module, Need, Passing, Sides};
 
 // The byte that a module writes over the first one of a message.
 const MARK: u8 = 255;
@@ -23,6 +26,8 @@ pub(super) enum Way {
     Drop,
     // `run_with` and `Borrowing`
     Borrow,
+    // `run_with` and `Greedy`
+    Greed,
 }
 
 // Writes over the first byte of a message, if it has one.
@@ -33,9 +38,13 @@ struct Marking;
 #[derive(Clone, Copy)]
 struct Dropping;
 
-// Frees each message of one byte. Needs a block for each longer one, and frees it again; without a block, it frees the message.
+// Frees each message of one byte. Needs a block for each longer one, as large as it, allocates it and frees it again.
 #[derive(Clone, Copy)]
 struct Borrowing;
+
+// Needs a larger block than there is for each message of two bytes.
+#[derive(Clone, Copy)]
+struct Greedy;
 
 fn marked(pool: &mut Pool, token: Token) -> Option<Token>
     requires { IsTrue (has pool.old.arena token) }
@@ -58,44 +67,29 @@ fn dropped(pool: &mut Pool, token: Token) -> Option<Token>
     None
 }
 
-// Allocates a block and frees it again. Says whether a block was free.
-fn is_lent(pool: &mut Pool) -> bool
+// Allocates a block, which is free, and frees it again.
+fn lend(pool: &mut Pool, size: u32)
+    requires { IsTrue (testb size pool.old.arena) }
     ensures { KeepsQueued pool.old pool.new }
 {
-    match pool.allocb(1) {
-        Ok(block) => {
-            pool.freemsg(block);
-            true
-        }
-        Err(_) => false,
+    match pool.allocb(size) {
+        Ok(block) => pool.freemsg(block),
+        Err(_) => unreachable!(),
     }
 }
 
-// Passes a message on if a block is free. Otherwise frees it.
-fn lent(pool: &mut Pool, token: Token) -> Option<Token>
+// Passes a message on, after a block of this size was lent.
+fn lent(pool: &mut Pool, token: Token, size: u32) -> Option<Token>
+    requires { IsTrue (testb size pool.old.arena) }
     ensures keeps { KeepsQueued pool.old pool.new }
     ensures had { IfSome result (λ treated. IsTrue (has pool.new.arena treated)) }
 {
-    if is_lent(pool) && pool.has(&token) {
+    lend(pool, size);
+    if pool.has(&token) {
         return Some(token);
     }
     pool.freemsg(token);
     None
-}
-
-fn borrowed(pool: &mut Pool, token: Token) -> Option<Token>
-    requires { IsTrue (has pool.old.arena token) }
-    ensures keeps { KeepsQueued pool.old pool.new }
-    ensures had { IfSome result (λ treated. IsTrue (has pool.new.arena treated)) }
-{
-    match pool.size(&token) {
-        0 => Some(token),
-        1 => {
-            pool.freemsg(token);
-            None
-        }
-        _ => lent(pool, token),
-    }
 }
 
 const fn is_dropped(head: u32) -> bool {
@@ -103,12 +97,12 @@ const fn is_dropped(head: u32) -> bool {
 }
 
 impl Module for Marking {
-    ghost needs = { λ m q i r. r ≡ None };
+    ghost needs = { λ m v q i r. r ≡ record { sizes = []; mblks = 0; later = false } };
 
     ghost treats = { λ m v q t r n w. w ≡ w };
 
-    fn need(&self, _queue: u8, _first: &QueuedInfo) -> Option<u32> {
-        None
+    fn need(&self, _pool: &Pool, _queue: u8, _first: &QueuedInfo) -> Need {
+        Need::none()
     }
 
     fn treat(&mut self, pool: &mut Pool, _queue: u8, token: Token) -> Option<Token> {
@@ -117,12 +111,12 @@ impl Module for Marking {
 }
 
 impl Module for Dropping {
-    ghost needs = { λ m q i r. r ≡ None };
+    ghost needs = { λ m v q i r. r ≡ record { sizes = []; mblks = 0; later = false } };
 
     ghost treats = { λ m v q t r n w. w ≡ w };
 
-    fn need(&self, _queue: u8, _first: &QueuedInfo) -> Option<u32> {
-        None
+    fn need(&self, _pool: &Pool, _queue: u8, _first: &QueuedInfo) -> Need {
+        Need::none()
     }
 
     fn treat(&mut self, pool: &mut Pool, _queue: u8, token: Token) -> Option<Token> {
@@ -130,32 +124,72 @@ impl Module for Dropping {
     }
 }
 
+// Frees a message of one byte.
+fn borrowed(pool: &mut Pool, token: Token, size: u32) -> Option<Token>
+    requires { IsTrue (has pool.old.arena token) }
+    ensures keeps { KeepsQueued pool.old pool.new }
+    ensures had { IfSome result (λ treated. IsTrue (has pool.new.arena treated)) }
+{
+    if size == 0 {
+        return Some(token);
+    }
+    pool.freemsg(token);
+    None
+}
+
 impl Module for Borrowing {
-    ghost needs = { λ m q i r. r ≡ r };
+    ghost needs = { λ m v q i r. 1 < i.size → (r ≡ record { sizes = i.size ∷ []; mblks = 0; later = false }) };
 
     ghost treats = { λ m v q t r n w. w ≡ w };
 
-    fn need(&self, _queue: u8, first: &QueuedInfo) -> Option<u32> {
-        (first.size > 1).then_some(first.size)
+    fn need(&self, _pool: &Pool, _queue: u8, first: &QueuedInfo) -> Need {
+        if first.size > 1 {
+            Need::block(first.size)
+        } else {
+            Need::none()
+        }
     }
 
     fn treat(&mut self, pool: &mut Pool, _queue: u8, token: Token) -> Option<Token> {
-        borrowed(pool, token)
+        let size = pool.size(&token);
+        if size > 1 {
+            return lent(pool, token, size);
+        }
+        borrowed(pool, token, size)
+    }
+}
+
+impl Module for Greedy {
+    ghost needs = { λ m v q i r. r ≡ r };
+
+    ghost treats = { λ m v q t r n w. w ≡ w };
+
+    fn need(&self, _pool: &Pool, _queue: u8, first: &QueuedInfo) -> Need {
+        if first.size == 2 {
+            Need::block(MOST as u32 + 1)
+        } else {
+            Need::none()
+        }
+    }
+
+    fn treat(&mut self, _pool: &mut Pool, _queue: u8, token: Token) -> Option<Token> {
+        Some(token)
     }
 }
 
 impl Way {
-    // Runs service procedures on sides. Says whether a message is held back.
-    pub(super) fn run(self, sides: &mut Sides) -> bool {
+    // Runs service procedures on sides. Says how that ended.
+    pub(super) fn run(self, sides: &mut Sides) -> Ended {
         match self {
             Way::Forward => {
                 sides.run();
-                false
+                Ended::Idle
             }
             Way::Pass => sides.run_with(&mut Passing),
             Way::Mark => sides.run_with(&mut Marking),
             Way::Drop => sides.run_with(&mut Dropping),
             Way::Borrow => sides.run_with(&mut Borrowing),
+            Way::Greed => sides.run_with(&mut Greedy),
         }
     }
 
@@ -167,7 +201,7 @@ impl Way {
     // What goes on of a message, in the plain lists.
     pub(super) fn treated(self, message: Standing) -> Option<Standing> {
         match self {
-            Way::Forward | Way::Pass => Some(message),
+            Way::Forward | Way::Pass | Way::Greed => Some(message),
             Way::Mark if message.size == 0 => Some(message),
             Way::Mark => Some(Standing {
                 first: MARK,

@@ -5,6 +5,7 @@ use super::modules::Way;
 use std::alloc::Global;
 use std::process::Abort;
 use strm_pool::{BANDS, QueueSpec};
+use strm_scheduler::Ended;
 
 // The rank of messages of high priority.
 pub(super) const HIGH_RANK: u16 = BANDS as u16;
@@ -325,14 +326,14 @@ impl Plain {
         true
     }
 
-    // Serves the queues on the run list until each one is held back. Says whether there are any.
-    pub(super) fn run(&mut self, rt: &impl Abort, way: Way) -> bool {
+    // Serves the queues on the run list until each one is held back.
+    pub(super) fn run(&mut self, rt: &impl Abort, way: Way) -> Ended {
         for _service in 0..SERVICES {
-            if self.is_at_rest(way) {
-                return !self.run.is_empty();
-            }
             if self.run.is_empty() {
-                return false;
+                return Ended::Idle;
+            }
+            if self.is_at_rest(way) {
+                return Ended::HeldBack;
             }
             let queue = self.run.remove(0);
             self.serve(rt, queue, way);

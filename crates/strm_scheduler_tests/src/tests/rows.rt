@@ -6,7 +6,7 @@ use super::{MESSAGES, opened, queue};
 use std::alloc::Global;
 use std::process::Abort;
 use strm_pool::{NewFault, QueueSpec, Refusal, Which};
-use strm_scheduler::{Sides, SidesFault};
+use strm_scheduler::{Ended, Sides, SidesFault};
 
 // Three queues in a side. Each band of the last two is full at one byte, and wakes the queue behind at none.
 fn narrow() -> [QueueSpec; 3] {
@@ -28,6 +28,8 @@ enum Row {
     Fill(u8),
     // Queues are served in this way. Then the first queue that is held back is this one, or there is none.
     Run(Way, Option<u8>),
+    // Queues are served by a module that needs more than there is for the first message of this queue.
+    RunGreedy(u8),
     // The queues have these numbers of messages.
     Sizes([u32; 3]),
     // The last queue gives the message with this byte.
@@ -59,8 +61,19 @@ fn fill(rt: &impl Abort, sides: &mut Sides, queue: u8) {
 
 // Serves queues in this way. Then the first queue that is held back is this one, or there is none.
 fn assert_run(rt: &impl Abort, sides: &mut Sides, way: Way, held: Option<u8>) {
-    assert!(rt; way.run(sides) == held.is_some());
+    let ended = if held.is_some() {
+        Ended::HeldBack
+    } else {
+        Ended::Idle
+    };
+    assert_eq!(rt; way.run(sides), ended);
     assert!(rt; sides.pool().run_at(0) == held);
+}
+
+// Serves queues by a module that needs more than there is for the first message of this queue, the only one that is left.
+fn assert_greedy(rt: &impl Abort, sides: &mut Sides, queue: u8) {
+    assert_eq!(rt; Way::Greed.run(sides), Ended::NeverMet(queue));
+    assert_eq!(rt; sides.pool().run_at(0), Some(queue));
 }
 
 // The queues have these numbers of messages.
@@ -84,6 +97,7 @@ fn assert_row(rt: &impl Abort, sides: &mut Sides, row: &Row) {
         Row::PutTwo(rank) => assert_put_two(rt, sides, *rank),
         Row::Fill(queue) => fill(rt, sides, *queue),
         Row::Run(way, held) => assert_run(rt, sides, *way, *held),
+        Row::RunGreedy(queue) => assert_greedy(rt, sides, *queue),
         Row::Sizes(sizes) => assert_sizes(rt, sides, sizes),
         Row::Take(byte) => assert_taken(rt, sides, *byte),
         Row::Marks(hiwat, lowat) => { assert!(rt; sides.strqset(2, 0, *hiwat, *lowat) == Ok(())) }
@@ -208,6 +222,20 @@ fn a_block_is_freed_meanwhile(rt: HostRuntime) {
     let rows = [
         Row::PutTwo(0),
         Row::Fill(1),
+        Row::Run(Way::Borrow, None),
+        Row::Sizes([0, 0, 1]),
+    ];
+    assert_rows(&rt, rt.alloc(), &wide(), &rows, 1);
+}
+
+// A need that is never met is reported at once, and again by each run. Another way serves the queue.
+#[test]
+fn a_need_is_never_met(rt: HostRuntime) {
+    let rows = [
+        Row::PutTwo(0),
+        Row::RunGreedy(0),
+        Row::RunGreedy(0),
+        Row::Sizes([1, 0, 0]),
         Row::Run(Way::Borrow, None),
         Row::Sizes([0, 0, 1]),
     ];

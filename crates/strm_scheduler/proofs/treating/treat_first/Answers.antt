@@ -15,11 +15,11 @@ unreachable-requires g c = omega (arith, c.requires.some, ap length (c.begin.ens
 pub enable-requires : goal.enable-requires
 enable-requires g c = c.in-Some.ensures.begun.behind
 
-pub returns-then-is_held_back-clause-awake : goal.returns-then-is_held_back-clause-awake
-returns-then-is_held_back-clause-awake g c = subst AreKeptAwake (sym c.enable.ensures) (kept_enabled c.in-Some.queue c.in-Some.next c.begin.new.pool c.in-Some.ensures.begun.serving)
+pub returns-in-Some-held_back-clause-awake : goal.returns-in-Some-held_back-clause-awake
+returns-in-Some-held_back-clause-awake g c = subst AreKeptAwake (sym c.enable.ensures) (kept_enabled c.in-Some.queue c.in-Some.next c.begin.new.pool c.in-Some.ensures.begun.serving)
 
-pub returns-then-is_held_back-clause-treated : goal.returns-then-is_held_back-clause-treated
-returns-then-is_held_back-clause-treated g c =
+pub returns-in-Some-held_back-clause-treated : goal.returns-in-Some-held_back-clause-treated
+returns-in-Some-held_back-clause-treated g c =
     let begun = c.in-Some.ensures.begun in
     let m = c.args.handler.now in
     let x = c.begin.new.pool in
@@ -34,18 +34,18 @@ returns-then-is_held_back-clause-treated g c =
             count = zero;
             last = x;
             treated = (refl, refl);
-            ends = inr (c.is_held_back.ensures.held c.if-is_held_back.true, c.enable.ensures);
+            ends = inr (c.in-Some-held_back.ever, c.in-Some-held_back.ensures.held, c.enable.ensures);
             wishes = ap (λ (p : PoolValue). p.wishes) c.enable.ensures;
           });
     }
 
-pub returns-then-is_held_back-clause-turned : goal.returns-then-is_held_back-clause-turned
-returns-then-is_held_back-clause-turned g c =
-    λ none. turned g.M.Module.needs c.args.handler.now c.in-Some.queue c.in-Some.next c.args.pool.now c.begin.new.pool c.enable.new.pool c.in-Some.ensures.begun
-    (c.is_held_back.ensures.held c.if-is_held_back.true) c.enable.ensures
+pub returns-in-Some-held_back-clause-turned : goal.returns-in-Some-held_back-clause-turned
+returns-in-Some-held_back-clause-turned g c =
+    turned g.M.Module.needs c.args.handler.now c.in-Some.queue c.in-Some.next c.args.pool.now c.begin.new.pool c.enable.new.pool c.in-Some-held_back.ever c.in-Some.ensures.begun
+    c.in-Some-held_back.ensures.held c.enable.ensures
 
-pub returns-then-is_held_back-clause-specs : goal.returns-then-is_held_back-clause-specs
-returns-then-is_held_back-clause-specs g c =
+pub returns-in-Some-held_back-clause-specs : goal.returns-in-Some-held_back-clause-specs
+returns-in-Some-held_back-clause-specs g c =
     ap (λ (p : PoolValue). p.queues.specs) c.enable.ensures ∙ enabled_specs c.in-Some.queue c.begin.new.pool ∙ ap (λ (p : PoolValue). p.queues.specs) c.in-Some.ensures.begun.after
 
 -- ---- it is served
@@ -54,7 +54,7 @@ pub treat_queue-requires : goal.treat_queue-requires
 treat_queue-requires g c = record {
   serving = c.in-Some.ensures.begun.serving;
   behind = c.in-Some.ensures.begun.behind;
-  met = c.is_held_back.ensures.met c.if-is_held_back.false;
+  met = c.held_back.ensures.met c.in_default-held_back.is;
 }
 
 pub returns-clause-falls : goal.returns-clause-falls

@@ -17,7 +17,7 @@ loop-pool-preserved g c =
     let step = c.loop-pool-test.ensures in
     record {
       serving = step.serving refl;
-      met = c.is_held_back.ensures.met c.if-is_held_back.false;
+      met = c.held_back.ensures.met c.in_default.is;
       treated = (suc before.treated.0, (c.loop-pool.handler, c.loop-pool.pool, before.treated.1, step.treated refl));
       moved = inr (moved_more c.args.pool.now c.loop-pool.pool c.treat_one.new.pool before.moved (step.less refl));
       specs = step.specs ∙ before.specs;
@@ -28,27 +28,27 @@ loop-pool-preserved g c =
 pub enable-requires : goal.enable-requires
 enable-requires g c = there_same c.args.queue c.args.pool.now c.treat_one.new.pool (c.loop-pool-test.ensures.specs ∙ c.loop-pool.invariant.specs) c.requires.behind
 
-pub returns-then-is_held_back-clause-awake : goal.returns-then-is_held_back-clause-awake
-returns-then-is_held_back-clause-awake g c = subst AreKeptAwake (sym c.enable.ensures) (kept_enabled c.args.queue c.args.next c.treat_one.new.pool (c.loop-pool-test.ensures.serving refl))
+pub returns-in-Some-clause-awake : goal.returns-in-Some-clause-awake
+returns-in-Some-clause-awake g c = subst AreKeptAwake (sym c.enable.ensures) (kept_enabled c.args.queue c.args.next c.treat_one.new.pool (c.loop-pool-test.ensures.serving refl))
 
-pub returns-then-is_held_back-clause-treated : goal.returns-then-is_held_back-clause-treated
-returns-then-is_held_back-clause-treated g c =
+pub returns-in-Some-clause-treated : goal.returns-in-Some-clause-treated
+returns-in-Some-clause-treated g c =
     let before = c.loop-pool.invariant in
     record {
       count = suc before.treated.0;
       last = c.treat_one.new.pool;
       treated = (c.loop-pool.handler, c.loop-pool.pool, before.treated.1, c.loop-pool-test.ensures.treated refl);
-      ends = inr (c.is_held_back.ensures.held c.if-is_held_back.true, c.enable.ensures);
+      ends = inr (c.in-Some._ever, c.in-Some.ensures.held, c.enable.ensures);
       wishes = ap (λ (p : PoolValue). p.wishes) c.enable.ensures;
     }
 
-pub returns-then-is_held_back-clause-falls : goal.returns-then-is_held_back-clause-falls
-returns-then-is_held_back-clause-falls g c =
+pub returns-in-Some-clause-falls : goal.returns-in-Some-clause-falls
+returns-in-Some-clause-falls g c =
     let less = moved_more c.args.pool.now c.loop-pool.pool c.treat_one.new.pool c.loop-pool.invariant.moved (c.loop-pool-test.ensures.less refl) in
     inl (omega (arith, less, ap (λ (p : PoolValue). weigh p.arena.shelves) c.enable.ensures))
 
-pub returns-then-is_held_back-clause-specs : goal.returns-then-is_held_back-clause-specs
-returns-then-is_held_back-clause-specs g c =
+pub returns-in-Some-clause-specs : goal.returns-in-Some-clause-specs
+returns-in-Some-clause-specs g c =
     ap (λ (p : PoolValue). p.queues.specs) c.enable.ensures ∙ enabled_specs c.args.queue c.treat_one.new.pool ∙ c.loop-pool-test.ensures.specs ∙ c.loop-pool.invariant.specs
 
 -- ---- none is left, or one may not go
