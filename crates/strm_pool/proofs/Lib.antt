@@ -5,5 +5,6 @@ pub mod Accounts
 pub mod Tokens
 mod Moved
 mod AnyBytes
+mod SameQueues
 mod Applied
 mod Shaped

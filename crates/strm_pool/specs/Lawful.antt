@@ -1,18 +1,22 @@
 -- The laws of a pool: what is true of each pool, whatever calls were made.
-use Rattle.std.specs.Prelude.{◌≡◌, ℕ, ◌+◌, ◌^◌, ◌<◌, ◌≤◌, IsTrue, List, length, map, reverse, sum_by}
+use Rattle.std.specs.Prelude.{◌≡◌, ℕ, ◌+◌, ◌^◌, ◌<◌, ◌≤◌, IsTrue, List, Option, length, map, reverse, sum_by}
 use Rattle.std.specs.List.{All}
 use Rattle.strm_data.specs.CountedStore.{IsKept}
 use Rattle.strm_data.specs.DataStore.{DataBlock, class_infos}
 use Rattle.strm_data.specs.Limits.{most_classes}
 use Rattle.strm_links.specs.Rows as rows
 use Rattle.strm_mblk.specs.Arena.{IsParted, IsWithin, blocks_in, census_of, counted_in, shelf_at}
+use Rattle.strm_mblk.specs.Given.{value_after}
 use Rattle.strm_mblk.specs.Limits.{most_message_blocks}
 use Rattle.strm_mblk.specs.Shelves.{heads_at}
+use Rattle.strm_queue.specs.declared.flush.Flush.{Flush}
 use Rattle.strm_queue.specs.Flow.{AreMarksApart, band_count, bytes_on, every_band, flags_at, marks_of, spec_at}
 use Rattle.strm_queue.specs.Limits.{bands as number_of_bands, most_queues}
+use Rattle.strm_queue.specs.QueueCalls.{flush_messages, messages_on}
 use Rattle.strm_queue.specs.QueueSpecs.{are_lawful}
-use Rattle.strm_queue.specs.QueuedBlocks.{AreMarksLawful}
+use Rattle.strm_queue.specs.QueuedBlocks.{AreMarksLawful, QueuedBlocks}
 use Rattle.strm_queue.specs.Rank.{is_ordered, rank_of}
+use Rattle.strm_queue.specs.Taking.{take_messages}
 use Rattle.strm_pool.specs.Limits.{most_wishes}
 use Rattle.strm_pool.specs.PoolValue.{PoolValue}
 use Rattle.strm_pool.specs.Wishes as wishes
@@ -77,3 +81,15 @@ pub record DifferInBytes (old new : List DataBlock) : Type 0 where
 -- the pool with these data blocks
 abbrev pub with_data_blocks : List DataBlock → PoolValue → PoolValue
 with_data_blocks bs v = record v { arena = record v.arena { store = record v.arena.store { blocks = bs } } }
+
+-- ---- flushes
+
+-- two values have the same queues, with the same messages on them
+pub record HaveSameQueues (v w : QueuedBlocks) : Type 0 where
+  pub queues : v.queues ≡ w.queues
+  pub shelves : v.arena.shelves ≡ w.arena.shelves
+
+-- A call takes at least as many messages of queue q as are there. Then it leaves the queues as the flush does that frees those messages.
+abbrev pub TakesAsFlushes : QueuedBlocks → Type 0
+TakesAsFlushes v = (q n : ℕ) (band : Option ℕ) (flush : Flush) → length (messages_on v q) ≤ n
+    → HaveSameQueues (value_after v (take_messages q band flush n v)) (value_after v (flush_messages q band flush v))

@@ -4,8 +4,8 @@ ghost use Rattle.std.specs.Option.{option_map_or};
 ghost use Rattle.strm_data.specs.DataStore.{DataBlock, class_infos};
 ghost use Rattle.strm_mblk.specs.Arena.{census_of, has, with_least_reset};
 ghost use Rattle.strm_pool.specs.Config.{fault_of};
-ghost use Rattle.strm_pool.specs.Lawful.{DifferInBytes, IsLawful, with_data_blocks};
-ghost use Rattle.strm_pool.specs.PoolValue.{Opens, has_queue, opening_pool, owns, with_arena};
+ghost use Rattle.strm_pool.specs.Lawful.{DifferInBytes, IsLawful, TakesAsFlushes, with_data_blocks};
+ghost use Rattle.strm_pool.specs.PoolValue.{Opens, has_queue, opening_pool, owns, queued_blocks_of, with_arena};
 ghost use Rattle.strm_pool.specs.Registers.{CarryId, AreOfHeld, entries_of};
 ghost use Rattle.strm_queue.specs.QueuedBlocks.{Agrees};
 
@@ -98,6 +98,12 @@ impl Pool {
     {
         self.lawful();
     }
+
+    /// Law: if `take_flushed` takes as many messages as there are, it leaves the queues as `flushq` does, and
+    /// `take_flushed_band` as `flushband`. Does nothing.
+    pub fn takes_as_flushes(&self)
+        ensures { TakesAsFlushes (queued_blocks_of self.now) }
+    {}
 
     /// Lends the queues, which agree with the message blocks.
     pub fn queues(&self) -> &Queues
