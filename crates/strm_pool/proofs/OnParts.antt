@@ -106,14 +106,14 @@ module _ {u v : PoolValue} {b : Arena} (view : u ≡ v) where
         shelves = g.shelves;
       })
 
-  pub spends_on : (t : TokenValue) → Spends itself t (freeing.with_token_spent u.arena t) u.arena b → Spends arena t (with_token_spent v t) v (with_arena u b)
-  spends_on t g = subst (λ w. Spends arena t (with_token_spent w t) w (with_arena u b)) view (record { after = ap (with_arena u) g.after; gone = g.gone; others = g.others; shelves = g.shelves })
+  pub spends_on : (t : TokenValue) (next : Arena → Arena) → Spends itself t (next u.arena) u.arena b → Spends arena t (with_arena v (next v.arena)) v (with_arena u b)
+  spends_on t next g = subst (λ w. Spends arena t (with_arena w (next w.arena)) w (with_arena u b)) view (record { after = ap (with_arena u) g.after; gone = g.gone; others = g.others; shelves = g.shelves })
 
 -- what becomes of a message that is transferred, if it is not refused
 spent_on : (u v : PoolValue) (b : Arena) (t : TokenValue) → u ≡ v → (result : Result TokenValue Rejected)
     → MatchResult result (λ made. Spends itself t (freeing.with_token_spent u.arena t) u.arena b) (λ rejected. (rejected.token ≡ t) × (b ≡ u.arena))
     → MatchResult result (λ made. Spends arena t (with_token_spent v t) v (with_arena u b)) (λ rejected. (rejected.token ≡ t) × (with_arena u b ≡ v))
-spent_on u v b t view (Ok made) is = spends_on view t is
+spent_on u v b t view (Ok made) is = spends_on view t (λ a. freeing.with_token_spent a t) is
 spent_on u v b t view (Err rejected) is = (is.0, ap (with_arena u) is.1 ∙ view)
 
 -- on two pools

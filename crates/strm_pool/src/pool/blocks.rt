@@ -5,6 +5,7 @@ ghost use Rattle.strm_mblk.specs.Arena.{has, message_at};
 ghost use Rattle.strm_mblk.specs.Block.{bytes_of, data_size_of, size_of};
 ghost use Rattle.strm_mblk.specs.BlockCalls as blocks;
 ghost use Rattle.strm_mblk.specs.Calls.{Alters, Frees, Gives, Joins, Parts, Spends, Transfers, Unlinks};
+ghost use Rattle.strm_mblk.specs.Freeing as freeing;
 ghost use Rattle.strm_mblk.specs.Given.{answer_of, given_nothing};
 ghost use Rattle.strm_mblk.specs.Trimming as trimming;
 ghost use Rattle.strm_pool.specs.Limits.{most_octets};
@@ -208,6 +209,16 @@ impl Pool {
         ensures { Spends arena token (with_token_spent self.old token) self.old self.new }
     {
         self.blocks.freemsg(token);
+    }
+
+    /// Frees a message that the pool has, without a test. As [`Blocks::free_held`] of strm_mblk.
+    #[inline(always)]
+    pub fn free_held(&mut self, token: Token)
+        requires { IsTrue (has self.old.arena token) }
+        ensures { Spends arena token (with_arena self.old (freeing.freemsg token.head self.old.arena))
+            self.old self.new }
+    {
+        self.blocks.free_held(token);
     }
 
     /// Makes a message anew in another pool, frees it here, and returns the new one's token, which is one of `other`. Returns
