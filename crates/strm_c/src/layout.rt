@@ -3,9 +3,10 @@ ghost use Rattle.std.specs.Prelude.{◌≡◌, ◌&&◌};
 ghost use Rattle.strm_c.specs.InC.{band_in_c, block_in_c, census_in_c, class_in_c, marks_in_c, is_shape, place_in_c, queue_in_c, queued_in_c, shape_of, spec_in_c, wish_in_c};
 
 use crate::numbers::{band_of, number_of_next, type_of};
+use strm_mblk::Shaped;
 use strm_pool::{
     BandInfo, BlockInfo, BlockPlace, Census, ClassInfo, Marks, MsgType, QueueInfo, QueueSpec,
-    QueuedInfo, Shape, Shaped,
+    QueuedInfo, Shape,
 };
 
 /// A size class of a configuration.

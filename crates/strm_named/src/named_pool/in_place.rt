@@ -10,7 +10,8 @@ use super::NamedPool;
 use crate::fault::Fault;
 use crate::name::Name;
 use crate::tokens::{answered, lent};
-use strm_pool::{BlockInfo, BlockPlace, Shaped};
+use strm_mblk::Shaped;
+use strm_pool::{BlockInfo, BlockPlace};
 
 impl NamedPool {
     /// Lends the bytes of a message's block `place`, counted from 0. Refused as `Invalid`, then `NoSuchBlock`. As
