@@ -30,6 +30,7 @@ ARCHIVE = $(BUILD)/libstrm.a
 SHARED = $(BUILD)/libstrm.so
 ARCHIVE_MT = $(BUILD)/libstrm_mt.a
 SHARED_MT = $(BUILD)/libstrm_mt.so
+ARCHIVE_DDI = $(BUILD)/libstrm_ddi.a
 TRACE = $(BUILD)/libstrm_trace.so
 # How benchmarks are started, which read the limits of strm in tools/strm_tools.
 BENCH := PYTHONPATH="$(CURDIR)/tools" python3
@@ -252,9 +253,9 @@ install-docs:
 	install -d $(SHARE)/doc/strm
 	for name in README.md LICENSE docs examples; do rm -rf $(SHARE)/doc/strm/$$name && ln -s ../../strm/$$name $(SHARE)/doc/strm || exit; done
 
-# Builds the library for C, build/libstrm.a and build/libstrm.so. Over it are build/libstrm_mt.a and .so, and what strm-trace takes. With
+# Builds the library for C, build/libstrm.a and build/libstrm.so. Over it are build/libstrm_mt.a and .so, libstrm_ddi.a, and what strm-trace takes. With
 # TARGET=aarch64-unknown-linux-gnu they are for ARM, in build/aarch64, by Debian's gcc-aarch64-linux-gnu. The pkg-config file is build/strm.pc.
-lib: $(ARCHIVE) $(SHARED) $(ARCHIVE_MT) $(SHARED_MT) $(TRACE) build/strm.pc
+lib: $(ARCHIVE) $(SHARED) $(ARCHIVE_MT) $(SHARED_MT) $(ARCHIVE_DDI) $(TRACE) build/strm.pc
 
 ifneq ($(TARGET),)
 CC := $(TOOLS_FOR)gcc
@@ -308,6 +309,13 @@ $(BUILD)/libstrm_mt.a: $(BUILD)/strm_mt.o
 $(BUILD)/libstrm_mt.so: $(BUILD)/strm_mt.o $(SHARED)
 	$(CC) -shared -Wl,-soname,$(SONAME_MT),-z,defs,-z,relro,-z,now $^ -pthread -o $@
 
+# The library that tests STREAMS modules as they are, which is tested, not proved (docs/MODULES.md).
+$(BUILD)/libstrm_ddi.a: $(wildcard ddi/src/* ddi/include/sys/*) ddi/strm_ddi.h c/strm.h
+	@mkdir -p $(BUILD)/ddi
+	for part in $(notdir $(wildcard ddi/src/*.c)); do $(CC) -std=gnu11 -O2 -fPIC -Wall -Wextra -Iddi/include -Ic -c ddi/src/$$part -o $(BUILD)/ddi/$$part.o || exit; done
+	rm -f $@
+	$(AR) rcD $@ $(BUILD)/ddi/*.o
+
 # Fills in a form of a file that says where the library is, as strm.pc.
 FORM = sed 's:@PREFIX@:$(PC_PREFIX):; s/@VERSION@/$(VERSION)/'
 
@@ -323,7 +331,7 @@ LIB := $(DESTDIR)$(PREFIX)/lib
 
 # Installs the libraries for C, and what C++, Rust and Python need. These are headers, manuals, a crate and a wheel. With them is what pkg-config,
 # CMake, gdb and strm-trace take. Then it prints the lines that let pkg-config and the loader find them, unless they are to be moved from DESTDIR.
-install-lib: $(ARCHIVE) $(SHARED) $(ARCHIVE_MT) $(SHARED_MT) $(TRACE)
+install-lib: $(ARCHIVE) $(SHARED) $(ARCHIVE_MT) $(SHARED_MT) $(ARCHIVE_DDI) $(TRACE)
 	install -D -m 644 $(ARCHIVE) $(LIB)/libstrm.a
 	install -m 644 $(SHARED) $(LIB)/libstrm.so.$(VERSION)
 	ln -sf libstrm.so.$(VERSION) $(LIB)/$(SONAME)
@@ -332,6 +340,9 @@ install-lib: $(ARCHIVE) $(SHARED) $(ARCHIVE_MT) $(SHARED_MT) $(TRACE)
 	install -m 644 $(SHARED_MT) $(LIB)/libstrm_mt.so.$(VERSION)
 	ln -sf libstrm_mt.so.$(VERSION) $(LIB)/$(SONAME_MT)
 	ln -sf $(SONAME_MT) $(LIB)/libstrm_mt.so
+	install -m 644 $(ARCHIVE_DDI) $(LIB)/libstrm_ddi.a
+	install -D -m 644 -t $(DESTDIR)$(PREFIX)/include/strm/ddi ddi/strm_ddi.h
+	install -D -m 644 -t $(DESTDIR)$(PREFIX)/include/strm/ddi/sys ddi/include/sys/*.h
 	$(FORM) c/strm.pc.in | install -D -m 644 /dev/stdin $(LIB)/pkgconfig/strm.pc
 	install -D -m 644 c/strm-config.cmake $(LIB)/cmake/strm/strm-config.cmake
 	$(FORM) c/strm-config-version.cmake.in | install -m 644 /dev/stdin $(LIB)/cmake/strm/strm-config-version.cmake

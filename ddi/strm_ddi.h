@@ -1,7 +1,7 @@
 /*
- * For testing modules in user space; tested, not proved. strm_ddi.h: streams in one process of one
- * thread, for the program that tests STREAMS modules and drivers as they are. It runs on Linux. The
- * messages and queues are those of pools of strm.h.
+ * strm_ddi.h: streams for testing modules in user space; tested, not proved. A program of one
+ * thread, on Linux, opens drivers, pushes modules as they are, and sends and receives. Messages and
+ * queues are in pools of strm.h.
  *
  *     str_init(NULL);
  *     str_open(&driverinfo, 0, 0, &head);
@@ -12,17 +12,17 @@
  *     return str_fini();
  *
  * Calls return 0 or a number of errno, unless they say else. None waits: time passes by str_wait
- * alone, in ticks of 10 ms, and is otherwise as long as a call of the clock needs.
+ * alone, in ticks of 10 ms.
  *
  *
  * Misuse
  *
- * Misuse by a module is reported on standard error, with the file and the line of the call and the
- * last calls that were made with the message. Then the program ends by abort. With STRM_DDI=report
- * in the environment it goes on without what the call would do.
+ * Misuse by a module is reported on standard error, with the file and the line of the call, and the
+ * last calls with the message. Then the program aborts. If the environment has `report` as STRM_DDI,
+ * it goes on without what the call would do.
  *
- * With STRM_DDI_TRACE=FILE, FILE gets a trace for strm-record, of at most 16 queues, up to the
- * first str_pop or str_close.
+ * If it has a path as STRM_DDI_TRACE, that file gets a trace for strm-record, of at most 16 queues,
+ * up to the first str_pop or str_close.
  */
 #ifndef STRM_DDI_H
 #define STRM_DDI_H
@@ -32,7 +32,7 @@
 
 typedef struct strhead strhead_t;
 
-/* ---- streams in one process: strm_ddi(3) */
+/* ---- streams in one process */
 
 /*
  * Opens the first pool, with the message blocks, the classes and the wishes of `config`, or for null
@@ -40,7 +40,7 @@ typedef struct strhead strhead_t;
  */
 int str_init(const struct strm_config *config);
 
-/* Closes all pools. Returns how many kinds of misuse were reported, messages that are left included. */
+/* Closes all pools. Returns how many reports there were, messages that are left included. */
 int str_fini(void);
 
 /* Says how often the procedures of a module may run inside one another: D_MP as they like, D_MTPERMOD

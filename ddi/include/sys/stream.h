@@ -214,6 +214,7 @@ void mutex_enter(kmutex_t *mutex), mutex_exit(kmutex_t *mutex);
 #define linkb(mp, tail) (STRM_DDI_AT, linkb(mp, tail))
 #define unlinkb(mp) (STRM_DDI_AT, unlinkb(mp))
 #define rmvb(mp, bp) (STRM_DDI_AT, rmvb(mp, bp))
+#define msgdsize(mp) (STRM_DDI_AT, msgdsize(mp))
 #define putq(q, mp) (STRM_DDI_AT, putq(q, mp))
 #define putbq(q, mp) (STRM_DDI_AT, putbq(q, mp))
 #define insq(q, before, mp) (STRM_DDI_AT, insq(q, before, mp))
