@@ -388,7 +388,36 @@ void strm_script_seek(struct traced *traced, uint32_t head)
 		traced->place++;
 }
 
-/* Such a call, as the one that names the place: one that no queue has, if the message is elsewhere. */
+/* Before a call that takes messages off a queue: where each is, by its first block. */
+void strm_script_line_up(struct traced *traced, uint32_t queue)
+{
+	uint32_t head;
+	uint16_t place = 0;
+	int code;
+
+	if (traced->is_recorded)
+		for (code = strm_untraced_first_queued(&traced->pool, queue, &head); code == STRM_OK;
+		     code = strm_untraced_queued_after(&traced->pool, head, &head))
+			traced->places[head] = place++;
+}
+
+/* Such a call, as calls that each take a message from its place. */
+static void tell_taken(struct traced *traced, const struct traced_call *call, const union value *values)
+{
+	uint32_t msgs = call->count - 3;
+	const struct strm_msg *taken = values[msgs].at;
+	size_t item, count = *(const size_t *)values[msgs + 2].at;
+	struct traced_call single = { "strm_rmvq(", sizeof "strm_rmvq", 0, 4, { call->forms[0], call->forms[1], call->forms[1], call->forms[msgs] } };
+	union value one[4] = { values[0], values[1] };
+
+	for (item = 0; item < count; item++) {
+		one[2].number = traced->places[taken[item].head] - item;
+		one[3].at = taken + item;
+		strm_script_call(traced, &single, one, STRM_OK);
+	}
+}
+
+/* A call that names a queued message, as the one that names the place: one that no queue has, if the message is elsewhere. */
 static void tell_by_place(struct traced *traced, const struct traced_call *call, const union value *values, int code)
 {
 	struct traced_call other = *call;
@@ -471,8 +500,6 @@ static void tell_wordless(struct traced *traced, const char *name, const struct 
 		begin_line(traced, "freemsg");
 		PRINT(" <%u | ok\n", first_of(traced, values[2].msg));
 		release_all(traced, values[2].msg);
-	} else if (strncmp(name, "takeq", 5) == 0 && code == STRM_OK && *(const size_t *)values[call->count - 1].at > 0) {
-		strm_script_end(traced, "strm_takeq takes messages");
 	} else if (call->forms[0].kind == CALLED && call->forms[1].kind == MSG && code == STRM_OK) {
 		tell_all(traced, '~', values[1].msg, 1);
 	} else if (strcmp(name, "write") == 0 && code > 0 && values[4].number <= MOST_BYTES) {
@@ -503,6 +530,8 @@ void strm_script_call(struct traced *traced, const struct traced_call *call, con
 		recipe++;
 	if (length > 2 && strcmp(name + length - 2, "_n") == 0 && code >= STRM_NONE)
 		tell_several(traced, call, values, code);
+	else if (strncmp(name, "takeq", 5) == 0 && code == STRM_OK)
+		tell_taken(traced, call, values);
 	else if ((strcmp(name, "insq_at") == 0 || strcmp(name, "rmvq_msg") == 0) && code >= STRM_NONE)
 		tell_by_place(traced, call, values, code);
 	else if (recipe == end || code < STRM_NONE)
@@ -524,7 +553,8 @@ void strm_script_begin(struct traced *traced, const struct strm_config *config)
 	traced->first = malloc(config->mblks * sizeof *traced->first);
 	traced->next = malloc(config->mblks * sizeof *traced->next);
 	traced->unused = malloc(config->mblks * sizeof *traced->unused);
-	if (!traced->first || !traced->next || !traced->unused)
+	traced->places = malloc(config->mblks * sizeof *traced->places);
+	if (!traced->first || !traced->next || !traced->unused || !traced->places)
 		return;
 	for (place = 0; place < config->mblks; place++) {
 		traced->first[place] = NO_BLOCK;
