@@ -49,7 +49,7 @@ static int pass(int op, int fd, const uint8_t *bytes, size_t length)
 		return (int)(op == IORING_OP_READ_FIXED ? readv(fd, &one, 1) : writev(fd, &one, 1));
 	*entry = (struct io_uring_sqe){ .opcode = (uint8_t)op, .fd = fd, .off = (uint64_t)-1, .addr = (uintptr_t)bytes, .len = (uint32_t)length };
 	__atomic_fetch_add((unsigned *)(at + ring.sq_off.tail), 1, __ATOMIC_RELEASE);
-	must(syscall(SYS_io_uring_enter, ring_fd, 1, 1, IORING_ENTER_GETEVENTS, NULL, 0) == 1, "io_uring_enter");
+	must(syscall(SYS_io_uring_enter, ring_fd, 1, 1, IORING_ENTER_GETEVENTS, NULL, (size_t)0) == 1, "io_uring_enter");
 	head = (unsigned *)(at + ring.cq_off.head);
 	return ((struct io_uring_cqe *)(at + ring.cq_off.cqes))[__atomic_fetch_add(head, 1, __ATOMIC_ACQ_REL) % ring.cq_entries].res;
 }
