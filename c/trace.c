@@ -642,17 +642,14 @@ PER_CALL void tell_alone(const struct traced_call *call, const union value *valu
 	leave_lock();
 }
 
-/* Before a call that names a queued message by argument `head`, or takes messages off queue values[1] if that is 0. */
-static void seek(const union value *values, size_t head)
+static void look_before(const struct traced_call *call, const union value *values)
 {
 	struct traced *traced;
 
 	take_lock();
-	traced = traced_of(values[0].at);
-	if (traced != NULL && head > 0)
-		strm_script_seek(traced, (uint32_t)values[head].number);
-	else if (traced != NULL)
-		strm_script_line_up(traced, (uint32_t)values[1].number);
+	traced = mode == SCRIPT ? traced_of(values[0].at) : NULL;
+	if (traced != NULL && traced->is_recorded)
+		strm_script_before(traced, call, values);
 	leave_lock();
 }
 
@@ -714,14 +711,9 @@ static inline union value of_pointer(const void *at)
 #define ONE(x) 1
 #define COUNT(...) (sizeof (char[]){ EACH(ONE, __VA_ARGS__) })
 
-/* Whether a call takes what a flush would free. */
-#define IS_TAKE(call) (strncmp(#call, "takeq", 5) == 0)
-
 /* Whether a message that a call returns is new, or one of its parts, and no message of a queue or a name that was there. */
-#define IS_NEW(call) (strncmp(#call, "getq", 4) != 0 && strncmp(#call, "rmvq", 4) != 0 && !IS_TAKE(call) && strcmp(#call, "name_at") != 0)
-
-/* Which argument names a queued message by its first block, in calls that may move it. */
-#define HEAD_AT(call) (strcmp(#call, "insq_at") == 0 ? 2 : strcmp(#call, "rmvq_msg") == 0 ? 1 : 0)
+#define IS_NEW(call) (strncmp(#call, "getq", 4) != 0 && strncmp(#call, "rmvq", 4) != 0 && strncmp(#call, "takeq", 5) != 0 \
+	&& strcmp(#call, "name_at") != 0)
 
 /* Defines the call of a row. */
 #define DEFINE(call, parameters, arguments, fits) \
@@ -730,8 +722,8 @@ static inline union value of_pointer(const void *at)
 		static const struct traced_call own = { "strm_" #call "(", sizeof "strm_" #call, IS_NEW(call), COUNT arguments, { FORMS arguments } }; \
 		int code; \
 \
-		if ((HEAD_AT(call) || IS_TAKE(call)) && mode == SCRIPT) \
-			seek((const union value[]){ VALUES arguments }, HEAD_AT(call)); \
+		if (mode == SCRIPT) \
+			look_before(&own, (const union value[]){ VALUES arguments }); \
 		code = strm_untraced_##call arguments; \
 		if (mode == TEXT) \
 			tell_alone(&own, (const union value[]){ VALUES arguments }, code); \

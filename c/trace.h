@@ -101,8 +101,9 @@ struct output {
 
 /*
  * An open pool. The names of messages are by the numbers of their first blocks. Of a script, whose blocks have numbers of its own: that of each
- * message's first block, the one after each block, those that are not in use, and whether each data block has a line; where the queued message
- * is that a call names by its first block; and, by the first block of each, where messages were on a queue that a call takes them from.
+ * message's first block, the one after each block, those that are not in use, and whether each data block has a line; where the queued message is
+ * that a call names by its first block; by the first block of each, where messages were on a queue that a call takes them from; and how many calls
+ * there were.
  */
 struct traced {
 	struct traced *after;
@@ -112,7 +113,7 @@ struct traced {
 	char queue_labels[STRM_MOST_QUEUES][MOST_LABEL + 1], (*labels)[MOST_LABEL + 1];
 	struct output out;
 	int is_recorded;
-	uint32_t msgs, unused_count, queue, place;
+	uint32_t msgs, unused_count, queue, place, calls;
 	uint16_t *first, *next, *unused, *places;
 	unsigned char is_told[STRM_MOST_DATA_BLOCKS];
 };
@@ -128,11 +129,9 @@ unsigned strm_trace_thread(void);
 void strm_trace_print(struct output *out, const char *format, ...) __attribute__((format(printf, 2, 3)));
 void strm_trace_hex(struct output *out, const uint8_t *bytes, size_t length);
 
-/* Writes a script's header, the lines of a call, and the report. The program's call is done, except strm_close, and those
- * that strm_script_seek and strm_script_line_up are for. */
+/* Writes a script's header, the lines of a call, and the report. The program's call is done, except strm_close, or, where the name says so, to come. */
 void strm_script_begin(struct traced *traced, const struct strm_config *config);
-void strm_script_seek(struct traced *traced, uint32_t head);
-void strm_script_line_up(struct traced *traced, uint32_t queue);
+void strm_script_before(struct traced *traced, const struct traced_call *call, const union value *values);
 void strm_script_call(struct traced *traced, const struct traced_call *call, const union value *values, int code);
 void strm_script_label(struct traced *traced, uint32_t queue, struct strm_msg msg);
 void strm_script_end(struct traced *traced, const char *why);

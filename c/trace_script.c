@@ -9,8 +9,9 @@
 #include <stdlib.h>
 #include <string.h>
 
-/* With more messages, a script has too few registers to take one apart. */
+/* With more messages, a script has too few registers to take one apart, and with many more calls too many lines. */
 #define MOST_MSGS 24
+#define MOST_CALLS 100000
 /* The most bytes of a line `write`, and those that a line `read` shows. */
 #define MOST_BYTES 64
 #define NO_BLOCK 0xFFFFu
@@ -378,8 +379,8 @@ static void tell_several(struct traced *traced, const struct traced_call *call, 
 		strm_script_call(traced, &single, one, STRM_NONE);
 }
 
-/* Before a call that names a queued message by its first block: where the message is. */
-void strm_script_seek(struct traced *traced, uint32_t head)
+/* Where the message is that a call names by its first block. */
+static void seek(struct traced *traced, uint32_t head)
 {
 	traced->place = 0;
 	if (strm_untraced_queue_of(&traced->pool, head, &traced->queue) != STRM_OK)
@@ -388,17 +389,16 @@ void strm_script_seek(struct traced *traced, uint32_t head)
 		traced->place++;
 }
 
-/* Before a call that takes messages off a queue: where each is, by its first block. */
-void strm_script_line_up(struct traced *traced, uint32_t queue)
+/* Where each message of a queue is that a call takes messages off, by its first block. */
+static void line_up(struct traced *traced, uint32_t queue)
 {
 	uint32_t head;
 	uint16_t place = 0;
 	int code;
 
-	if (traced->is_recorded)
-		for (code = strm_untraced_first_queued(&traced->pool, queue, &head); code == STRM_OK;
-		     code = strm_untraced_queued_after(&traced->pool, head, &head))
-			traced->places[head] = place++;
+	for (code = strm_untraced_first_queued(&traced->pool, queue, &head); code == STRM_OK;
+	     code = strm_untraced_queued_after(&traced->pool, head, &head))
+		traced->places[head] = place++;
 }
 
 /* Such a call, as calls that each take a message from its place. */
@@ -514,6 +514,45 @@ static void tell_wordless(struct traced *traced, const char *name, const struct 
 	}
 }
 
+/* The name of a call without its prefix. */
+static void take_name(const struct traced_call *call, char *name, size_t size)
+{
+	snprintf(name, size, "%.*s", (int)(call->length - strlen("strm_(")), call->name + strlen("strm_"));
+}
+
+/* How many messages a call can return at most. */
+static uint64_t most_returned(const struct traced *traced, const struct traced_call *call, const union value *values, const char *name)
+{
+	uint32_t last = call->count - 1, there = 0;
+	struct strm_census census;
+
+	if (last < 3 || call->forms[last].kind != OUT_LENGTH || call->forms[last - 2].kind != OUT_MSG)
+		return 1;
+	if (strcmp(name, "allocb_n") != 0) {
+		strm_untraced_qsize(&traced->pool, (uint32_t)values[1].number, &there);
+	} else {
+		strm_untraced_census(&traced->pool, &census);
+		there = census.free;
+	}
+	return values[last - 1].number < there ? values[last - 1].number : there;
+}
+
+/* The pool is as the call finds it, so what is recorded can end here. */
+void strm_script_before(struct traced *traced, const struct traced_call *call, const union value *values)
+{
+	char name[32];
+
+	take_name(call, name, sizeof name);
+	if (strcmp(name, "insq_at") == 0 || strcmp(name, "rmvq_msg") == 0)
+		seek(traced, (uint32_t)values[call->count - 2].number);
+	else if (strncmp(name, "takeq", 5) == 0)
+		line_up(traced, (uint32_t)values[1].number);
+	if (traced->msgs + most_returned(traced, call, values, name) > MOST_MSGS + 1)
+		strm_script_end(traced, "more than 24 messages are held");
+	else if (++traced->calls > MOST_CALLS)
+		strm_script_end(traced, "there are 100,000 calls");
+}
+
 void strm_script_call(struct traced *traced, const struct traced_call *call, const union value *values, int code)
 {
 	const struct recipe *recipe = recipes, *end = recipes + sizeof recipes / sizeof recipes[0];
@@ -521,7 +560,7 @@ void strm_script_call(struct traced *traced, const struct traced_call *call, con
 	size_t length = call->length - strlen("strm_(");
 	char name[32];
 
-	snprintf(name, sizeof name, "%.*s", (int)length, call->name + strlen("strm_"));
+	take_name(call, name, sizeof name);
 	if (other != NULL && other->is_recorded)
 		tell_arrival(other, *(const struct strm_msg *)values[call->count - 1].at);
 	if (!traced->is_recorded)
