@@ -109,7 +109,6 @@ int ddi_open_pool(void);
 int ddi_open(const struct strm_config *config);
 void ddi_close(void);
 struct block *ddi_held(mblk_t *mp, const char *routine);
-int ddi_give(struct block *b, const char *routine);
 int ddi_join(mblk_t *mp, int pool, const char *routine);
 void ddi_part(struct block *b, const char *routine);
 void ddi_end_block(struct block *b);

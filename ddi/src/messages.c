@@ -106,35 +106,34 @@ static struct block *take_block(void)
 	return b;
 }
 
-static struct data *data_of(int pool, struct strm_msg name)
+/* The data block of a new message, as it is after allocb. */
+static struct data *new_data(int pool, struct strm_msg name, uint8_t type)
 {
 	struct strm_block_place where;
+	struct data *d;
 	strm_place(&ddi_pools[pool].pool, name, 0, &where);
-	return &ddi_pools[pool].data[where.data];
-}
-
-/* Makes the data block of a new message as it is after allocb. */
-static struct data *new_data(int pool, struct strm_msg name)
-{
-	struct data *d = data_of(pool, name);
-	d->d = (dblk_t){ .db_base = d->base, .db_lim = d->base + d->size, .db_ref = 1, .db_type = M_DATA };
+	d = &ddi_pools[pool].data[where.data];
+	d->d = (dblk_t){ .db_base = d->base, .db_lim = d->base + d->size, .db_ref = 1, .db_type = type };
 	d->references = 1;
-	d->type = STRM_M_DATA;
+	d->type = pool_type(type);
 	return d;
 }
 
-static struct block *new_block(int pool, struct strm_msg name, struct data *d, const char *routine)
+/* A new message block over a data block, with the places and the band of `like`, if that is not null. */
+static struct block *new_block(int pool, struct strm_msg name, struct data *d, const struct block *like, const char *routine)
 {
 	struct block *b = take_block();
-	b->m = (mblk_t){ .b_rptr = d->d.db_base, .b_wptr = d->d.db_base, .b_datap = &d->d };
 	b->data = d;
 	b->name = name;
-	b->at = b->length = 0;
-	b->band = 0;
+	b->at = like ? like->at : 0;
+	b->length = like ? like->length : 0;
+	b->band = like ? like->band : 0;
+	b->m = (mblk_t){ .b_rptr = d->d.db_base + b->at, .b_wptr = d->d.db_base + b->at + b->length, .b_datap = &d->d, .b_band = b->band };
 	b->pool = (uint8_t)pool;
 	b->where = HELD;
 	b->owner = ddi_frame && ddi_frame->q ? ddi_frame->q->q_qinfo->qi_minfo : NULL;
 	b->event_count = 0;
+	b->queue = NULL;
 	ddi_pools[pool].of[name.head] = b;
 	ddi_note(b, routine);
 	return b;
@@ -191,75 +190,74 @@ void ddi_own(mblk_t *mp, const queue_t *q)
 		((struct block *)mp)->owner = q ? q->q_qinfo->qi_minfo : NULL;
 }
 
-/* Gives the pool what the module changed of a block: its places, type and band. strm_shape_all is to be this one call, for a whole message. */
-int ddi_give(struct block *b, const char *routine)
+/* Gives the pool what the module changed of the first `count` blocks of a message: places, types, and the band of the first. strm_shape_all is to be
+ * this one call. Returns 0 if one is misused. */
+static int give(struct block *first, uint32_t count, const char *routine)
 {
-	struct strm_pool *pool = &ddi_pools[b->pool].pool;
-	struct data *d = b->data;
-	ptrdiff_t at = b->m.b_rptr - d->d.db_base, length = b->m.b_wptr - b->m.b_rptr;
-	uint8_t type = pool_type(d->d.db_type);
-	if (at < 0 || length < 0 || b->m.b_wptr > d->d.db_lim) {
-		ddi_misuse(routine, b, "b_rptr is %td, b_wptr is %td, and the data block has %td bytes", at, at + length, d->d.db_lim - d->d.db_base);
-		return 0;
-	}
-	if (at != b->at || length != b->length)
-		strm_shape(pool, b->name, 0, b->at = (uint32_t)at, b->length = (uint32_t)length);
-	if (type != d->type) {
-		if (strm_settype(pool, b->name, 0, type) != STRM_OK) {
-			ddi_misuse(routine, b, "db_type was changed to %s, and %d message blocks refer to the data block",
-				ddi_type_name(d->d.db_type), d->references);
+	struct strm_pool *pool = &ddi_pools[first->pool].pool;
+	struct block *b = first;
+	for (uint32_t place = 0; place < count; place++, b = (struct block *)b->m.b_cont) {
+		struct data *d = b->data;
+		ptrdiff_t at = b->m.b_rptr - d->d.db_base, length = b->m.b_wptr - b->m.b_rptr;
+		uint8_t type = pool_type(d->d.db_type);
+		if (at < 0 || length < 0 || b->m.b_wptr > d->d.db_lim) {
+			ddi_misuse(routine, b, "b_rptr is %td, b_wptr is %td, and the data block has %td bytes", at, at + length, MBLKSIZE(&b->m));
 			return 0;
 		}
-		d->type = type;
+		if (at != b->at || length != b->length)
+			strm_shape(pool, first->name, place, b->at = (uint32_t)at, b->length = (uint32_t)length);
+		if (type != d->type && strm_settype(pool, first->name, place, d->type = type) != STRM_OK) {
+			ddi_misuse(routine, b, "db_type was changed to %s, and %d message blocks refer to the data block", ddi_type_name(d->d.db_type),
+				d->references);
+			return 0;
+		}
 	}
-	if (b->m.b_band != b->band)
-		strm_setband(pool, b->name, b->band = b->m.b_band);
+	if (first->m.b_band != first->band)
+		strm_setband(pool, first->name, first->band = first->m.b_band);
 	return 1;
 }
 
 /* Moves a block to another pool, with all bytes of its data block. The old data block loses a reference. */
-static int cross(struct block *b, int pool, const char *routine)
+static void cross(struct block *b, int pool)
 {
 	struct data *from = b->data, *to;
-	ptrdiff_t at = b->m.b_rptr - from->d.db_base, length = b->m.b_wptr - b->m.b_rptr, size = from->d.db_lim - from->d.db_base;
-	struct strm_msg moved;
+	ptrdiff_t at = MBLKHEAD(&b->m), length = MBLKL(&b->m);
 	strm_shape(&ddi_pools[b->pool].pool, b->name, 0, b->at = 0, b->length = from->size);
-	if (strm_transfer(&ddi_pools[b->pool].pool, &ddi_pools[pool].pool, b->name, &moved) != STRM_OK) {
-		fprintf(stderr, "strm_ddi: %s: pool %d of the queue has no block left for the message: open more by str_init\n", routine, pool);
+	if (strm_transfer(&ddi_pools[b->pool].pool, &ddi_pools[pool].pool, b->name, &b->name) != STRM_OK) {
+		fprintf(stderr, "strm_ddi: the pool of the queue has no block left for the message: give str_init more\n");
 		abort();
 	}
-	to = new_data(pool, moved);
-	to->type = from->type;
-	to->d.db_type = from->d.db_type;
+	to = b->data = new_data(pool, b->name, from->d.db_type);
 	if (from->d.db_base != from->base)
-		memcpy(to->base, from->d.db_base, (size_t)size);
+		memcpy(to->base, from->d.db_base, (size_t)(from->d.db_lim - from->d.db_base));
 	b->m.b_datap = &to->d;
 	b->m.b_rptr = to->base + at;
 	b->m.b_wptr = b->m.b_rptr + length;
-	b->data = to;
-	b->name = moved;
 	b->pool = (uint8_t)pool;
-	ddi_pools[pool].of[moved.head] = b;
+	ddi_pools[pool].of[b->name.head] = b;
 	end_reference(from);
-	return 1;
 }
 
 /* Joins the blocks of a message in a pool, as the module has linked them. Returns 0 if one of them is misused, with nothing joined. */
 int ddi_join(mblk_t *mp, int pool, const char *routine)
 {
-	struct block *first = (struct block *)mp;
-	for (mblk_t *bp = mp; bp; bp = bp->b_cont) {
-		struct block *b = bp == mp ? first : ddi_held(bp, routine);
-		if (!b || (b->pool != pool && !cross(b, pool, routine)) || !ddi_give(b, routine))
-			return 0;
-	}
-	first->joined = 1;
-	for (mblk_t *bp = mp->b_cont; bp; bp = bp->b_cont, first->joined++)
-		if (strm_linkb(&ddi_pools[pool].pool, first->name, ((struct block *)bp)->name) != STRM_OK) {
-			ddi_misuse(routine, first, "b_cont leads back to the same block");
-			return 0;
+	struct block *first = (struct block *)mp, *b = first;
+	first->joined = 0;
+	for (mblk_t *bp = mp; bp; bp = bp->b_cont, first->joined++) {
+		if (bp != mp && (b = ddi_held(bp, routine)) == NULL)
+			break;
+		if (b->pool != pool)
+			cross(b, pool);
+		if (b != first && strm_linkb(&ddi_pools[pool].pool, first->name, b->name) != STRM_OK) {
+			ddi_misuse(routine, first, "b_cont leads to a block of the message");
+			b = NULL;
+			break;
 		}
-	return 1;
+	}
+	if (b && give(first, first->joined, routine))
+		return 1;
+	ddi_part(first, routine);
+	return 0;
 }
 
 /* Parts them again: each is held by a name of its own. The name of the first one is right. */
@@ -267,20 +265,21 @@ void ddi_part(struct block *b, const char *routine)
 {
 	struct strm_pool *pool = &ddi_pools[b->pool].pool;
 	struct strm_msg rest;
-	struct block *next;
-	b->where = HELD;
-	for (; (b->joined > 1 || b->m.b_cont) && strm_unlinkb(pool, b->name, &rest) == STRM_OK; b = next) {
-		next = ddi_pools[b->pool].of[rest.head];
-		if (b->m.b_cont != &next->m)
+	uint16_t left = b->joined;
+	for (b->where = HELD; left-- > 1 && strm_unlinkb(pool, b->name, &rest) == STRM_OK; b->where = HELD) {
+		struct block *next = ddi_pools[b->pool].of[rest.head];
+		if (b->m.b_cont != &next->m && b->queue)
 			ddi_misuse(routine, b, "b_cont was changed while the message was on a queue");
 		b->m.b_cont = &next->m;
-		next->name = rest;
-		next->where = HELD;
-		next->joined = (uint16_t)(b->joined - 1);
+		b->queue = NULL;
+		b = next;
+		b->name = rest;
 	}
-	if (b->m.b_cont)
+	if (b->m.b_cont && b->queue) {
 		ddi_misuse(routine, b, "b_cont was changed while the message was on a queue");
-	b->m.b_cont = NULL;
+		b->m.b_cont = NULL;
+	}
+	b->queue = NULL;
 }
 
 size_t ddi_size(const mblk_t *mp)
@@ -303,7 +302,7 @@ static struct block *allocate(size_t size, const char *routine)
 {
 	struct strm_msg name;
 	int code = size > UINT32_MAX ? STRM_TOO_LARGE : strm_allocb(&ddi_pools[0].pool, (uint32_t)size, &name);
-	struct block *b = code == STRM_OK ? new_block(0, name, new_data(0, name), routine) : NULL;
+	struct block *b = code == STRM_OK ? new_block(0, name, new_data(0, name, M_DATA), NULL, routine) : NULL;
 	if (!b && ddi_frame)
 		ddi_frame->failed = strm_ddi_at;
 	END_CALL(reply_of(code), "allocb %t %l", b ? &b->m : NULL, (long)size);
@@ -370,37 +369,24 @@ void freemsg(mblk_t *mp)
 static int duplicate(struct block *b, struct block **copy, const char *routine)
 {
 	struct strm_msg name;
-	int code = strm_dupb(&ddi_pools[b->pool].pool, b->name, &name);
-	if (code != STRM_OK)
-		return code;
-	b->data->d.db_ref = ++b->data->references;
-	*copy = new_block(b->pool, name, b->data, routine);
-	(*copy)->m.b_rptr = b->m.b_rptr;
-	(*copy)->m.b_wptr = b->m.b_wptr;
-	(*copy)->m.b_band = b->m.b_band;
-	(*copy)->at = b->at;
-	(*copy)->length = b->length;
-	(*copy)->band = b->band;
-	return STRM_OK;
+	int code = give(b, 1, routine) ? strm_dupb(&ddi_pools[b->pool].pool, b->name, &name) : STRM_INVALID;
+	if (code == STRM_OK) {
+		b->data->d.db_ref = ++b->data->references;
+		*copy = new_block(b->pool, name, b->data, b, routine);
+	}
+	return code;
 }
 
 static int copy_one(struct block *b, struct block **copy, const char *routine)
 {
 	struct strm_msg name;
-	int code = ddi_give(b, routine) ? strm_copyb(&ddi_pools[b->pool].pool, b->name, &name) : STRM_INVALID;
-	struct data *d;
-	if (code != STRM_OK)
-		return code;
-	d = new_data(b->pool, name);
-	d->type = b->data->type;
-	d->d.db_type = b->data->d.db_type;
-	if (b->data->base != b->data->d.db_base)
-		memcpy(d->base + b->at, b->m.b_rptr, b->length);
-	*copy = new_block(b->pool, name, d, routine);
-	(*copy)->m.b_rptr += (*copy)->at = b->at;
-	(*copy)->m.b_wptr = (*copy)->m.b_rptr + ((*copy)->length = b->length);
-	(*copy)->m.b_band = (*copy)->band = b->band;
-	return STRM_OK;
+	int code = give(b, 1, routine) ? strm_copyb(&ddi_pools[b->pool].pool, b->name, &name) : STRM_INVALID;
+	if (code == STRM_OK) {
+		*copy = new_block(b->pool, name, new_data(b->pool, name, b->data->d.db_type), b, routine);
+		if (b->data->base != b->data->d.db_base)
+			memcpy((*copy)->m.b_rptr, b->m.b_rptr, b->length);
+	}
+	return code;
 }
 
 /* Makes each block of a message, or only the first one, anew: all or none. */
@@ -430,25 +416,15 @@ static mblk_t *made_of(mblk_t *mp, int (*make)(struct block *, struct block **, 
 	return first;
 }
 
-mblk_t *dupb(mblk_t *mp)
-{
-	return made_of(mp, duplicate, 0, "dupb", "dupb %f %t");
-}
-
-mblk_t *dupmsg(mblk_t *mp)
-{
-	return made_of(mp, duplicate, 1, "dupmsg", "dupmsg %f %t");
-}
-
-mblk_t *copyb(mblk_t *mp)
-{
-	return made_of(mp, copy_one, 0, "copyb", "copyb %f %t");
-}
-
-mblk_t *copymsg(mblk_t *mp)
-{
-	return made_of(mp, copy_one, 1, "copymsg", "copymsg %f %t");
-}
+#define MADE(name, make, all) \
+	mblk_t *name(mblk_t *mp) \
+	{ \
+		return made_of(mp, make, all, #name, #name " %f %t"); \
+	}
+MADE(dupb, duplicate, 0)
+MADE(dupmsg, duplicate, 1)
+MADE(copyb, copy_one, 0)
+MADE(copymsg, copy_one, 1)
 
 int testb(size_t size, uint_t priority)
 {
@@ -517,7 +493,7 @@ static int pull(struct block *first, size_t size)
 	for (bp = &first->m; at < size; at += cut, bp = bp->b_cont)
 		memcpy(bytes + at, bp->b_rptr, cut = size - at < (size_t)MBLKL(bp) ? size - at : (size_t)MBLKL(bp));
 	if ((code = strm_pullupmsg(pool, first->name, (int32_t)size)) == STRM_OK) {
-		uint8_t type = first->data->d.db_type;
+		uchar_t type = first->data->d.db_type;
 		end_reference(first->data);
 		for (at = size - (size_t)MBLKL(&first->m); at > 0; at -= cut) {
 			bp = first->m.b_cont;
@@ -528,11 +504,11 @@ static int pull(struct block *first, size_t size)
 			((struct block *)bp)->length -= (uint32_t)cut;
 			if (MBLKL(bp) == 0) {
 				first->m.b_cont = next;
+				first->joined--;
 				ddi_end_block((struct block *)bp);
 			}
 		}
-		first->data = new_data(first->pool, first->name);
-		first->data->type = pool_type(first->data->d.db_type = type);
+		first->data = new_data(first->pool, first->name, type);
 		memcpy(first->data->base, bytes, size);
 		first->m.b_datap = &first->data->d;
 		first->m.b_rptr = first->data->base;
