@@ -1,8 +1,8 @@
 -- Queues that are held back: each is enabled again, so all queues stay awake, and a run ends once all on the run list are held back.
-use Rattle.std.proofs.Common.{◌≡◌, ℕ, zero, suc, ◌+◌, ◌<◌, ◌≤◌, inl, inr, Bool, true, false, not, ◌&&◌, List, [], ◌∷◌, ◌++◌, drop, length, Some, refl, sym, ap, ◌∙◌, subst, arith, append-nil, append_assoc, length-append, if◌then◌else◌}
+use Rattle.std.proofs.Common.{◌≡◌, ◌≢◌, ℕ, zero, suc, ◌+◌, ◌-◌, ◌<◌, ◌≤◌, inl, inr, Bool, true, false, not, ◌&&◌, List, [], ◌∷◌, ◌++◌, drop, length, IfSome, Option, Some, None, option_map, refl, sym, ap, ◌∙◌, subst, arith, append-nil, append_assoc, length-append, if◌then◌else◌}
 use Rattle.std.specs.Prelude.{is_some, nat_lt, slice_get}
 use Rattle.std.specs.List.{All}
-use Rattle.std.proofs.lemmas.Bool.{cases_eq, false≢true}
+use Rattle.std.proofs.lemmas.Bool.{cases_eq, eqb-false, eqb-true, false≢true}
 use Rattle.std.proofs.lemmas.List.Elements.{All-nil, All-push, All-same, All-weaker}
 use Rattle.strm_links.specs.Rows as rows
 use Rattle.strm_pool.specs.PoolValue.{PoolValue, has_queue, queued_blocks_of}
@@ -11,12 +11,13 @@ use Rattle.strm_queue.specs.Flow.{QueueState, flags_at, spec_at, with_enabled}
 use Rattle.strm_queue.specs.Limits.{most_queues}
 use Rattle.strm_queue.specs.QueueLooks.{queued_at}
 use Rattle.strm_scheduler.specs.Awake.{is_awake}
-use Rattle.strm_scheduler.specs.Holding.{AreLastHeldBack, IsTurned, with_run, work_left}
+use Rattle.strm_scheduler.specs.Holding.{AreLastHeldBack, is_spent, work_left}
 use Rattle.strm_scheduler.specs.Laws.{AreKeptAwake}
-use Rattle.strm_scheduler.specs.Modules.{AreHeldBack, IsHeldBack, Needs, with_queue_enabled}
+use Rattle.strm_scheduler.specs.Modules.{AreHeldBack, IsHeldBack, IsTurned, Needs, services_of, with_run}
 use Rattle.strm_scheduler.specs.Needs.{are_free, can_be_free}
 use Rattle.strm_scheduler.specs.Serving.{IsBegun, IsServing}
 use Rattle.strm_scheduler.specs.Sides.{AreSides, next_of}
+use Rattle.strm_scheduler.specs.Steps.{with_queue_enabled}
 use Rattle.strm_scheduler.specs.Work.{most_powers, powers, times_of, weigh, work}
 use Rattle.strm_scheduler.proofs.Falling.{powers-append, times_of_le}
 use Rattle.strm_scheduler.proofs.Keeping.{awake_grown, awake_on_run}
@@ -148,6 +149,19 @@ none_long (x ∷ xs) is = absurd (omega (arith, is))
 
 -- ---- the work falls
 
+some_least : (k : ℕ) → k ≢ 0 → 0 < k
+some_least zero other = absurd (other refl)
+some_least (suc k) other = omega arith
+
+-- one queue fewer is left to find held back
+turned_shorter : {M : Type 0} (needs : Needs M) (m k : M) (v w : PoolValue) (held queue : ℕ) (ever : Bool) → IsTurned needs queue ever m v k w → held < length v.queues.run
+    → length w.queues.run - (held + 1) < length v.queues.run - held
+turned_shorter needs m k v w held queue ever step few =
+    let long = ap (λ (p : PoolValue). length p.queues.run) step.after in
+    let joined = length-append step.rest (queue ∷ []) in
+    let before = ap length step.run in
+    omega (arith, few, long, joined, before)
+
 -- the run list is turned: the work is the same, and one queue fewer is left to find held back
 turned_work : {M : Type 0} (needs : Needs M) (m k : M) (v w : PoolValue) (queue : ℕ) (ever : Bool) → IsTurned needs queue ever m v k w → work (queued_blocks_of w) ≡ work (queued_blocks_of v)
 unfolding work
@@ -157,17 +171,50 @@ turned_work needs m k v w queue ever step =
     ap (λ (p : PoolValue). work (queued_blocks_of p)) step.after
     ∙ ap (λ k. times_of (weigh v.arena.shelves) (most_powers (length v.queues.specs)) + k) (same ∙ ap powers (sym step.run))
 
-pub turned_left : {M : Type 0} (needs : Needs M) (m k : M) (v w : PoolValue) (held queue : ℕ) (ever : Bool) → IsTurned needs queue ever m v k w → held < length v.queues.run
-    → work_left w (held + 1) < work_left v held
-turned_left needs m k v w held queue ever step few =
+pub turned_left : {M : Type 0} (needs : Needs M) (m k : M) (v w : PoolValue) (budget : Option ℕ) (held queue : ℕ) (ever : Bool) → IsTurned needs queue ever m v k w → held < length v.queues.run
+    → work_left budget w (held + 1) < work_left budget v held
+turned_left needs m k v w None held queue ever step few =
     let same = ap (λ left. times_of left (suc most_queues)) (turned_work needs m k v w queue ever step) in
-    let long = ap (λ (p : PoolValue). length p.queues.run) step.after in
-    let joined = length-append step.rest (queue ∷ []) in
-    let before = ap length step.run in
-    omega (arith, few, same, long, joined, before)
+    let shorter = turned_shorter needs m k v w held queue ever step few in
+    omega (arith, same, shorter)
+turned_left needs m k v w (Some services) held queue ever step few = let shorter = turned_shorter needs m k v w held queue ever step few in omega (arith, shorter)
 
 -- a queue was served
-pub served_left : (v w : PoolValue) (held : ℕ) → work (queued_blocks_of w) < work (queued_blocks_of v) → length w.queues.run ≤ most_queues → work_left w 0 < work_left v held
-served_left v w held less short =
-    let fewer = times_of_le (suc (work (queued_blocks_of w))) (work (queued_blocks_of v)) (suc most_queues) less in
+pub served_left : (v w : PoolValue) (budget : Option ℕ) (held : ℕ) → is_spent budget ≡ false → (budget ≡ None → work (queued_blocks_of w) < work (queued_blocks_of v)) → length w.queues.run ≤ most_queues
+    → work_left (option_map (λ services. services - 1) budget) w 0 < work_left budget v held
+served_left v w None held some less short =
+    let fewer = times_of_le (suc (work (queued_blocks_of w))) (work (queued_blocks_of v)) (suc most_queues) (less refl) in
     omega (arith, short, fewer)
+served_left v w (Some services) held some less short =
+    let there = eqb-false services 0 some in
+    let fewer = times_of_le (suc (services - 1)) services (suc most_queues) (omega (arith, some_least services there)) in
+    omega (arith, short, fewer)
+
+-- ---- a budget
+
+-- what is left of the budget, beside the services that there were
+abbrev pub IsLeft : Option ℕ → Option ℕ → List Bool → Type 0
+IsLeft budget left turns = budget ≡ option_map (λ services. services + services_of turns) left
+
+pub left_none : (budget : Option ℕ) → IsLeft budget budget []
+left_none None = refl
+left_none (Some services) = let none : services_of [] ≡ 0 = refl in ap (λ (k : ℕ). Some k) (omega (arith, none))
+
+pub left_served : (budget left : Option ℕ) (turns : List Bool) → is_spent left ≡ false → IsLeft budget left turns → IsLeft budget (option_map (λ services. services - 1) left) (true ∷ turns)
+left_served budget None turns some is = is
+left_served budget (Some services) turns some is =
+    let there = some_least services (eqb-false services 0 some) in
+    let more : services_of (true ∷ turns) ≡ suc (services_of turns) = refl in
+    is ∙ ap (λ (k : ℕ). Some k) (omega (arith, there, more))
+
+pub left_within : (budget left : Option ℕ) (turns : List Bool) → IsLeft budget left turns → IfSome budget (λ most. services_of turns ≤ most)
+left_within budget None turns is = subst (λ b. IfSome b (λ most. services_of turns ≤ most)) (sym is) tt
+left_within budget (Some services) turns is = subst (λ b. IfSome b (λ most. services_of turns ≤ most)) (sym is) (omega arith)
+
+pub left_spent : (budget left : Option ℕ) (turns : List Bool) → is_spent left ≡ true → IsLeft budget left turns → budget ≡ Some (services_of turns)
+left_spent budget None turns none is = absurd (false≢true none)
+left_spent budget (Some services) turns none is = let zero_is = eqb-true services 0 none in is ∙ ap (λ (k : ℕ). Some k) (omega (arith, zero_is))
+
+-- without a budget, none is left
+pub left_without : (budget left : Option ℕ) (turns : List Bool) → IsLeft budget left turns → left ≡ None → budget ≡ None
+left_without budget left turns is none = is ∙ ap (λ (o : Option ℕ). option_map (λ services. services + services_of turns) o) none

@@ -15,6 +15,7 @@ pub mod Finding
 pub mod Kept
 pub mod Opening
 pub mod Unchanged
+pub mod Stepping
 pub mod Treated
 pub mod Holding
 pub mod Needing

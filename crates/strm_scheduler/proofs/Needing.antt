@@ -1,5 +1,5 @@
 -- What a module needs: whether it is free, and that a message that is taken then is ready to be treated.
-use Rattle.std.proofs.Common.{◌≡◌, ℕ, zero, suc, ◌+◌, ◌-◌, ◌<◌, ◌≤◌, inl, inr, Bool, true, false, not, ◌&&◌, ◌||◌, List, [], ◌∷◌, ◌++◌, drop, length, map, get_or, set, Option, Some, None, Ok, Err, refl, sym, ap, ◌∙◌, subst, arith, if◌then◌else◌, get_or-set_same, length-append}
+use Rattle.std.proofs.Common.{◌≡◌, ℕ, zero, suc, ◌+◌, ◌-◌, ◌<◌, ◌≤◌, inl, inr, Bool, true, false, not, List, [], ◌∷◌, drop, length, map, get_or, set, Option, Some, None, Ok, Err, refl, sym, ap, ◌∙◌, subst, arith, if◌then◌else◌, get_or-set_same, length-append}
 use Rattle.std.specs.Prelude.{Result, is_ok, nat_eq, nat_le, ok_or, slice_get}
 use Rattle.std.specs.List.{All, flat_map, list_any, zip}
 use Rattle.std.proofs.lemmas.Bool.{and_parts, cases_lt, cond-true, false≢true, le-leb, le-ltb, leb-true, lt-leb, lt-ltb, ne_eqb, or_left, or_right}

@@ -1,31 +1,30 @@
 -- A service procedure of a module: what each of its steps leaves.
-use Rattle.std.proofs.Common.{◌≡◌, ◌≢◌, ℕ, ◌+◌, ◌<◌, ◌≤◌, ◌⊎◌, inl, inr, Bool, true, false, not, ◌&&◌, ◌||◌, List, [], length, get_or, set, Option, Some, None, sym, ap, ◌∙◌, subst, arith}
+use Rattle.std.proofs.Common.{◌≡◌, ◌≢◌, ℕ, ◌+◌, ◌<◌, ◌≤◌, ◌⊎◌, inl, inr, Bool, true, false, not, ◌&&◌, ◌||◌, List, [], length, get_or, set, Option, Some, None, sym, ap, ◌∙◌, subst, arith, get_or-set_same}
 use Rattle.std.proofs.lemmas.Bool.{lt-ltb}
 use Rattle.strm_links.specs.Rows as rows
 use Rattle.strm_mblk.specs.declared.token.TokenValue.{TokenValue}
 use Rattle.strm_scheduler.specs.Forwarding.{KeepsRest}
-use Rattle.strm_scheduler.specs.Handing.{handed_on, with_first_off, with_one_put}
-use Rattle.strm_scheduler.proofs.Moving.{IsGot, handed_whole, leave_same, put_leaves, put_state}
-use Rattle.strm_mblk.specs.Arena.{Arena, has, held_at, message_at, shelf_at}
-use Rattle.strm_mblk.specs.Given.{value_after}
+use Rattle.strm_scheduler.specs.Handing.{handed_on, with_first_off}
+use Rattle.strm_scheduler.proofs.Moving.{IsGot, handed_whole, leave_same}
+use Rattle.strm_mblk.specs.Block.{Message}
+use Rattle.strm_mblk.specs.Arena.{Arena, has, held_at, shelf_at}
 use Rattle.strm_pool.specs.Lawful.{IsLawful}
-use Rattle.strm_pool.specs.PoolValue.{PoolValue, has_queue, on_queues, queued_blocks_of}
+use Rattle.strm_pool.specs.PoolValue.{PoolValue, has_queue, queued_blocks_of}
 use Rattle.strm_queue.specs.declared.queue_spec.QueueSpec.{QueueSpec}
 use Rattle.strm_queue.specs.Flow.{QueueState, flags_at}
-use Rattle.strm_queue.specs.QueueCalls.{messages_on, putq}
+use Rattle.strm_queue.specs.QueueCalls.{messages_on}
 use Rattle.strm_queue.specs.QueuedBlocks.{QueuedBlocks}
-use Rattle.strm_queue.specs.Rank.{as_queued, is_ordered, put_behind, rank_of}
+use Rattle.strm_queue.specs.Rank.{is_ordered, rank_of}
 use Rattle.strm_scheduler.specs.Awake.{is_awake, may_rest}
-use Rattle.strm_scheduler.specs.Laws.{AreKeptAwake, KeepsQueued}
+use Rattle.strm_scheduler.specs.Laws.{AreKeptAwake}
 use Rattle.strm_scheduler.specs.Sides.{AreSides, next_of}
 use Rattle.strm_scheduler.specs.Serving.{FallsBy, IsServing, IsTaken, KeepsAllowed, TakesTo}
 use Rattle.strm_scheduler.specs.Work.{each, from_here, power, powers, weigh}
 use Rattle.strm_scheduler.proofs.Hops.{hop_ahead, hop_within}
-use Rattle.strm_scheduler.proofs.Underway.{Hands, IsUnderway, hand_shelves, hands_on, underway_off, underway_put}
-use Rattle.strm_scheduler.proofs.Weighing.{each-put, from_here-set, from_here_less, weigh-set}
+use Rattle.strm_scheduler.proofs.Underway.{Hands, IsUnderway, hand_shelves, hands_on, underway_off}
+use Rattle.strm_scheduler.proofs.Weighing.{from_here-set, from_here_less, weigh-set}
 use Rattle.strm_scheduler.proofs.Falling.{handed_powers}
 use Rattle.strm_scheduler.proofs.Beginning.{underway}
-use Rattle.strm_scheduler.proofs.Unchanged.{awake_same}
 
 -- queues with the same state, store and shelves are awake alike
 awake_alike : (v w : QueuedBlocks) → w.queues ≡ v.queues → w.arena.store ≡ v.arena.store → w.arena.shelves ≡ v.arena.shelves → (q n : ℕ) → is_awake v q n ≡ true → is_awake w q n ≡ true
@@ -33,15 +32,6 @@ awake_alike v w queues store shelves q n awake =
     (λ i. not (flags_at (queues i) q).noenable
     && (rows.has q (queues i).run || may_rest (store i) (flags_at (queues i) q).read (flags_at (queues i) n).wanted (get_or (shelves i) q [])))
     ∙ awake
-
--- a call on held messages keeps a service underway
-pub serving_kept : (q n : ℕ) (v w : PoolValue) → KeepsQueued v w → IsServing q n v → IsServing q n w
-serving_kept q n v w keeps s = record {
-  sides = subst (λ (t : QueueState). AreSides t.specs) (sym keeps.queues) s.sides;
-  next = ap (λ (t : QueueState). next_of t.specs q) keeps.queues ∙ s.next;
-  off = ap (λ (t : QueueState). (flags_at t q).noenable) keeps.queues ∙ s.off;
-  others = λ p t other is. awake_same v w keeps p t ∙ s.others p t other (ap (λ (u : QueueState). next_of u.specs p) (sym keeps.queues) ∙ is);
-}
 
 module _ (q n : ℕ) (v : PoolValue) (law : IsLawful v) (s : IsServing q n v) where
   underway_now : IsUnderway v.queues.specs law.lawful_queues s.sides q n s.next (queued_blocks_of v)
@@ -89,6 +79,12 @@ module _ (q n : ℕ) (v : PoolValue) (law : IsLawful v) (s : IsServing q n v) wh
     shelves_taken : x.arena.shelves ≡ set v.arena.shelves q taken.behind
     shelves_taken = ap (λ (a : Arena). a.shelves) taken.arena
 
+    -- the queue has one message less
+    pub fewer_taken : length (shelf_at x.arena q) < length (shelf_at v.arena q)
+    fewer_taken =
+        let left = ap (λ (ss : List (List Message)). length (get_or ss q [])) shelves_taken ∙ ap length (get_or-set_same v.arena.shelves q taken.behind [] q_within) in
+        omega (arith, left, ap length taken.first)
+
     -- what goes on to the next queue then has fewer queues ahead of it
     pub less_taken : (k : ℕ) → k ≤ weigh x.arena.shelves + from_here x.arena.shelves n → k < weigh v.arena.shelves
     less_taken k most =
@@ -122,25 +118,6 @@ module _ (q n : ℕ) (v : PoolValue) (law : IsLawful v) (s : IsServing q n v) wh
         subst (λ (r : Bool × QueuedBlocks). powers r.1.queues.run < power q + powers v.queues.run) ended
         (handed_powers q n (queued_blocks_of v) law.lawful_queues s.sides (omega (arith, law.flagged, hop_within v.queues.specs law.lawful_queues q n s.next)) (ap (λ (r : Bool × QueuedBlocks). r.0) ended))
 
-  -- ---- a message is put on the next queue
-
-  module _ (h : ℕ) (there : has_queue v n ≡ true) (w : PoolValue) (after : w ≡ value_after v (on_queues v (putq n h (queued_blocks_of v)))) where
-    arena_put : w.arena.shelves ≡ set v.arena.shelves n (put_behind (rank_of v.arena.store) (as_queued v.arena.store (message_at v.arena h)) (shelf_at v.arena n))
-    arena_put = ap (λ (a : Arena). a.shelves) (put_leaves v w n h there after)
-
-    pub serving_put : IsServing q n w
-    serving_put =
-        serving_alike (with_one_put n (message_at v.arena h) (queued_blocks_of v))
-        (underway_put v.queues.specs law.lawful_queues s.sides q n s.next (queued_blocks_of v) underway_now (message_at v.arena h)) w (put_state v w n h there after)
-        (ap (λ (a : Arena). a.store) (put_leaves v w n h there after)) arena_put
-
-    pub more_put : weigh w.arena.shelves ≤ weigh v.arena.shelves + from_here v.arena.shelves n
-    more_put =
-        let joined = weigh-set v.arena.shelves n (put_behind (rank_of v.arena.store) (as_queued v.arena.store (message_at v.arena h)) (shelf_at v.arena n)) n_within in
-        let more = each-put (from_here v.arena.shelves n) (rank_of v.arena.store) (as_queued v.arena.store (message_at v.arena h)) (shelf_at v.arena n) in
-        let weight = ap weigh arena_put in
-        omega (arith, joined, more, weight)
-
 -- ---- taking, by what is kept
 
 module _ (q n : ℕ) (apart : q ≢ n) (v x : PoolValue) (t : TokenValue) (g : IsGot q t v x) (unheld : held_at v.arena t.head ≡ None) (had : has x.arena t ≡ true)
@@ -163,14 +140,16 @@ module _ (q n : ℕ) (apart : q ≢ n) (v x : PoolValue) (t : TokenValue) (g : I
 pub rest_joined : (v x w : PoolValue) → KeepsRest v x → KeepsRest x w → KeepsRest v w
 rest_joined v x w first second = record { specs = second.specs ∙ first.specs; marks = second.marks ∙ first.marks; wishes = second.wishes ∙ first.wishes }
 
--- ---- a whole service
+-- ---- a whole service, whose messages each weigh less afterwards, if the module passes one on at most
 
-pub falls_ended : (q : ℕ) (v x w : PoolValue) → (x ≡ v) ⊎ (weigh x.arena.shelves < weigh v.arena.shelves) → weigh w.arena.shelves ≡ weigh x.arena.shelves
-    → powers w.queues.run < power q + powers x.queues.run → FallsBy q v w
-falls_ended q v x w (inl still) same run = inr (same ∙ ap (λ (p : PoolValue). weigh p.arena.shelves) still, subst (λ (p : PoolValue). powers w.queues.run < power q + powers p.queues.run) still run)
-falls_ended q v x w (inr moved) same run = inl (omega (arith, moved, same))
+pub falls_ended : (Less : Type 0) (q : ℕ) (v x w : PoolValue) → (x ≡ v) ⊎ (Less → weigh x.arena.shelves < weigh v.arena.shelves) → weigh w.arena.shelves ≡ weigh x.arena.shelves
+    → powers w.queues.run < power q + powers x.queues.run → Less → FallsBy q v w
+falls_ended Less q v x w (inl still) same run less =
+    inr (same ∙ ap (λ (p : PoolValue). weigh p.arena.shelves) still, subst (λ (p : PoolValue). powers w.queues.run < power q + powers p.queues.run) still run)
+falls_ended Less q v x w (inr moved) same run less = let fewer = moved less in inl (omega (arith, fewer, same))
 
 -- one more message has moved
-pub moved_more : (v x w : PoolValue) → (x ≡ v) ⊎ (weigh x.arena.shelves < weigh v.arena.shelves) → weigh w.arena.shelves < weigh x.arena.shelves → weigh w.arena.shelves < weigh v.arena.shelves
-moved_more v x w (inl still) less = subst (λ (p : PoolValue). weigh w.arena.shelves < weigh p.arena.shelves) still less
-moved_more v x w (inr moved) less = omega (arith, moved, less)
+pub moved_more : (Less : Type 0) (v x w : PoolValue) → (x ≡ v) ⊎ (Less → weigh x.arena.shelves < weigh v.arena.shelves) → (Less → weigh w.arena.shelves < weigh x.arena.shelves)
+    → Less → weigh w.arena.shelves < weigh v.arena.shelves
+moved_more Less v x w (inl still) step less = subst (λ (p : PoolValue). weigh w.arena.shelves < weigh p.arena.shelves) still (step less)
+moved_more Less v x w (inr moved) step less = let before = moved less in let now = step less in omega (arith, before, now)

@@ -8,5 +8,6 @@ pub mod Laws
 pub mod Work
 pub mod Serving
 pub mod Needs
+pub mod Steps
 pub mod Modules
 pub mod Holding

@@ -1,28 +1,30 @@
 -- What the service procedures of a module did, by what the module can do with a message.
-use Rattle.std.specs.Prelude.{◌≡◌, ◌<◌, ◌⊎◌, ℕ, zero, suc, Bool, true, false, IfSome, IsTrue, List, [], ◌∷◌, ◌++◌, length, Option, None, Some, Ok}
+use Rattle.std.specs.Prelude.{◌≡◌, ◌<◌, ◌≤◌, ◌⊎◌, ℕ, zero, suc, Bool, true, false, filter, IfSome, List, [], ◌∷◌, ◌++◌, length, Option, Some, Ok}
 use Rattle.std.specs.List.{All}
 use Rattle.strm_mblk.specs.declared.token.TokenValue.{TokenValue}
 use Rattle.strm_scheduler.specs.declared.ended.Ended.{Ended}
-use Rattle.strm_scheduler.specs.declared.ended.Ended.TheVariants.{Idle, HeldBack, NeverMet}
+use Rattle.strm_scheduler.specs.declared.ended.Ended.TheVariants.{Idle, HeldBack, NeverMet, Spent}
 use Rattle.strm_scheduler.specs.declared.need.Need.{Need}
 use Rattle.strm_scheduler.specs.Handing.{handed_on}
 use Rattle.strm_links.specs.Rows as rows
-use Rattle.strm_mblk.specs.Arena.{has, message_at}
-use Rattle.strm_mblk.specs.Given.{value_after}
-use Rattle.strm_pool.specs.PoolValue.{PoolValue, on_queues, queued_blocks_of, with_queued}
+use Rattle.strm_mblk.specs.Arena.{message_at}
+use Rattle.strm_pool.specs.PoolValue.{PoolValue, queued_blocks_of, with_queued}
 use Rattle.strm_queue.specs.declared.queued_info.QueuedInfo.{QueuedInfo}
-use Rattle.strm_queue.specs.Flow.{with_enabled}
-use Rattle.strm_queue.specs.QueueCalls.{next_service, putq}
+use Rattle.strm_queue.specs.QueueCalls.{next_service}
 use Rattle.strm_queue.specs.QueueLooks.{info_of_message, queued_at}
-use Rattle.strm_scheduler.specs.Laws.{KeepsQueued}
 use Rattle.strm_scheduler.specs.Needs.{are_free, can_be_free}
 use Rattle.strm_scheduler.specs.Sides.{next_of}
 use Rattle.strm_scheduler.specs.Serving.{IsTaken}
+use Rattle.strm_scheduler.specs.Steps.{AreSteps, PassOne, Step, with_queue_enabled}
 
--- `treats m v q t r n w`: the module m, with pool v, can return r for the message of token t, which has left queue q, and then
--- be n, with pool w
+-- `treats m v q n t steps k w`: the module m, with pool v, can treat the message of token t, which has left queue q and may go on to
+-- queue n, by these steps, and then be k, with pool w
 abbrev pub Treats : Type 0 → Type 1
-Treats M = M → PoolValue → ℕ → TokenValue → Option TokenValue → M → PoolValue → Type 0
+Treats M = M → PoolValue → ℕ → ℕ → TokenValue → List Step → M → PoolValue → Type 0
+
+-- for each message, the module puts one message at most on the next queue, and leaves the queues unchanged otherwise
+abbrev pub PassesOne : {M : Type 0} → Treats M → Type 0
+PassesOne {M} treats = (m k : M) (v w : PoolValue) (q n : ℕ) (t : TokenValue) (steps : List Step) → treats m v q n t steps k w → PassOne n steps
 
 -- `needs m v q first need`: for the first message of queue q, which is like this, the module m can say, with pool v, that it needs
 -- this
@@ -56,6 +58,7 @@ AreHeldBack needs m v = All (λ q. IsHeldBack needs m q v true) v.queues.run
 abbrev pub IsEnded : {M : Type 0} → Needs M → M → PoolValue → Ended → Type 0
 IsEnded needs m v Idle = v.queues.run ≡ []
 IsEnded needs m v HeldBack = (0 < length v.queues.run) × AreHeldBack needs m v
+IsEnded needs m v Spent = 0 < length v.queues.run
 IsEnded needs m v (NeverMet q) = IsHeldBack needs m q v false × ((before : List ℕ) × (v.queues.run ≡ before ++ q ∷ []))
 
 -- The message of token t was the first one of queue q, and is held. When the module was asked, with pool `asked`, it needed what is
@@ -70,30 +73,17 @@ pub record IsReady {M : Type 0} (needs : Needs M) (m : M) (q : ℕ) (t : TokenVa
   pub needed : needs m asked q first need
   pub free : are_free need v.arena ≡ true
 
--- queue q is enabled
-abbrev pub with_queue_enabled : ℕ → PoolValue → PoolValue
-with_queue_enabled q v = record v { queues = with_enabled q v.queues }
-
 -- ---- services
 
--- what a module returned, if anything, was put on queue n
-abbrev pub with_any_put : ℕ → Option TokenValue → PoolValue → PoolValue
-with_any_put n None v = v
-with_any_put n (Some t) v = value_after v (on_queues v (putq n t.head (queued_blocks_of v)))
-
--- the first message of queue q was not held back and could go on to queue n: it was taken and treated, and what the module
--- returned was put on queue n
+-- the first message of queue q was not held back and could go on to queue n: it was taken, and treated by these steps
 pub record IsTreated {M : Type 0} (needs : Needs M) (treats : Treats M) (q n : ℕ) (m : M) (v : PoolValue) (k : M) (w : PoolValue) : Type 0 where
   pub token : TokenValue
   pub held : PoolValue
   pub taken : IsTaken q n token v held
   pub ready : IsReady needs m q token held
-  pub returned : Option TokenValue
-  pub left : PoolValue
-  pub treated : treats m held q token returned k left
-  pub keeps : KeepsQueued held left
-  pub had : IfSome returned (λ t. IsTrue (has left.arena t))
-  pub put : w ≡ with_any_put n returned left
+  pub steps : List Step
+  pub treated : treats m held q n token steps k w
+  pub stepped : AreSteps q steps held w
 
 -- a number of messages of queue q were treated, one after another
 abbrev pub AreTreated : {M : Type 0} → Needs M → Treats M → ℕ → ℕ → ℕ → M → PoolValue → M → PoolValue → Type 0
@@ -120,13 +110,39 @@ pub record IsFirstTreated {M : Type 0} (needs : Needs M) (treats : Treats M) (m 
   pub next : ℕ
   pub first : rows.first v.queues.run ≡ Some queue
   pub goes_on : next_of v.queues.specs queue ≡ Some next
+  pub met : IsMet needs m queue (with_queued v (next_service (queued_blocks_of v)).1)
   pub treated : IsQueueTreated needs treats queue next m (with_queued v (next_service (queued_blocks_of v)).1) k w
 
--- a number of queues were served, one after another
-abbrev pub AreQueuesTreated : {M : Type 0} → Needs M → Treats M → ℕ → M → PoolValue → M → PoolValue → Type 0
-AreQueuesTreated needs treats zero m v k w = (k ≡ m) × (w ≡ v)
-AreQueuesTreated {M} needs treats (suc count) m v k w = (l : M) × (x : PoolValue) × AreQueuesTreated needs treats count m v l x × IsFirstTreated needs treats l x k w
+-- the pool with another run list
+abbrev pub with_run : List ℕ → PoolValue → PoolValue
+with_run run v = record v { queues = record v.queues { run = run } }
 
--- some number of queues were served
-abbrev pub IsRunWith : {M : Type 0} → Needs M → Treats M → M → PoolValue → M → PoolValue → Type 0
-IsRunWith needs treats m v k w = (count : ℕ) × AreQueuesTreated needs treats count m v k w
+-- the first queue of the run list was held back, and is the last one now
+pub record IsTurned {M : Type 0} (needs : Needs M) (queue : ℕ) (ever : Bool) (m : M) (v : PoolValue) (k : M) (w : PoolValue) : Type 0 where
+  pub rest : List ℕ
+  pub run : v.queues.run ≡ queue ∷ rest
+  pub after : w ≡ with_run (rest ++ queue ∷ []) v
+  pub held : IsHeldBack needs k queue w ever
+  pub same : k ≡ m
+
+-- the first queue of the run list was served if `so` is true; otherwise it was held back
+abbrev pub IsTurn : {M : Type 0} → Needs M → Treats M → Bool → M → PoolValue → M → PoolValue → Type 0
+IsTurn needs treats true m v k w = IsFirstTreated needs treats m v k w
+IsTurn needs treats false m v k w = (queue : ℕ) × (ever : Bool) × IsTurned needs queue ever m v k w
+
+-- The queues of the run list had their turns, one after another: for each turn, last turn first, whether a queue was served.
+abbrev pub AreTurns : {M : Type 0} → Needs M → Treats M → List Bool → M → PoolValue → M → PoolValue → Type 0
+AreTurns needs treats [] m v k w = (k ≡ m) × (w ≡ v)
+AreTurns {M} needs treats (so ∷ turns) m v k w = (l : M) × (x : PoolValue) × AreTurns needs treats turns m v l x × IsTurn needs treats so l x k w
+
+-- the number of services among these turns
+abbrev pub services_of : List Bool → ℕ
+services_of turns = length (filter (λ so. so) turns)
+
+-- What a run did: queues had their turns. With a budget, there were no more services, and as many if it is spent.
+pub record IsRunWith {M : Type 0} (needs : Needs M) (treats : Treats M) (budget : Option ℕ) (m : M) (v : PoolValue) (ended : Ended) (k : M) (w : PoolValue) : Type 0 where
+  pub turns : List Bool
+  pub taken : AreTurns needs treats turns m v k w
+  pub within : IfSome budget (λ most. services_of turns ≤ most)
+  pub spent : ended ≡ Spent → budget ≡ Some (services_of turns)
+  pub ends : IsEnded needs k w ended

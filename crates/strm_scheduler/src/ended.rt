@@ -8,6 +8,8 @@ pub enum Ended {
     /// Each queue that is enabled is held back: what the module needs for its first message is not free. Free blocks, and run
     /// again.
     HeldBack,
+    /// The budget of services is spent, and a queue is enabled.
+    Spent,
     /// The module needs more for the first message of this queue than the pool has. The queue is the last one on the run list.
     NeverMet(u8),
 }

@@ -1,5 +1,5 @@
 //! A scheduler of service procedures, as `runqueues` of STREAMS: it forwards messages along sides of streams until no queue is
-//! enabled. No wake-up is lost: a message waits only for a band that is wanted, or for a block where none is free.
+//! enabled. No wake-up is lost: a message waits only for a band that is wanted, or for what a module needs.
 #![tactic(auto)]
 
 mod ended;
@@ -11,6 +11,7 @@ mod serving;
 mod sides;
 mod sides_fault;
 mod starting;
+mod steps;
 mod treating;
 
 pub use ended::Ended;
@@ -20,3 +21,4 @@ pub use passing::Passing;
 pub use service::{forward, may_go};
 pub use sides::Sides;
 pub use sides_fault::SidesFault;
+pub use steps::{enable, flush, send};

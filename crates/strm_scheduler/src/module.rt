@@ -1,12 +1,11 @@
 //! What a service procedure does with messages.
-ghost use Rattle.std.specs.Prelude.{IfSome, IsTrue};
+ghost use Rattle.std.specs.Prelude.{◌≢◌, ℕ, IsTrue, List};
 ghost use Rattle.strm_mblk.specs.Arena.{has};
-ghost use Rattle.strm_scheduler.specs.Laws.{KeepsQueued};
-ghost use Rattle.strm_scheduler.specs.Modules.{IsReady};
-ghost use Rattle.std.specs.Prelude.{ℕ, Option};
 ghost use Rattle.strm_mblk.specs.declared.token.TokenValue.{TokenValue};
-ghost use Rattle.strm_pool.specs.PoolValue.{PoolValue};
+ghost use Rattle.strm_pool.specs.PoolValue.{PoolValue, has_queue};
 ghost use Rattle.strm_queue.specs.declared.queued_info.QueuedInfo.{QueuedInfo};
+ghost use Rattle.strm_scheduler.specs.Modules.{IsReady};
+ghost use Rattle.strm_scheduler.specs.Steps.{AreSteps, Step};
 ghost use Rattle.strm_scheduler.specs.declared.need.Need.{Need as NeedValue};
 
 use crate::need::Need;
@@ -18,25 +17,26 @@ pub trait Module {
     // What `need` can return: the module, the pool, the queue, its first message, and what is returned.
     ghost needs: { Self → PoolValue → ℕ → QueuedInfo → NeedValue → Type 0 };
 
-    // What `treat` can do: the module and the pool before, the queue, the token, what is returned, and the module and the pool
-    // afterwards.
-    ghost treats: { Self → PoolValue → ℕ → TokenValue → Option TokenValue → Self → PoolValue → Type 0 };
+    // What `treat` can do: the module and the pool before, the queue, its next queue, the token, the steps, and the module and the
+    // pool afterwards.
+    ghost treats: { Self → PoolValue → ℕ → ℕ → TokenValue → List Step → Self → PoolValue → Type 0 };
 
-    /// Says what must be free before the module treats this message, the first one of a queue. Until then, the message stays on
-    /// its queue.
+    /// Says what must be free before the module treats this message, the first one of a queue, or that the module wants it
+    /// later. Until then, the message stays on its queue.
     ///
     /// If the pool has too few blocks for it even with all of them free, the run ends, and reports the queue.
     fn need(&self, pool: &Pool, queue: u8, first: &QueuedInfo) -> Need
         ensures { needs self.now pool.now queue first.now result };
 
-    /// Treats a message that has left a queue and may go on to the next one. What `need` asked for is free. Returns what goes
-    /// on, as a rule the message, changed or not; or none, once the message is freed, or held by the module.
+    /// Treats a message that has left a queue and may go on to the next one. What `need` asked for is free.
     ///
-    /// It may change held messages and wishes, and must leave the queues and the messages on them unchanged.
-    fn treat(&mut self, pool: &mut Pool, queue: u8, token: Token) -> Option<Token>
+    /// It may change held messages and wishes. Of queues, it may only [`send`](crate::send) messages to other ones, none, one or
+    /// several, [`flush`](crate::flush) and [`enable`](crate::enable), in any order: these are its steps.
+    fn treat(&mut self, pool: &mut Pool, queue: u8, next: u8, token: Token)
         requires has { IsTrue (has pool.old.arena token) }
         requires met { IsReady needs self.old queue token pool.old }
-        ensures treats { treats self.old pool.old queue token result self.new pool.new }
-        ensures keeps { KeepsQueued pool.old pool.new }
-        ensures had { IfSome result (λ treated. IsTrue (has pool.new.arena treated)) };
+        requires ahead { IsTrue (has_queue pool.old next) }
+        requires apart { queue ≢ next }
+        ensures { (steps : List Step) × treats self.old pool.old queue next token steps self.new pool.new
+            × AreSteps queue steps pool.old pool.new };
 }

@@ -9,7 +9,7 @@ ghost use Rattle.strm_queue.specs.QueueCalls as queues;
 ghost use Rattle.strm_scheduler.specs.Awake.{AreAllEmpty, AreEndsEmpty};
 ghost use Rattle.strm_scheduler.specs.Laws.{AreKeptAwake, KeepsQueued, take};
 ghost use Rattle.strm_scheduler.specs.Sides.{SidesOpen, fault_from, fault_of_queue, next_of};
-ghost use Rattle.strm_scheduler.specs.Modules.{IsEnded, IsRunWith};
+ghost use Rattle.strm_scheduler.specs.Modules.{IsRunWith, PassesOne};
 ghost use Rattle.strm_scheduler.specs.Order.{KeepsOrder};
 ghost use Rattle.strm_scheduler.specs.Running.{IsServed};
 
@@ -150,16 +150,19 @@ impl Sides {
         serve_all(&mut self.pool);
     }
 
-    /// As `run`, but a module treats each message on its way, after it has left its queue and before it goes to the next one.
+    /// As `run`, but a module treats each message that has left its queue and may go on to the next one.
     ///
     /// A message is held back while what the module needs for it ([`Module::need`]) is not free. It stays first on its queue,
     /// which stays enabled. Other queues are served meanwhile. If messages are held back at the end (`HeldBack`), free blocks,
     /// and call `run_with` again. A need that the pool can never meet ends the run at once (`NeverMet`).
-    pub fn run_with<M: Module>(&mut self, handler: &mut M) -> Ended
-        ensures ended { IsEnded M.needs handler.new self.new result }
-        ensures treated { IsRunWith M.needs M.treats handler.old self.old handler.new self.new }
+    ///
+    /// `budget` is the greatest number of services. Without one, the module must pass one message on at most for each that it
+    /// gets, and leave the queues unchanged otherwise: so the run ends.
+    pub fn run_with<M: Module>(&mut self, handler: &mut M, budget: Option<u32>) -> Ended
+        requires ends { budget ≡ None → PassesOne M.treats }
+        ensures { IsRunWith M.needs M.treats budget handler.old self.old result handler.new self.new }
     {
-        treat_all(&mut self.pool, handler)
+        treat_all(&mut self.pool, handler, budget)
     }
 
     /// Lends the pool to `call`, which may make and change held messages, and record wishes, but must leave the queues and the

@@ -1,20 +1,20 @@
-//! Service procedures of modules: they treat each message before it goes on to the next queue.
-ghost use Rattle.std.specs.Prelude.{◌≡◌, ◌≢◌, ◌+◌, ◌<◌, ◌≤◌, IsTrue, IfSome, Option, None, Some, [], false, length, true};
+//! Service procedures of modules: they treat each message that may go on to the next queue.
+ghost use Rattle.std.specs.Prelude.{◌≡◌, ◌≢◌, ◌+◌, ◌-◌, ◌<◌, ◌≤◌, IsTrue, IfSome, None, false, length, option_map, true};
 ghost use Rattle.strm_scheduler.specs.Forwarding.{KeepsRest};
 ghost use Rattle.strm_scheduler.specs.Handing.{handed_on};
-ghost use Rattle.strm_mblk.specs.declared.token.TokenValue.{TokenValue};
-ghost use Rattle.strm_mblk.specs.Arena.{has};
-ghost use Rattle.strm_pool.specs.PoolValue.{PoolValue, has_queue, queued_blocks_of};
-ghost use Rattle.strm_scheduler.specs.Holding.{IsTurned};
-ghost use Rattle.strm_scheduler.specs.Laws.{AreKeptAwake, KeepsQueued};
-ghost use Rattle.strm_scheduler.specs.Modules.{IsEnded, IsFirstTreated, IsHeldBack, IsMet, IsQueueTreated, IsReady, IsRunWith, IsTreated, with_any_put, with_queue_enabled};
+ghost use Rattle.strm_mblk.specs.Arena.{has, shelf_at};
+ghost use Rattle.strm_pool.specs.PoolValue.{has_queue, queued_blocks_of};
+ghost use Rattle.strm_scheduler.specs.Holding.{is_spent};
+ghost use Rattle.strm_scheduler.specs.Laws.{AreKeptAwake};
+ghost use Rattle.strm_scheduler.specs.Modules.{IsFirstTreated, IsHeldBack, IsMet, IsQueueTreated, IsRunWith, IsTreated, IsTurned, PassesOne};
 ghost use Rattle.strm_scheduler.specs.Serving.{FallsBy, IsServing, KeepsAllowed, TakesTo};
-ghost use Rattle.strm_scheduler.specs.Work.{from_here, power, powers, weigh, work};
+ghost use Rattle.strm_scheduler.specs.Work.{power, powers, weigh, work};
 
 use crate::ended::Ended;
 use crate::module::Module;
 use crate::service::may_go;
 use crate::starting::begin;
+use crate::steps::enable;
 use strm_pool::{Pool, Token};
 
 // A queue that was found held back: its number, and whether what is needed for its first message can become free.
@@ -24,20 +24,27 @@ struct Held {
     ever: bool,
 }
 
-// Takes queues off the run list and serves them, until all that are left on it are held back, or the need of one is never met.
-pub(crate) fn treat_all<M: Module>(pool: &mut Pool, handler: &mut M) -> Ended
-    requires { AreKeptAwake pool.old }
+// Takes queues off the run list and serves them, until all that are left on it are held back, the need of one is never met, or
+// the budget of services, if any, is spent.
+pub(crate) fn treat_all<M: Module>(pool: &mut Pool, handler: &mut M, budget: Option<u32>) -> Ended
+    requires awake { AreKeptAwake pool.old }
+    requires ends { budget ≡ None → PassesOne M.treats }
     ensures awake { AreKeptAwake pool.new }
-    ensures ended { IsEnded M.needs handler.new pool.new result }
-    ensures treated { IsRunWith M.needs M.treats handler.old pool.old handler.new pool.new }
-    ensures specs { pool.new.queues.specs ≡ pool.old.queues.specs }
+    ensures ran { IsRunWith M.needs M.treats budget handler.old pool.old result handler.new pool.new }
 {
     // How many queues were held back since the last service. They are at the end of the run list.
     let mut count = 0;
+    let mut left = budget;
     while pool.run_at(count).is_some() {
+        if is_spent(left) {
+            return Ended::Spent;
+        }
         pool.lawful();
         match treat_first(pool, handler) {
-            None => count = 0,
+            None => {
+                count = 0;
+                left = one_less(left);
+            }
             Some(held) if held.ever => count += 1,
             Some(held) => return Ended::NeverMet(held.queue),
         }
@@ -49,14 +56,35 @@ pub(crate) fn treat_all<M: Module>(pool: &mut Pool, handler: &mut M) -> Ended
     }
 }
 
+// Whether there is a budget, and nothing is left of it.
+fn is_spent(left: Option<u32>) -> bool
+    ensures { result ≡ is_spent left }
+{
+    match left {
+        Some(services) => services == 0,
+        None => false,
+    }
+}
+
+// What is left of a budget after a service.
+fn one_less(left: Option<u32>) -> Option<u32>
+    ensures { result ≡ option_map (λ services. services - 1) left }
+{
+    match left {
+        Some(services) => Some(services.saturating_sub(1)),
+        None => None,
+    }
+}
+
 // Takes the first queue off the run list. If it is held back, puts it at the end of the list, and returns it; otherwise serves
 // it.
 fn treat_first<M: Module>(pool: &mut Pool, handler: &mut M) -> Option<Held>
     requires awake { AreKeptAwake pool.old }
     requires some { 0 < length pool.old.queues.run }
     ensures awake { AreKeptAwake pool.new }
-    ensures treated { IsFirstTreated M.needs M.treats handler.old pool.old handler.new pool.new }
-    ensures falls { result ≡ None → work (queued_blocks_of pool.new) < work (queued_blocks_of pool.old) }
+    ensures treated { result ≡ None → IsFirstTreated M.needs M.treats handler.old pool.old handler.new pool.new }
+    ensures falls { result ≡ None → PassesOne M.treats
+        → work (queued_blocks_of pool.new) < work (queued_blocks_of pool.old) }
     ensures short { result ≡ None → length pool.new.queues.run ≤ length pool.new.queues.specs }
     ensures turned { IfSome result (λ held.
         IsTurned M.needs held.queue held.ever handler.old pool.old handler.new pool.new) }
@@ -82,7 +110,7 @@ fn treat_queue<M: Module>(pool: &mut Pool, handler: &mut M, queue: u8, next: u8)
     requires met { IsMet M.needs handler.old queue pool.old }
     ensures awake { AreKeptAwake pool.new }
     ensures treated { IsQueueTreated M.needs M.treats queue next handler.old pool.old handler.new pool.new }
-    ensures falls { FallsBy queue pool.old pool.new }
+    ensures falls { PassesOne M.treats → FallsBy queue pool.old pool.new }
     ensures specs { pool.new.queues.specs ≡ pool.old.queues.specs }
 {
     while treat_one(pool, handler, queue, next) {
@@ -109,28 +137,18 @@ fn held_back<M: Module>(pool: &Pool, handler: &M, queue: u8) -> Option<bool>
     }
 }
 
-// Puts a queue at the end of the run list.
-fn enable(pool: &mut Pool, queue: u8)
-    requires { IsTrue (has_queue pool.old queue) }
-    ensures { pool.new ≡ with_queue_enabled queue pool.old }
-{
-    match pool.qenable(queue) {
-        Ok(()) => {}
-        Err(_) => unreachable!(),
-    }
-}
-
-// Takes the first message off a queue, if it may go on to the next queue; treats it, and puts it there. Says whether there was
-// one.
+// Takes the first message off a queue, if it may go on to the next queue, and treats it. Says whether there was one.
 fn treat_one<M: Module>(pool: &mut Pool, handler: &mut M, queue: u8, next: u8) -> bool
     requires serving { IsServing queue next pool.old }
     requires met { IsMet M.needs handler.old queue pool.old }
     ensures serving { IsTrue result → IsServing queue next pool.new }
     ensures treated { IsTrue result → IsTreated M.needs M.treats queue next handler.old pool.old handler.new pool.new }
+    ensures fewer { IsTrue result → length (shelf_at pool.new.arena queue) < length (shelf_at pool.old.arena queue) }
+    ensures less { IsTrue result → PassesOne M.treats
+        → weigh pool.new.arena.shelves < weigh pool.old.arena.shelves }
     ensures ends { result ≡ false → handed_on queue next (queued_blocks_of pool.old)
         ≡ (false, queued_blocks_of pool.new) }
     ensures rest { result ≡ false → (handler.new ≡ handler.old) × (pool.new.wishes ≡ pool.old.wishes) }
-    ensures less { IsTrue result → weigh pool.new.arena.shelves < weigh pool.old.arena.shelves }
     ensures awake { result ≡ false → AreKeptAwake pool.new }
     ensures same { result ≡ false → weigh pool.new.arena.shelves ≡ weigh pool.old.arena.shelves }
     ensures run { result ≡ false → powers pool.new.queues.run < power queue + powers pool.old.queues.run }
@@ -140,44 +158,9 @@ fn treat_one<M: Module>(pool: &mut Pool, handler: &mut M, queue: u8, next: u8) -
     let Some(token) = take_allowed(pool, queue, next) else {
         return false;
     };
-    pass_on(pool, handler, queue, next, token);
-    true
-}
-
-// Treats a message, and puts what the module returns on the next queue.
-fn pass_on<M: Module>(pool: &mut Pool, handler: &mut M, queue: u8, next: u8, token: Token)
-    requires has { IsTrue (has pool.old.arena token) }
-    requires ahead { IsTrue (has_queue pool.old next) }
-    requires serving { IsServing queue next pool.old }
-    requires ready { IsReady M.needs handler.old queue token pool.old }
-    ensures serving { IsServing queue next pool.new }
-    ensures treated { (returned : Option TokenValue) × (left : PoolValue)
-        × M.treats handler.old pool.old queue token returned handler.new left
-        × KeepsQueued pool.old left × IfSome returned (λ t. IsTrue (has left.arena t))
-        × (pool.new ≡ with_any_put next returned left) }
-    ensures more { weigh pool.new.arena.shelves ≤ weigh pool.old.arena.shelves + from_here pool.old.arena.shelves next }
-    ensures specs { pool.new.queues.specs ≡ pool.old.queues.specs }
-{
-    if let Some(treated) = handler.treat(pool, queue, token) {
-        put_on(pool, queue, next, treated);
-    }
-}
-
-// Puts a message on the next queue.
-fn put_on(pool: &mut Pool, queue: u8, next: u8, token: Token)
-    requires has { IsTrue (has pool.old.arena token) }
-    requires ahead { IsTrue (has_queue pool.old next) }
-    requires serving { IsServing queue next pool.old }
-    ensures after { pool.new ≡ with_any_put next (Some token) pool.old }
-    ensures serving { IsServing queue next pool.new }
-    ensures more { weigh pool.new.arena.shelves ≤ weigh pool.old.arena.shelves + from_here pool.old.arena.shelves next }
-    ensures specs { pool.new.queues.specs ≡ pool.old.queues.specs }
-{
     pool.lawful();
-    match pool.putq(next, token) {
-        Ok(()) => {}
-        Err(_) => unreachable!(),
-    }
+    handler.treat(pool, queue, next, token);
+    true
 }
 
 // Takes the first message off a queue, if it may go on to the next queue. Otherwise it is put back.

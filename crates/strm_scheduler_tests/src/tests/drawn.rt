@@ -54,7 +54,7 @@ fn size(draw: &mut u32) -> u32 {
     if below(draw, 4) == 0 {
         below(draw, 4_097)
     } else {
-        below(draw, 4)
+        below(draw, 5)
     }
 }
 
@@ -199,7 +199,10 @@ impl Drawn {
             9 => self.ask(rt),
             10..12 => self.mark(rt),
             _ => {
-                let way = WAYS[below(&mut self.draw, 5) as usize];
+                let way = match below(&mut self.draw, 8) {
+                    way @ 0..5 => WAYS[way as usize],
+                    _ => Way::Answer(below(&mut self.draw, 8)),
+                };
                 self.run(rt, way);
             }
         }

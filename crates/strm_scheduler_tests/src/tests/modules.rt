@@ -1,14 +1,15 @@
-//! A module of each kind: one passes messages on, one changes their bytes, one drops some of them, one needs blocks, and one
-//! needs more than there are.
-ghost use Rattle.std.specs.Prelude.{◌≡◌, ◌<◌, IfSome, IsTrue, [], ◌∷◌, false};
+//! A module of each kind: one passes messages on, one changes their bytes, one drops some of them, one needs blocks, one
+//! needs more than there are, and one makes all steps that a module can make.
+ghost use Rattle.std.specs.Prelude.{◌≡◌, ◌≢◌, ◌<◌, IsTrue, List, [], ◌∷◌, false};
 ghost use Rattle.strm_mblk.specs.Arena.{has};
 ghost use Rattle.strm_mblk.specs.BlockCalls.{testb};
 ghost use Rattle.strm_scheduler.specs.Laws.{KeepsQueued};
+ghost use Rattle.strm_scheduler.specs.Steps.{AreSteps, PassOne, Step};
 
 use super::MOST;
 use super::plain::Standing;
-use strm_pool::{Pool, QueuedInfo, Token};
-use strm_scheduler::{Ended, Module, Need, Passing, Sides};
+use strm_pool::{Flush, Pool, QueuedInfo, Token};
+use strm_scheduler::{Ended, Module, Need, Passing, Sides, enable, flush, send};
 
 // The byte that a module writes over the first one of a message.
 const MARK: u8 = 255;
@@ -28,6 +29,8 @@ pub(super) enum Way {
     Borrow,
     // `run_with` and `Greedy`
     Greed,
+    // `run_with` and `Answering`, with this budget
+    Answer(u32),
 }
 
 // Writes over the first byte of a message, if it has one.
@@ -42,29 +45,33 @@ struct Dropping;
 #[derive(Clone, Copy)]
 struct Borrowing;
 
+// Enables the queue of the other side for a message of one byte, flushes it for one of two, puts one of three there, and wants
+// one of four later.
+#[derive(Clone, Copy)]
+struct Answering;
+
 // Needs a larger block than there is for each message of two bytes.
 #[derive(Clone, Copy)]
 struct Greedy;
 
-fn marked(pool: &mut Pool, token: Token) -> Option<Token>
-    requires { IsTrue (has pool.old.arena token) }
-    ensures keeps { KeepsQueued pool.old pool.new }
-    ensures had { IfSome result (λ treated. IsTrue (has pool.new.arena treated)) }
+// Passes a message on, if the pool still has it and the queue; otherwise frees it.
+fn passed(pool: &mut Pool, queue: u8, next: u8, token: Token)
+    requires { queue ≢ next }
+    ensures { (steps : List Step) × PassOne next steps × AreSteps queue steps pool.old pool.new }
 {
-    let _ = pool.overwrite(&token, 0, &[MARK]);
-    Some(token)
+    if pool.has(&token) && pool.has_queue(next) {
+        send(pool, next, token);
+    } else {
+        pool.freemsg(token);
+    }
 }
 
-fn dropped(pool: &mut Pool, token: Token) -> Option<Token>
-    requires { IsTrue (has pool.old.arena token) }
-    ensures keeps { KeepsQueued pool.old pool.new }
-    ensures had { IfSome result (λ treated. IsTrue (has pool.new.arena treated)) }
+// Writes over the first byte of a message.
+fn marked(pool: &mut Pool, token: &Token)
+    requires { IsTrue (has pool.old.arena token.now) }
+    ensures { KeepsQueued pool.old pool.new }
 {
-    if !is_dropped(token.head()) {
-        return Some(token);
-    }
-    pool.freemsg(token);
-    None
+    let _ = pool.overwrite(token, 0, &[MARK]);
 }
 
 // Allocates a block, which is free, and frees it again.
@@ -78,69 +85,82 @@ fn lend(pool: &mut Pool, size: u32)
     }
 }
 
-// Passes a message on, after a block of this size was lent.
-fn lent(pool: &mut Pool, token: Token, size: u32) -> Option<Token>
-    requires { IsTrue (testb size pool.old.arena) }
-    ensures keeps { KeepsQueued pool.old pool.new }
-    ensures had { IfSome result (λ treated. IsTrue (has pool.new.arena treated)) }
+// Puts a message on another queue than its own, if there is one; otherwise frees it.
+fn replied(pool: &mut Pool, queue: u8, other: u8, token: Token)
+    requires { IsTrue (has pool.old.arena token) }
+    ensures { (steps : List Step) × AreSteps queue steps pool.old pool.new }
 {
-    lend(pool, size);
-    if pool.has(&token) {
-        return Some(token);
+    if other != queue && pool.has_queue(other) {
+        send(pool, other, token);
+    } else {
+        pool.freemsg(token);
     }
-    pool.freemsg(token);
-    None
+}
+
+// Flushes a queue, if there is one.
+fn flushed(pool: &mut Pool, queue: u8, other: u8)
+    ensures { (steps : List Step) × AreSteps queue steps pool.old pool.new }
+{
+    if pool.has_queue(other) {
+        flush(pool, other, Flush::All);
+    }
+}
+
+// Enables a queue, if there is one.
+fn enabled(pool: &mut Pool, queue: u8, other: u8)
+    ensures { (steps : List Step) × AreSteps queue steps pool.old pool.new }
+{
+    if pool.has_queue(other) {
+        enable(pool, other);
+    }
 }
 
 const fn is_dropped(head: u32) -> bool {
     head % 3 == 0
 }
 
+// The queue of the other side of the same module, where sides take turns in the numbers.
+pub(super) const fn other_of(queue: u8) -> u8 {
+    queue ^ 1
+}
+
 impl Module for Marking {
     ghost needs = { λ m v q i r. r ≡ record { sizes = []; mblks = 0; later = false } };
 
-    ghost treats = { λ m v q t r n w. w ≡ w };
+    ghost treats = { λ m v q n t steps k w. PassOne n steps };
 
     fn need(&self, _pool: &Pool, _queue: u8, _first: &QueuedInfo) -> Need {
         Need::none()
     }
 
-    fn treat(&mut self, pool: &mut Pool, _queue: u8, token: Token) -> Option<Token> {
-        marked(pool, token)
+    fn treat(&mut self, pool: &mut Pool, queue: u8, next: u8, token: Token) {
+        marked(pool, &token);
+        passed(pool, queue, next, token);
     }
 }
 
 impl Module for Dropping {
     ghost needs = { λ m v q i r. r ≡ record { sizes = []; mblks = 0; later = false } };
 
-    ghost treats = { λ m v q t r n w. w ≡ w };
+    ghost treats = { λ m v q n t steps k w. PassOne n steps };
 
     fn need(&self, _pool: &Pool, _queue: u8, _first: &QueuedInfo) -> Need {
         Need::none()
     }
 
-    fn treat(&mut self, pool: &mut Pool, _queue: u8, token: Token) -> Option<Token> {
-        dropped(pool, token)
+    fn treat(&mut self, pool: &mut Pool, queue: u8, next: u8, token: Token) {
+        if is_dropped(token.head()) {
+            pool.freemsg(token);
+        } else {
+            passed(pool, queue, next, token);
+        }
     }
-}
-
-// Frees a message of one byte.
-fn borrowed(pool: &mut Pool, token: Token, size: u32) -> Option<Token>
-    requires { IsTrue (has pool.old.arena token) }
-    ensures keeps { KeepsQueued pool.old pool.new }
-    ensures had { IfSome result (λ treated. IsTrue (has pool.new.arena treated)) }
-{
-    if size == 0 {
-        return Some(token);
-    }
-    pool.freemsg(token);
-    None
 }
 
 impl Module for Borrowing {
     ghost needs = { λ m v q i r. 1 < i.size → (r ≡ record { sizes = i.size ∷ []; mblks = 0; later = false }) };
 
-    ghost treats = { λ m v q t r n w. w ≡ w };
+    ghost treats = { λ m v q n t steps k w. PassOne n steps };
 
     fn need(&self, _pool: &Pool, _queue: u8, first: &QueuedInfo) -> Need {
         if first.size > 1 {
@@ -150,19 +170,23 @@ impl Module for Borrowing {
         }
     }
 
-    fn treat(&mut self, pool: &mut Pool, _queue: u8, token: Token) -> Option<Token> {
+    fn treat(&mut self, pool: &mut Pool, queue: u8, next: u8, token: Token) {
         let size = pool.size(&token);
-        if size > 1 {
-            return lent(pool, token, size);
+        if size == 1 {
+            pool.freemsg(token);
+            return;
         }
-        borrowed(pool, token, size)
+        if size > 1 {
+            lend(pool, size);
+        }
+        passed(pool, queue, next, token);
     }
 }
 
 impl Module for Greedy {
     ghost needs = { λ m v q i r. r ≡ r };
 
-    ghost treats = { λ m v q t r n w. w ≡ w };
+    ghost treats = { λ m v q n t steps k w. PassOne n steps };
 
     fn need(&self, _pool: &Pool, _queue: u8, first: &QueuedInfo) -> Need {
         if first.size == 2 {
@@ -172,8 +196,36 @@ impl Module for Greedy {
         }
     }
 
-    fn treat(&mut self, _pool: &mut Pool, _queue: u8, token: Token) -> Option<Token> {
-        Some(token)
+    fn treat(&mut self, pool: &mut Pool, queue: u8, next: u8, token: Token) {
+        passed(pool, queue, next, token);
+    }
+}
+
+impl Module for Answering {
+    ghost needs = { λ m v q i r. r ≡ r };
+
+    ghost treats = { λ m v q n t steps k w. w ≡ w };
+
+    fn need(&self, _pool: &Pool, _queue: u8, first: &QueuedInfo) -> Need {
+        Need {
+            later: first.size == 4,
+            ..Need::none()
+        }
+    }
+
+    fn treat(&mut self, pool: &mut Pool, queue: u8, next: u8, token: Token) {
+        match pool.size(&token) {
+            1 => {
+                enabled(pool, queue, other_of(queue));
+                passed(pool, queue, next, token);
+            }
+            2 => {
+                flushed(pool, queue, other_of(queue));
+                passed(pool, queue, next, token);
+            }
+            3 => replied(pool, queue, other_of(queue), token),
+            _ => passed(pool, queue, next, token),
+        }
     }
 }
 
@@ -185,11 +237,12 @@ impl Way {
                 sides.run();
                 Ended::Idle
             }
-            Way::Pass => sides.run_with(&mut Passing),
-            Way::Mark => sides.run_with(&mut Marking),
-            Way::Drop => sides.run_with(&mut Dropping),
-            Way::Borrow => sides.run_with(&mut Borrowing),
-            Way::Greed => sides.run_with(&mut Greedy),
+            Way::Pass => sides.run_with(&mut Passing, None),
+            Way::Mark => sides.run_with(&mut Marking, None),
+            Way::Drop => sides.run_with(&mut Dropping, None),
+            Way::Borrow => sides.run_with(&mut Borrowing, None),
+            Way::Greed => sides.run_with(&mut Greedy, None),
+            Way::Answer(services) => sides.run_with(&mut Answering, Some(services)),
         }
     }
 
@@ -198,10 +251,23 @@ impl Way {
         matches!(self, Way::Borrow) && message.size > 1
     }
 
+    // Whether a message is wanted later, in the plain lists.
+    pub(super) fn is_later(self, message: &Standing) -> bool {
+        matches!(self, Way::Answer(_)) && message.size == 4
+    }
+
+    // The number of services that there may be.
+    pub(super) fn budget(self) -> Option<u32> {
+        match self {
+            Way::Answer(services) => Some(services),
+            _ => None,
+        }
+    }
+
     // What goes on of a message, in the plain lists.
     pub(super) fn treated(self, message: Standing) -> Option<Standing> {
         match self {
-            Way::Forward | Way::Pass | Way::Greed => Some(message),
+            Way::Forward | Way::Pass | Way::Greed | Way::Answer(_) => Some(message),
             Way::Mark if message.size == 0 => Some(message),
             Way::Mark => Some(Standing {
                 first: MARK,

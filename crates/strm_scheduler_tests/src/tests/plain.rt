@@ -1,7 +1,7 @@
 //! Sides of streams as plain lists, with service procedures that keep the rules of docs/MODEL.md.
 use super::MESSAGES;
 use super::making::is_high;
-use super::modules::Way;
+use super::modules::{Way, other_of};
 use std::alloc::Global;
 use std::process::Abort;
 use strm_pool::{BANDS, QueueSpec};
@@ -263,6 +263,27 @@ impl Plain {
         self.settle(rt, queue);
     }
 
+    // Takes all messages off a queue, and enables it.
+    fn flush(&mut self, rt: &impl Abort, queue: u8) {
+        self.queue(rt, queue).messages.clear();
+        self.settle(rt, queue);
+        self.enable(rt, queue);
+    }
+
+    // Does what the answering module does with a message.
+    fn answer(&mut self, rt: &impl Abort, queue: u8, next: u8, message: Standing) {
+        let other = other_of(queue);
+        let there = usize::from(other) < self.queues.len();
+        match message.size {
+            1 if there => self.enable(rt, other),
+            2 if there => self.flush(rt, other),
+            3 if there => return self.putq(rt, other, message),
+            3 => return,
+            _ => {}
+        }
+        self.putq(rt, next, message);
+    }
+
     // Hands the first message of a queue on, if there is one and it may go. Says whether it went.
     fn hand_on(&mut self, rt: &impl Abort, queue: u8, next: u8, way: Way) -> bool {
         let Some(message) = self.getq(rt, queue) else {
@@ -272,7 +293,9 @@ impl Plain {
             self.putbq(rt, queue, message);
             return false;
         }
-        if let Some(treated) = way.treated(message) {
+        if way.budget().is_some() {
+            self.answer(rt, queue, next, message);
+        } else if let Some(treated) = way.treated(message) {
             self.putq(rt, next, treated);
         }
         true
@@ -295,7 +318,7 @@ impl Plain {
         let Some(first) = own.messages.first() else {
             return false;
         };
-        way.needs(first) && self.count() == MESSAGES as usize
+        way.is_later(first) || way.needs(first) && self.count() == MESSAGES as usize
     }
 
     // Serves a queue: its messages are handed on, until none is left, one may not go, or one is held back. Then the queue is
@@ -326,16 +349,23 @@ impl Plain {
         true
     }
 
-    // Serves the queues on the run list until each one is held back.
+    // Serves the queues on the run list until each one is held back, or the budget is spent.
     pub(super) fn run(&mut self, rt: &impl Abort, way: Way) -> Ended {
-        for _service in 0..SERVICES {
+        let mut left = way.budget();
+        for _turn in 0..SERVICES {
             if self.run.is_empty() {
                 return Ended::Idle;
+            }
+            if left == Some(0) {
+                return Ended::Spent;
             }
             if self.is_at_rest(way) {
                 return Ended::HeldBack;
             }
             let queue = self.run.remove(0);
+            if !self.holds_back(queue, way) {
+                left = left.map(|services| services.wrapping_sub(1));
+            }
             self.serve(rt, queue, way);
         }
         panic!(rt; "a run does not end");

@@ -1,17 +1,18 @@
--- All queues are kept awake. The last queues of the run list are held back. The work falls, or one more of them is.
-use Rattle.std.proofs.Common.{◌≡◌}
+-- All queues are kept awake. The last queues of the run list are held back. The work or what is left of the budget falls, or one more
+-- queue is held back.
+use Rattle.std.proofs.Common.{Bool, List}
 use Rattle.strm_scheduler.specs.Holding.{AreLastHeldBack, work_left}
 use Rattle.strm_scheduler.specs.Laws.{AreKeptAwake}
-use Rattle.strm_scheduler.specs.Modules.{IsRunWith}
+use Rattle.strm_scheduler.specs.Modules.{AreTurns}
+use Rattle.strm_scheduler.proofs.Holding.{IsLeft}
 use Rattle.strm_scheduler.proofs.treating.treat_all.Given as goal
 
-abbrev pub invariant-loop-pool : goal.invariant-loop-pool
-invariant-loop-pool g l = record {
+abbrev pub invariant-loop-left : goal.invariant-loop-left
+invariant-loop-left g l = record {
   awake : AreKeptAwake l.pool;
   last : AreLastHeldBack g.M.Module.needs l.handler l.count l.pool;
-  treated : IsRunWith g.M.Module.needs g.M.Module.treats l.initial.handler l.initial.pool l.handler l.pool;
-  specs : l.pool.queues.specs ≡ l.initial.pool.queues.specs;
+  turns : (turns : List Bool) × AreTurns g.M.Module.needs g.M.Module.treats turns l.initial.handler l.initial.pool l.handler l.pool × IsLeft l.fn.budget l.left turns;
 }
 
-abbrev pub decreases-loop-pool : goal.decreases-loop-pool
-decreases-loop-pool g l = work_left l.pool l.count
+abbrev pub decreases-loop-left : goal.decreases-loop-left
+decreases-loop-left g l = work_left l.left l.pool l.count

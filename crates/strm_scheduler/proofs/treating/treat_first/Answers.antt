@@ -1,8 +1,8 @@
 -- A service keeps all queues awake, and leaves less work. A queue that is held back is enabled again.
-use Rattle.std.proofs.Common.{ap, arith, inr, length, refl, subst, sym, zero, ◌∙◌}
+use Rattle.std.proofs.Common.{ap, arith, length, subst, sym, ◌∙◌}
 use Rattle.strm_pool.specs.PoolValue.{PoolValue}
 use Rattle.strm_scheduler.specs.Laws.{AreKeptAwake}
-use Rattle.strm_scheduler.specs.Modules.{IsQueueTreated}
+use Rattle.strm_scheduler.specs.Modules.{IsMet, IsQueueTreated}
 use Rattle.strm_scheduler.proofs.Beginning.{falls_begun}
 use Rattle.strm_scheduler.proofs.Holding.{enabled_specs, kept_enabled, turned}
 use Rattle.strm_scheduler.proofs.treating.treat_first.Goals as goal
@@ -17,27 +17,6 @@ enable-requires g c = c.in-Some.ensures.begun.behind
 
 pub returns-in-Some-held_back-clause-awake : goal.returns-in-Some-held_back-clause-awake
 returns-in-Some-held_back-clause-awake g c = subst AreKeptAwake (sym c.enable.ensures) (kept_enabled c.in-Some.queue c.in-Some.next c.begin.new.pool c.in-Some.ensures.begun.serving)
-
-pub returns-in-Some-held_back-clause-treated : goal.returns-in-Some-held_back-clause-treated
-returns-in-Some-held_back-clause-treated g c =
-    let begun = c.in-Some.ensures.begun in
-    let m = c.args.handler.now in
-    let x = c.begin.new.pool in
-    let w = c.enable.new.pool in
-    record {
-      queue = c.in-Some.queue;
-      next = c.in-Some.next;
-      first = begun.first;
-      goes_on = begun.next;
-      treated = subst (λ (p : PoolValue). IsQueueTreated g.M.Module.needs g.M.Module.treats c.in-Some.queue c.in-Some.next m p m w) begun.after
-          (record {
-            count = zero;
-            last = x;
-            treated = (refl, refl);
-            ends = inr (c.in-Some-held_back.ever, c.in-Some-held_back.ensures.held, c.enable.ensures);
-            wishes = ap (λ (p : PoolValue). p.wishes) c.enable.ensures;
-          });
-    }
 
 pub returns-in-Some-held_back-clause-turned : goal.returns-in-Some-held_back-clause-turned
 returns-in-Some-held_back-clause-turned g c =
@@ -59,16 +38,18 @@ treat_queue-requires g c = record {
 
 pub returns-clause-falls : goal.returns-clause-falls
 returns-clause-falls g c =
-    λ some. falls_begun c.args.pool.now c.begin.new.pool c.in-Some.queue c.in-Some.next c.in-Some.ensures.begun c.treat_queue.new.pool c.treat_queue.ensures.specs c.lawful.ensures c.treat_queue.ensures.falls
+    λ none passes. falls_begun c.args.pool.now c.begin.new.pool c.in-Some.queue c.in-Some.next c.in-Some.ensures.begun c.treat_queue.new.pool c.treat_queue.ensures.specs c.lawful.ensures
+    (c.treat_queue.ensures.falls passes)
 
 pub returns-clause-treated : goal.returns-clause-treated
 returns-clause-treated g c =
     let begun = c.in-Some.ensures.begun in
-    record {
+    λ none. record {
       queue = c.in-Some.queue;
       next = c.in-Some.next;
       first = begun.first;
       goes_on = begun.next;
+      met = subst (λ (p : PoolValue). IsMet g.M.Module.needs c.args.handler.now c.in-Some.queue p) begun.after (c.held_back.ensures.met c.in_default-held_back.is);
       treated = subst (λ (p : PoolValue). IsQueueTreated g.M.Module.needs g.M.Module.treats c.in-Some.queue c.in-Some.next c.args.handler.now p c.treat_queue.new.handler c.treat_queue.new.pool) begun.after
           c.treat_queue.ensures.treated;
     }

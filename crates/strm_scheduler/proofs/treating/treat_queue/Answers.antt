@@ -2,7 +2,7 @@
 use Rattle.std.proofs.Common.{ap, arith, inl, inr, refl, subst, suc, sym, zero, ◌∙◌}
 use Rattle.strm_pool.specs.PoolValue.{PoolValue}
 use Rattle.strm_scheduler.specs.Laws.{AreKeptAwake}
-use Rattle.strm_scheduler.specs.Modules.{AreTreated, IsMet}
+use Rattle.strm_scheduler.specs.Modules.{AreTreated, IsMet, PassesOne}
 use Rattle.strm_scheduler.specs.Work.{weigh}
 use Rattle.strm_scheduler.proofs.Holding.{enabled_specs, kept_enabled, there_same}
 use Rattle.strm_scheduler.proofs.Treated.{falls_ended, moved_more}
@@ -19,7 +19,7 @@ loop-pool-preserved g c =
       serving = step.serving refl;
       met = c.held_back.ensures.met c.in_default.is;
       treated = (suc before.treated.0, (c.loop-pool.handler, c.loop-pool.pool, before.treated.1, step.treated refl));
-      moved = inr (moved_more c.args.pool.now c.loop-pool.pool c.treat_one.new.pool before.moved (step.less refl));
+      moved = inr (moved_more (PassesOne g.M.Module.treats) c.args.pool.now c.loop-pool.pool c.treat_one.new.pool before.moved (step.less refl));
       specs = step.specs ∙ before.specs;
     }
 
@@ -44,7 +44,8 @@ returns-in-Some-clause-treated g c =
 
 pub returns-in-Some-clause-falls : goal.returns-in-Some-clause-falls
 returns-in-Some-clause-falls g c =
-    let less = moved_more c.args.pool.now c.loop-pool.pool c.treat_one.new.pool c.loop-pool.invariant.moved (c.loop-pool-test.ensures.less refl) in
+    λ passes.
+    let less = moved_more (PassesOne g.M.Module.treats) c.args.pool.now c.loop-pool.pool c.treat_one.new.pool c.loop-pool.invariant.moved (c.loop-pool-test.ensures.less refl) passes in
     inl (omega (arith, less, ap (λ (p : PoolValue). weigh p.arena.shelves) c.enable.ensures))
 
 pub returns-in-Some-clause-specs : goal.returns-in-Some-clause-specs
@@ -68,4 +69,7 @@ returns-clause-treated g c =
 
 pub returns-clause-falls : goal.returns-clause-falls
 returns-clause-falls g c =
-    falls_ended c.args.queue c.args.pool.now c.loop-pool.pool c.treat_one.new.pool c.loop-pool.invariant.moved (c.loop-pool-test.ensures.same refl) (c.loop-pool-test.ensures.run refl)
+    falls_ended (PassesOne g.M.Module.treats) c.args.queue c.args.pool.now c.loop-pool.pool c.treat_one.new.pool c.loop-pool.invariant.moved (c.loop-pool-test.ensures.same refl) (c.loop-pool-test.ensures.run refl)
+
+pub loop-pool-smaller : goal.loop-pool-smaller
+loop-pool-smaller g c = c.loop-pool-test.ensures.fewer refl

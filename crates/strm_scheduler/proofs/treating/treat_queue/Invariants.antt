@@ -1,6 +1,7 @@
 -- The queue is being served, and is not held back: so far messages were treated, or nothing has changed.
-use Rattle.std.proofs.Common.{◌≡◌, ℕ, ◌<◌, ◌⊎◌}
-use Rattle.strm_scheduler.specs.Modules.{AreTreated, IsMet}
+use Rattle.std.proofs.Common.{◌≡◌, ℕ, length, ◌<◌, ◌⊎◌}
+use Rattle.strm_mblk.specs.Arena.{shelf_at}
+use Rattle.strm_scheduler.specs.Modules.{AreTreated, IsMet, PassesOne}
 use Rattle.strm_scheduler.specs.Serving.{IsServing}
 use Rattle.strm_scheduler.specs.Work.{weigh}
 use Rattle.strm_scheduler.proofs.treating.treat_queue.Given as goal
@@ -10,9 +11,9 @@ invariant-loop-pool g l = record {
   serving : IsServing l.queue l.next l.pool;
   met : IsMet g.M.Module.needs l.handler l.queue l.pool;
   treated : (count : ℕ) × AreTreated g.M.Module.needs g.M.Module.treats l.queue l.next count l.initial.handler l.initial.pool l.handler l.pool;
-  moved : (l.pool ≡ l.initial.pool) ⊎ (weigh l.pool.arena.shelves < weigh l.initial.pool.arena.shelves);
+  moved : (l.pool ≡ l.initial.pool) ⊎ (PassesOne g.M.Module.treats → weigh l.pool.arena.shelves < weigh l.initial.pool.arena.shelves);
   specs : l.pool.queues.specs ≡ l.initial.pool.queues.specs;
 }
 
 abbrev pub decreases-loop-pool : goal.decreases-loop-pool
-decreases-loop-pool g l = weigh l.pool.arena.shelves
+decreases-loop-pool g l = length (shelf_at l.pool.arena l.queue)

@@ -1,0 +1,60 @@
+-- What a module does to the queues while it treats a message, step by step.
+use Rattle.std.specs.Prelude.{◌≡◌, ◌≢◌, ℕ, true, List, [], ◌∷◌}
+use Rattle.strm_mblk.specs.declared.token.TokenValue.{TokenValue}
+use Rattle.strm_mblk.specs.Arena.{has}
+use Rattle.strm_mblk.specs.Given.{value_after}
+use Rattle.strm_pool.specs.PoolValue.{PoolValue, has_queue, on_queues, queued_blocks_of}
+use Rattle.strm_queue.specs.declared.flush.Flush.{Flush}
+use Rattle.strm_queue.specs.Flow.{with_enabled}
+use Rattle.strm_queue.specs.QueueCalls.{flushq, putq}
+use Rattle.strm_scheduler.specs.Laws.{KeepsQueued}
+
+-- A step. Changed: held messages and wishes changed. Put: the message of this token was put on this queue. Flushed: messages of this
+-- queue, all or those that carry data, were freed, and it was enabled. Enabled: this queue was enabled.
+pub data Step : Type 0 where
+  Changed : Step
+  Put : ℕ → TokenValue → Step
+  Flushed : ℕ → Flush → Step
+  Enabled : ℕ → Step
+
+-- queue p is enabled
+abbrev pub with_queue_enabled : ℕ → PoolValue → PoolValue
+with_queue_enabled p v = record v { queues = with_enabled p v.queues }
+
+-- the message of token t was put on queue p
+abbrev pub with_message_put : ℕ → TokenValue → PoolValue → PoolValue
+with_message_put p t v = value_after v (on_queues v (putq p t.head (queued_blocks_of v)))
+
+-- queue p was flushed, and enabled
+abbrev pub with_queue_flushed : ℕ → Flush → PoolValue → PoolValue
+with_queue_flushed p flush v = with_queue_enabled p (value_after v (on_queues v (flushq p flush (queued_blocks_of v))))
+
+-- A step of a module that treats a message of queue q. It puts no message on queue q.
+abbrev pub IsStep : ℕ → Step → PoolValue → PoolValue → Type 0
+IsStep q Changed v w = KeepsQueued v w
+IsStep q (Put p t) v w = (q ≢ p) × (has_queue v p ≡ true) × (has v.arena t ≡ true) × (w ≡ with_message_put p t v)
+IsStep q (Flushed p flush) v w = (has_queue v p ≡ true) × (w ≡ with_queue_flushed p flush v)
+IsStep q (Enabled p) v w = w ≡ with_queue_enabled p v
+
+-- these steps were taken, first to last
+abbrev pub AreSteps : ℕ → List Step → PoolValue → PoolValue → Type 0
+AreSteps q [] v w = w ≡ v
+AreSteps q (s ∷ ss) v w = (x : PoolValue) × IsStep q s v x × AreSteps q ss x w
+
+-- ---- steps that send nothing back
+
+-- queues are unchanged
+abbrev pub AreStill : List Step → Type 0
+AreStill [] = Unit {0}
+AreStill (Changed ∷ ss) = AreStill ss
+AreStill (Put p t ∷ ss) = ⊥
+AreStill (Flushed p flush ∷ ss) = ⊥
+AreStill (Enabled p ∷ ss) = ⊥
+
+-- one message at most is put, on queue n; queues are unchanged otherwise
+abbrev pub PassOne : ℕ → List Step → Type 0
+PassOne n [] = Unit {0}
+PassOne n (Changed ∷ ss) = PassOne n ss
+PassOne n (Put p t ∷ ss) = (p ≡ n) × AreStill ss
+PassOne n (Flushed p flush ∷ ss) = ⊥
+PassOne n (Enabled p ∷ ss) = ⊥
