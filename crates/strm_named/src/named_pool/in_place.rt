@@ -3,6 +3,7 @@ ghost use Rattle.std.specs.Prelude.{◌≡◌, ◌-◌, [], ◌++◌, IfErr, IfO
 ghost use Rattle.std.specs.Fn.{FnOnceReturnsAtMut, FnOnceTakesAtMut};
 ghost use Rattle.strm_mblk.specs.Arena.{message_at};
 ghost use Rattle.strm_mblk.specs.InPlace as in_place;
+ghost use Rattle.strm_mblk.specs.Looks as looks;
 ghost use Rattle.strm_named.specs.NamedCalls.{Does, LendsNamed, asked, if_valid, no_message, on_name, result_map};
 ghost use Rattle.strm_pool.specs.PoolValue.{on_arena};
 
@@ -35,6 +36,17 @@ impl NamedPool {
             return Err(Fault::Invalid);
         }
         answered(self.pool.place(lent(&self.pool, &self.places, name), place))
+    }
+
+    /// Returns the number of a message's block `place`, counted from 0. Refused as `Invalid`, then `NoSuchBlock`. As
+    /// [`Blocks::number`] of strm_mblk.
+    pub fn number(&self, name: Name, place: u32) -> Result<u32, Fault>
+        ensures { result ≡ asked self.now name (looks.number name.head place self.now.pool.arena) }
+    {
+        if !self.has(name) {
+            return Err(Fault::Invalid);
+        }
+        answered(self.pool.number(lent(&self.pool, &self.places, name), place))
     }
 
     /// Writes what `block` returns of a message's blocks, from block `from` on, into `into`, and returns their number. Refused

@@ -1,6 +1,5 @@
 //! Looks at queues and at the messages on them: each makes the call of strm_queue with its name, and changes nothing.
-ghost use Rattle.std.specs.Prelude.{◌≡◌, ◌-◌, ◌++◌, ℕ, IfErr, IsTrue, Ok, drop, length, min, take};
-ghost use Rattle.strm_mblk.specs.Arena.{has, message_at};
+ghost use Rattle.std.specs.Prelude.{◌≡◌, ◌-◌, ◌++◌, ℕ, IfErr, Ok, drop, length, min, take};
 ghost use Rattle.strm_mblk.specs.Block.{Message, bytes_of, size_of};
 ghost use Rattle.strm_mblk.specs.Given.{answer_map};
 ghost use Rattle.strm_pool.specs.PoolValue.{queued_blocks_of};
@@ -8,7 +7,6 @@ ghost use Rattle.strm_queue.specs.QueueLooks as looks;
 
 use super::Pool;
 use strm_data::Refusal;
-use strm_mblk::Token;
 use strm_queue::{QueueSpec, QueuedInfo};
 
 impl Pool {
@@ -93,23 +91,5 @@ impl Pool {
             ≡ looks.queued_bytes head place (queued_blocks_of self.now) }
     {
         self.queues.queued_bytes(&self.blocks, head, place)
-    }
-
-    /// Returns what a held message is like, as [`Pool::queued_at`] does of a queued one. Takes a step for each block. In
-    /// STREAMS, modules do this by hand.
-    pub fn message(&self, token: &Token) -> QueuedInfo
-        requires { IsTrue (has self.now.arena token.now) }
-        ensures { looks.info_of_message self.now.arena.store (message_at self.now.arena token.now.head) ≡ Ok result }
-    {
-        let Ok(block) = self.blocks.block(token, 0) else {
-            unreachable!()
-        };
-        QueuedInfo {
-            head: token.head(),
-            kind: block.kind,
-            band: block.band,
-            size: self.blocks.size(token),
-            blocks: token.blocks(),
-        }
     }
 }
