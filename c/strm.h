@@ -197,7 +197,7 @@ extern "C" {
 
 /* The version of this header, as a text and as a number. */
 #define STRM_VERSION "0.5.0"
-#define STRM_VERSION_NUMBER 4000
+#define STRM_VERSION_NUMBER 5000
 
 enum {
 	STRM_OK = 0,			/* done */

@@ -21,7 +21,7 @@ use Rattle.strm_queue.specs.QueueCalls.{flags_left, flags_of, message_put, messa
 use Rattle.strm_queue.specs.QueuedBlocks.{QueuedBlocks}
 use Rattle.strm_queue.specs.QueueSpecs.{are_lawful}
 use Rattle.strm_queue.specs.Rank.{as_queued, put_behind, rank_of}
-use Rattle.strm_queue.proofs.order.Ranks.{rank_of-queued}
+use Rattle.strm_queue.proofs.order.Order.{rank_of-queued}
 use Rattle.strm_scheduler.specs.Awake.{is_awake, may_rest}
 use Rattle.strm_scheduler.specs.Laws.{KeepsQueued}
 use Rattle.strm_scheduler.specs.Serving.{IsServing}

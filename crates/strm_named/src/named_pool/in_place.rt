@@ -46,7 +46,10 @@ impl NamedPool {
         if !self.has(name) {
             return Err(Fault::Invalid);
         }
-        answered(self.pool.number(lent(&self.pool, &self.places, name), place))
+        answered(
+            self.pool
+                .number(lent(&self.pool, &self.places, name), place),
+        )
     }
 
     /// Writes what `block` returns of a message's blocks, from block `from` on, into `into`, and returns their number. Refused
