@@ -15,6 +15,7 @@ use strm_pool::Rejected;
 impl NamedPool {
     /// Makes a message of one block for `size` bytes, and returns its name. Refused as `TooLarge`, `NoMblk`, then `NoData`. As
     /// [`Blocks::allocb`] of strm_mblk.
+    #[inline(always)]
     pub fn allocb(&mut self, size: u32) -> Result<Name, Fault>
         ensures { Does one_message (outcome_of (on_arena self.old.pool (blocks.allocb size self.old.pool.arena)))
             [] self.old self.new result }
@@ -90,6 +91,7 @@ impl NamedPool {
     }
 
     /// Frees a message, and spends its name. Refused as `Invalid`. As [`Blocks::freemsg`] of strm_mblk.
+    #[inline(always)]
     pub fn freemsg(&mut self, name: Name) -> Result<(), Fault>
         ensures { Does no_message (on_name self.old name
             (given_nothing (with_arena self.old.pool (freeing.freemsg name.head self.old.pool.arena)))) (name.head ∷ [])
@@ -99,7 +101,7 @@ impl NamedPool {
             return Err(Fault::Invalid);
         }
         let token = taken(&self.pool, &mut self.places, name);
-        self.pool.freemsg(token);
+        self.pool.free_held(token);
         Ok(())
     }
 

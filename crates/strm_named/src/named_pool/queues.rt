@@ -18,6 +18,7 @@ const MOST_TAKEN: usize = u32::MAX as usize;
 impl NamedPool {
     /// Puts a message on a queue, after the last message whose rank is at least its own, and spends its name. Refused as
     /// `Invalid`, then `NoSuchQueue`. As [`Queues::putq`] of strm_queue.
+    #[inline(always)]
     pub fn putq(&mut self, queue: u8, name: Name) -> Result<(), Fault>
         ensures { Does no_message (on_name self.old name (on_queues self.old.pool
             (queues.putq queue name.head (queued_blocks_of self.old.pool)))) (name.head ∷ []) self.old self.new result }
@@ -77,6 +78,7 @@ impl NamedPool {
 
     /// Removes the first message of a queue, if any, and returns its new name. Refused as `NoSuchQueue`. As [`Queues::getq`] of
     /// strm_queue.
+    #[inline(always)]
     pub fn getq(&mut self, queue: u8) -> Result<Option<Name>, Fault>
         ensures { Does any_message (outcome_of (on_queues self.old.pool
             (queues.getq queue (queued_blocks_of self.old.pool))))
