@@ -125,7 +125,7 @@ int ddi_serve(void);
 int ddi_is_full(const queue_t *q, int band);
 
 /* trace.c: as messages change, lines of a trace, between begin and end of a call. In the format %f is a message that the call takes, %t one that
- * it returns or none, %q a queue; %d, %l and %s are an int, a long and a text. */
+ * it returns or none, %q a queue; %d, %l and %s are an int, a long and a text. The reply may have further ones. */
 extern FILE *ddi_traced;
 void ddi_trace_open(void);
 void ddi_trace_queues(queue_t *pair);
@@ -133,6 +133,7 @@ void ddi_trace_close(void);
 void ddi_trace_caller(void);
 void ddi_trace_begin(void);
 void ddi_trace_end(const char *reply, const char *format, ...);
+const char *ddi_reply(int code);
 const char *ddi_type_name(int type);
 #define BEGIN_CALL() (ddi_traced ? ddi_trace_begin() : (void)0)
 #define END_CALL(...) (ddi_traced ? ddi_trace_end(__VA_ARGS__) : (void)0)

@@ -290,12 +290,6 @@ size_t ddi_size(const mblk_t *mp)
 	return size;
 }
 
-static const char *reply_of(int code)
-{
-	return code == STRM_OK ? "ok" : code == STRM_TOO_LARGE ? "refused 1 TooLarge" : code == STRM_NO_MBLK ? "refused 2 NoMblk" :
-		code == STRM_NO_DATA ? "refused 3 NoData" : code == STRM_REF_MAX ? "refused 4 RefMax" : "refused 8 Short";
-}
-
 /* ---- made and freed */
 
 static struct block *allocate(size_t size, const char *routine)
@@ -305,7 +299,7 @@ static struct block *allocate(size_t size, const char *routine)
 	struct block *b = code == STRM_OK ? new_block(0, name, new_data(0, name, M_DATA), NULL, routine) : NULL;
 	if (!b && ddi_frame)
 		ddi_frame->failed = strm_ddi_at;
-	END_CALL(reply_of(code), "allocb %t %l", b ? &b->m : NULL, (long)size);
+	END_CALL(ddi_reply(code), "allocb %t %l", b ? &b->m : NULL, (long)size);
 	return b;
 }
 
@@ -412,7 +406,7 @@ static mblk_t *made_of(mblk_t *mp, int (*make)(struct block *, struct block **, 
 		if (strm_census(&ddi_pools[0].pool, &census) == STRM_OK && (uint32_t)count > census.free)
 			code = STRM_NO_MBLK;
 	}
-	END_CALL(reply_of(code), call, mp, first);
+	END_CALL(ddi_reply(code), call, mp, first);
 	return first;
 }
 
@@ -530,7 +524,7 @@ int pullupmsg(mblk_t *mp, ssize_t length)
 	BEGIN_CALL();
 	size = length == -1 ? leading(mp) : length;
 	code = length < -1 || size > leading(mp) ? STRM_SHORT : size > MBLKL(mp) ? pull(b, (size_t)size) : STRM_OK;
-	END_CALL(reply_of(code), "pullupmsg %f %l", mp, (long)length);
+	END_CALL(ddi_reply(code), "pullupmsg %f %l", mp, (long)length);
 	return code == STRM_OK;
 }
 
@@ -591,13 +585,11 @@ mblk_t *rmvb(mblk_t *mp, mblk_t *bp)
 size_t msgdsize(mblk_t *mp)
 {
 	size_t size = 0;
-	char reply[32];
 	if (!ddi_held(mp, "msgdsize"))
 		return 0;
 	BEGIN_CALL();
 	for (const mblk_t *bp = mp; bp; bp = bp->b_cont)
 		size += bp->b_datap->db_type == M_DATA ? (size_t)MBLKL(bp) : 0;
-	snprintf(reply, sizeof reply, "size %zu", size);
-	END_CALL(reply, "msgdsize %f", mp);
+	END_CALL("size %l", "msgdsize %f", mp, (long)size);
 	return size;
 }

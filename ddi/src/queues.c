@@ -43,11 +43,11 @@ static int is_inside(const queue_t *q, int is_writer)
 
 static void add_later(queue_t *q, mblk_t *mp, void (*function)(queue_t *, mblk_t *))
 {
-	struct later *later = malloc(sizeof *later), **at = &later_first;
-	*later = (struct later){ .q = q, .mp = mp, .function = function };
+	struct later **at = &later_first;
 	while (*at)
 		at = &(*at)->next;
-	*at = later;
+	*at = malloc(sizeof **at);
+	**at = (struct later){ .q = q, .mp = mp, .function = function };
 }
 
 void ddi_enter(struct frame *frame, queue_t *q, const char *procedure)
@@ -240,28 +240,19 @@ void ddi_forget(queue_t *q)
 
 /* ---- enabling */
 
-void qenable(queue_t *q)
-{
-	BEGIN_CALL();
-	if (q->q_qinfo->qi_srvp)
-		strm_qenable(AT(q));
-	END_CALL("ok", "qenable %q", q);
-}
-
-void noenable(queue_t *q)
-{
-	BEGIN_CALL();
-	strm_noenable(AT(q));
-	END_CALL("ok", "noenable %q", q);
-}
-
-void enableok(queue_t *q)
-{
-	BEGIN_CALL();
-	if (q->q_qinfo->qi_srvp)
-		strm_enableok(AT(q));
-	END_CALL("ok", "enableok %q", q);
-}
+/* A queue without a service procedure is never enabled. */
+#define ENABLING(name) \
+	void name(queue_t *q) \
+	{ \
+		if (!q->q_qinfo->qi_srvp) \
+			return; \
+		BEGIN_CALL(); \
+		strm_##name(AT(q)); \
+		END_CALL("ok", #name " %q", q); \
+	}
+ENABLING(qenable)
+ENABLING(noenable)
+ENABLING(enableok)
 
 /* Enables the nearest queue behind with a service procedure if a band for which it waits has room. It may be in another pool. */
 static void wake(queue_t *q)
@@ -333,14 +324,15 @@ int strqget(queue_t *q, qfields_t what, uchar_t band, void *value)
 	strm_strqget(AT(q), band, &marks);
 	strm_band_info(AT(q), band, &of_band);
 	strm_queue_info(AT(q), &info);
-	if (what == QFIRST || what == QLAST)
+	if (what == QFIRST || what == QLAST) {
 		*(mblk_t **)value = what == QFIRST ? q->q_first : q->q_last;
-	else if (what == QFLAG)
+	} else if (what == QFLAG) {
 		*(uint_t *)value = (q->q_flag & QREADR) | (info.enabled ? QENAB : 0) | (info.read ? QWANTR : 0) | (info.noenable ? QNOENB : 0) |
 			(of_band.full ? QFULL : 0) | (of_band.wanted ? QWANTW : 0);
-	else if (what < QBAD)
-		*(ssize_t *)value = what == QHIWAT ? (ssize_t)marks.hiwat : what == QLOWAT ? (ssize_t)marks.lowat : what == QCOUNT ?
-			(ssize_t)of_band.bytes : what == QMINPSZ ? q->q_minpsz : q->q_maxpsz;
+	} else if (what < QBAD) {
+		const ssize_t fields[] = { marks.hiwat, marks.lowat, q->q_maxpsz, q->q_minpsz, of_band.bytes };
+		*(ssize_t *)value = fields[what];
+	}
 	return what < QBAD ? 0 : 22;
 }
 
@@ -437,7 +429,7 @@ int insq(queue_t *q, mblk_t *before, mblk_t *mp)
 		ddi_part(b, "insq");
 	else
 		link_after(q, before ? before->b_prev : q->q_last, mp);
-	END_CALL(code == STRM_OK ? "ok" : code == STRM_BAD_ORDER ? "refused 10 BadOrder" : "refused 9 NoSuchPlace", "insq %q %d %f", q, place, mp);
+	END_CALL(ddi_reply(code), "insq %q %d %f", q, place, mp);
 	return code == STRM_OK;
 }
 
@@ -527,11 +519,9 @@ void flushband(queue_t *q, uchar_t band, int flag)
 int qsize(queue_t *q)
 {
 	uint32_t count = 0;
-	char reply[32];
 	BEGIN_CALL();
 	strm_qsize(AT(q), &count);
-	snprintf(reply, sizeof reply, "size %u", count);
-	END_CALL(reply, "qsize %q", q);
+	END_CALL("size %d", "qsize %q", q, (int)count);
 	return (int)count;
 }
 
@@ -594,36 +584,33 @@ clock_t untimeout(timeout_id_t id)
 bufcall_id_t qbufcall(queue_t *q, size_t size, uint_t priority, void (*function)(void *), void *argument)
 {
 	uint32_t wish;
-	char reply[32] = "refused 12 Full";
-	int id = 0;
+	int code, id = 0;
 	(void)priority;
 	BEGIN_CALL();
-	if (size <= STRM_MOST_DATA_BYTES && strm_bufcall(&ddi_pools[0].pool, (uint32_t)size, &wish) == STRM_OK) {
+	code = size > UINT32_MAX ? STRM_TOO_LARGE : strm_bufcall(&ddi_pools[0].pool, (uint32_t)size, &wish);
+	if (code == STRM_OK)
 		id = add_pending((struct pending){ .wish = wish, .q = q, .function = function, .argument = argument });
-		snprintf(reply, sizeof reply, "id %u", wish);
-	}
-	END_CALL(reply, "bufcall %l", (long)size);
+	END_CALL(code == STRM_OK ? "id %d" : ddi_reply(code), "bufcall %l", (long)size, id);
 	return id;
 }
 
 void unbufcall(bufcall_id_t id)
 {
+	int code;
 	BEGIN_CALL();
-	if (id > 0 && strm_unbufcall(&ddi_pools[0].pool, (uint32_t)id) == STRM_OK)
+	if ((code = strm_unbufcall(&ddi_pools[0].pool, (uint32_t)id)) == STRM_OK)
 		untimeout(id);
-	END_CALL("ok", "unbufcall %d", id);
+	END_CALL(ddi_reply(code), "unbufcall %d", id);
 }
 
 /* Calls the function of a wish that can be met, or of a timeout that is due. */
 static int call_ready(void)
 {
 	struct strm_wish wish;
-	char reply[48];
 	int k = 0;
 	if (ddi_pending_count > 0 && strm_take_ready(&ddi_pools[0].pool, &wish) == STRM_OK) {
 		BEGIN_CALL();
-		snprintf(reply, sizeof reply, "ready %u %u", wish.id, wish.size);
-		END_CALL(reply, "ready");
+		END_CALL("ready %d %d", "ready", (int)wish.id, (int)wish.size);
 		while (k < MOST_PENDING && pending[k].id != (int)wish.id)
 			k++;
 		call_pending(&pending[k]);
@@ -678,11 +665,12 @@ int ddi_serve(void)
 {
 	struct frame frame;
 	queue_t *q;
-	if (ddi_traced)
-		ddi_trace_begin();
-	if ((q = next_service()) == NULL)
+	ddi_enter(&frame, NULL, "scheduler");
+	if ((q = next_service()) != NULL)
+		END_CALL("queue %q", "service", q);
+	ddi_frame = frame.before;
+	if (!q)
 		return 0;
-	END_CALL("queue", "service %q", q);
 	ddi_enter(&frame, q, ddi_service);
 	q->q_qinfo->qi_srvp(q);
 	check_sleep(q, &frame.failed);

@@ -63,6 +63,8 @@ static struct told as_it_is(const struct block *b)
 /* Whether the bytes of a block, up to its write place, are others than the trace has. */
 static int has_new_bytes(const struct block *b)
 {
+	if (b->m.b_wptr < b->data->d.db_base || b->m.b_wptr > b->data->d.db_lim)
+		return 0;
 	if (!b->data->told)
 		b->data->told = calloc(1, STRM_MOST_DATA_BYTES);
 	return memcmp(b->data->d.db_base, b->data->told, (size_t)(b->m.b_wptr - b->data->d.db_base)) != 0;
@@ -104,13 +106,6 @@ static void tell_block(char mark, struct block *b)
 	b->told = as_it_is(b);
 }
 
-/* Reports a change of data that several blocks refer to, which no word of strm makes. */
-static void check_alone(const struct block *b)
-{
-	if (b->data->references > 1 && (has_new_bytes(b) || b->m.b_datap->db_type != b->told.type))
-		ddi_misuse("a pointer", b, "the module changed a data block to which %d message blocks refer", b->data->references);
-}
-
 /* The name of a queue's module, with a number if pairs before have it too. */
 static const char *label_of(const queue_t *q)
 {
@@ -133,13 +128,16 @@ void ddi_trace_caller(void)
 	strcpy(said, label);
 }
 
+/* Reports a change of data to which several blocks refer, which no word of strm makes. */
 void ddi_trace_begin(void)
 {
 	for (struct block *b = ddi_blocks; b < ddi_blocks + ddi_block_count; b++)
 		if (b->where == HELD && is_changed(b)) {
-			check_alone(b);
+			int is_shared = b->data->references > 1 && (has_new_bytes(b) || b->m.b_datap->db_type != b->told.type);
 			ddi_trace_caller();
 			tell_block('~', b);
+			if (is_shared)
+				ddi_misuse("a pointer", b, "the module changed a data block to which %d message blocks refer", b->data->references);
 		}
 }
 
@@ -171,30 +169,49 @@ static void tell_value(char kind, va_list *values)
 	}
 }
 
+/* Prints a text with values. */
+static void tell(const char *format, va_list *values)
+{
+	for (; *format; format++)
+		if (*format == '%')
+			tell_value(*++format, values);
+		else
+			fputc(*format, ddi_traced);
+}
+
 void ddi_trace_end(const char *reply, const char *format, ...)
 {
 	va_list values;
 	ddi_trace_caller();
 	fprintf(ddi_traced, "! %s ", ddi_frame && ddi_frame->q ? ddi_module(ddi_frame->q) : "head");
 	va_start(values, format);
-	for (; *format; format++)
-		if (*format == '%')
-			tell_value(*++format, &values);
-		else if (strcmp(format, "service %q") == 0) {
-			fprintf(ddi_traced, "service | queue %c%c\n", QUEUE_NEXT, 'a' + va_arg(values, queue_t *)->q_layer->told);
-			va_end(values);
-			return;
-		} else {
-			fputc(*format, ddi_traced);
-		}
+	tell(format, &values);
+	fputs(" | ", ddi_traced);
+	tell(reply, &values);
 	va_end(values);
-	fprintf(ddi_traced, " | %s\n", reply);
+	fputc('\n', ddi_traced);
 	for (struct block *b = ddi_blocks; b < ddi_blocks + ddi_block_count; b++)
 		if (b->told.is_held && b->where != HELD)
 			tell_end(b);
 	for (struct block *b = ddi_blocks; b < ddi_blocks + ddi_block_count; b++)
 		if (b->where == HELD && is_changed(b))
 			tell_block('=', b);
+}
+
+/* The reply of strm to a call with this code, such as `refused 2 NoMblk`. */
+const char *ddi_reply(int code)
+{
+	static char reply[48];
+	char name[32];
+	int length = snprintf(reply, sizeof reply, "refused %d ", code);
+	if (code == STRM_OK)
+		return "ok";
+	strm_name(code, name, sizeof name);
+	for (int k = 5; name[k]; k++)
+		if (name[k] != '_')
+			reply[length++] = (char)(name[k - 1] == '_' ? name[k] : name[k] | 32);
+	reply[length] = 0;
+	return reply;
 }
 
 /* ---- the header and the report */

@@ -93,11 +93,13 @@ static void test_messages(void)
 
 static void test_order(void)
 {
+	static const struct strm_class_spec classes[] = { { 64, 40 }, { 4096, 4 } };
+	static const struct strm_config config = { .mblks = 60, .classes = classes, .class_count = 2, .bufcalls = 2 };
 	strhead_t *head;
 	mblk_t *mp;
 	size_t count;
 
-	CHECK(str_init(NULL) == 0);
+	CHECK(str_init(&config) == 0);
 	CHECK(str_open(&echoinfo, 0, 0, &head) == 0 && str_push(head, &mixerinfo) == 0);
 	CHECK(value_of(head, HOLD) == 0);
 	send_band(head, "zero", 0);
@@ -233,8 +235,14 @@ static void test_copying(void)
 	CHECK(str_close(head) == 0 && str_fini() == 0);
 }
 
-int main(void)
+/* With an argument it only tests the order, of which a trace is made. */
+int main(int count, char **words)
 {
+	(void)words;
+	if (count > 1) {
+		test_order();
+		return failed > 0;
+	}
 	test_messages();
 	test_order();
 	test_flow();

@@ -6,10 +6,8 @@
 
 static void look_at_size(mblk_t *mp)
 {
-    char reply[32];
     BEGIN_CALL();
-    sprintf(reply, "size %zu", ddi_size(mp));
-    END_CALL(reply, "size %f", mp);
+    END_CALL("size %l", "size %f", mp, (long)ddi_size(mp));
 }
 
 static void look_at_block(mblk_t *mp, const mblk_t *bp, int place)
@@ -67,23 +65,19 @@ void each(void (*function)(queue_t *q))
 
 static void look_at_queue(queue_t *q)
 {
-    char reply[64];
     size_t hiwat, lowat;
     qsize(q);
     strqget(q, QHIWAT, 0, &hiwat);
     strqget(q, QLOWAT, 0, &lowat);
     BEGIN_CALL();
-    sprintf(reply, "marks %zu %zu", hiwat, lowat);
-    END_CALL(reply, "strqget %q 0", q);
+    END_CALL("marks %l %l", "strqget %q 0", q, (long)hiwat, (long)lowat);
 }
 
 void look_around(void)
 {
-    char reply[64];
     struct strm_census census;
     each(look_at_queue);
     strm_census(&ddi_pools[0].pool, &census);
     BEGIN_CALL();
-    sprintf(reply, "census %u %u %u", census.free, census.queued, census.held);
-    END_CALL(reply, "census");
+    END_CALL("census %d %d %d", "census", (int)census.free, (int)census.queued, (int)census.held);
 }
