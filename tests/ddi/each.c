@@ -91,6 +91,23 @@ static void test_messages(void)
 	CHECK(str_fini() == 0);
 }
 
+/* Messages that were taken off are put back where they were. */
+static void test_put_back(queue_t *q)
+{
+	mblk_t *first = getq(q), *second = getq(q), *third = getq(q), *other = copymsg(third);
+
+	CHECK(getq(q) == NULL && !q->q_first && !q->q_last && q->q_count == 0);
+	putq(q, other);
+	putbq(q, second);
+	putbq(q, third);
+	putbq(q, first);
+	CHECK(q->q_first == first && first->b_next == second && second->b_next == third && third->b_next == other && q->q_last == other);
+	CHECK(!first->b_prev && other->b_prev == third && q->q_count == 8);
+	rmvq(q, other);
+	freemsg(other);
+	CHECK(getq(q) == first && (putbq(q, first), q->q_first) == first && q->q_last == third);
+}
+
 static void test_order(void)
 {
 	static const struct strm_class_spec classes[] = { { 64, 40 }, { 4096, 4 } };
@@ -116,7 +133,8 @@ static void test_order(void)
 	mp = str_queue(head, 1)[1].q_first;
 	CHECK(mp && mp->b_band == 2 && mp->b_next->b_band == 1 && mp->b_next->b_next->b_band == 0 && !mp->b_next->b_next->b_next && !mp->b_prev);
 	CHECK(str_queue(head, 1)[1].q_last == mp->b_next->b_next && str_queue(head, 1)[1].q_count == 4);
-	CHECK(value_of(head, SWAP) == 3 && value_of(head, DROP_BAND) == 2);
+	test_put_back(str_queue(head, 1) + 1);
+	CHECK(value_of(head, SWAP) == 3 && value_of(head, DROP_BAND) == 2 && mixer_writer_depth == 0);
 	CHECK(value_of(head, RELEASE) == 2 && strcmp(text_of(head), "zero") == 0 && strcmp(text_of(head), "two") == 0);
 	CHECK(value_of(head, LEND) == 0 && mixer_freed == 0 && strcmp(text_of(head), "lent bytes") == 0 && mixer_freed == 1);
 	CHECK(value_of(head, TICK) == 0 && str_run() == 0 && mixer_ticks == 0);
@@ -172,6 +190,7 @@ static void test_many_queues(void)
 	strhead_t *head;
 	int sent, came, modules = 40;
 	size_t count;
+	mblk_t *mp;
 
 	CHECK(str_init(NULL) == 0);
 	CHECK(str_open(&echoinfo, 0, 0, &head) == 0);
@@ -189,6 +208,13 @@ static void test_many_queues(void)
 	for (came = 0; str_read(head, back, sizeof back, &count) == 0; came++)
 		CHECK(count == 1500 && memcmp(frame, back, 1500) == 0);
 	CHECK(came == sent);
+	mp = allocb(100, BPRI_MED);
+	memcpy(mp->b_wptr, "header and data", 15);
+	mp->b_rptr += 11;
+	mp->b_wptr += 15;
+	put(str_queue(head, 1) + 1, mp);
+	CHECK((mp = str_getmsg(head)) != NULL && MBLKHEAD(mp) == 11 && MBLKL(mp) == 4 && memcmp(mp->b_rptr - 11, "header and data", 15) == 0);
+	freemsg(mp);
 	CHECK(str_close(head) == 0 && str_fini() == 0);
 }
 

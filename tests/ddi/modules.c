@@ -4,7 +4,7 @@
 #include <sys/ddi.h>
 #include <sys/stropts.h>
 
-int echo_is_stopped, hold_depth, hold_deepest, mixer_freed, mixer_ticks;
+int echo_is_stopped, hold_depth, hold_deepest, mixer_freed, mixer_ticks, mixer_depth, mixer_writer_depth;
 
 static int flush_side(queue_t *q, mblk_t *mp)
 {
@@ -180,6 +180,8 @@ static void exclusive(queue_t *q, mblk_t *mp)
 {
 	struct iocblk *ioctl = (struct iocblk *)mp->b_rptr;
 
+	mixer_writer_depth = mixer_depth;
+
 	mp->b_datap->db_type = M_IOCACK;
 	ioctl->ioc_rval = qsize(q);
 	ioctl->ioc_error = ioctl->ioc_count = 0;
@@ -239,7 +241,9 @@ static int mixer_wput(queue_t *q, mblk_t *mp)
 		await(q);
 		break;
 	}
+	mixer_depth++;
 	qwriter(q, mp, exclusive, PERIM_INNER);
+	mixer_depth--;
 	return 0;
 }
 

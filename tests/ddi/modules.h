@@ -9,7 +9,7 @@ extern struct streamtab holdinfo;	/* a module that queues messages, and passes t
 extern struct streamtab mixerinfo;	/* a module that changes the order of messages, by the ioctls below */
 extern struct streamtab suminfo;	/* a driver with a transparent ioctl */
 
-extern int echo_is_stopped, hold_depth, hold_deepest, mixer_freed, mixer_ticks;
+extern int echo_is_stopped, hold_depth, hold_deepest, mixer_freed, mixer_ticks, mixer_depth, mixer_writer_depth;
 
 /* Of the mixer: messages are held on its write queue. Each ioctl does something with them, and returns the queue's number of messages. */
 enum { HOLD = 'm' << 8, RELEASE, SWAP, DROP_BAND, LEND, TICK, EXCLUSIVE, AWAIT };
