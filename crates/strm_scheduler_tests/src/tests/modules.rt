@@ -29,6 +29,8 @@ pub(super) enum Way {
     Borrow,
     // `run_with` and `Greedy`
     Greed,
+    // `run_with` and `Heading`
+    Head,
     // `run_with` and `Answering`, with this budget
     Answer(u32),
 }
@@ -53,6 +55,10 @@ struct Answering;
 // Needs a larger block than there is for each message of two bytes.
 #[derive(Clone, Copy)]
 struct Greedy;
+
+// Puts an empty message on the next queue, ahead of each message.
+#[derive(Clone, Copy)]
+struct Heading;
 
 // Passes a message on, if the pool still has it and the queue; otherwise frees it.
 fn passed(pool: &mut Pool, queue: u8, next: u8, token: Token)
@@ -201,6 +207,26 @@ impl Module for Greedy {
     }
 }
 
+impl Module for Heading {
+    ghost needs = { λ m v q i r. r ≡ record { sizes = 1 ∷ []; mblks = 0; later = false } };
+
+    ghost treats = { λ m v q n t steps k w. w ≡ w };
+
+    fn need(&self, _pool: &Pool, _queue: u8, _first: &QueuedInfo) -> Need {
+        Need::block(1)
+    }
+
+    fn treat(&mut self, pool: &mut Pool, queue: u8, next: u8, token: Token) {
+        match pool.allocb(1) {
+            Ok(header) => {
+                passed(pool, queue, next, header);
+                passed(pool, queue, next, token);
+            }
+            Err(_) => unreachable!(),
+        }
+    }
+}
+
 impl Module for Answering {
     ghost needs = { λ m v q i r. r ≡ r };
 
@@ -242,6 +268,7 @@ impl Way {
             Way::Drop => sides.run_with(&mut Dropping, None),
             Way::Borrow => sides.run_with(&mut Borrowing, None),
             Way::Greed => sides.run_with(&mut Greedy, None),
+            Way::Head => sides.run_with(&mut Heading, Some(u32::MAX)),
             Way::Answer(services) => sides.run_with(&mut Answering, Some(services)),
         }
     }
@@ -267,7 +294,7 @@ impl Way {
     // What goes on of a message, in the plain lists.
     pub(super) fn treated(self, message: Standing) -> Option<Standing> {
         match self {
-            Way::Forward | Way::Pass | Way::Greed | Way::Answer(_) => Some(message),
+            Way::Forward | Way::Pass | Way::Greed | Way::Head | Way::Answer(_) => Some(message),
             Way::Mark if message.size == 0 => Some(message),
             Way::Mark => Some(Standing {
                 first: MARK,

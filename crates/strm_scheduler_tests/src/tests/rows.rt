@@ -228,6 +228,21 @@ fn a_block_is_freed_meanwhile(rt: HostRuntime) {
     assert_rows(&rt, rt.alloc(), &wide(), &rows, 1);
 }
 
+// A module may put several messages on the next queue for one; they stay in order.
+#[test]
+fn a_module_puts_headers(rt: HostRuntime) {
+    let rows = [
+        Row::Put(0, b'a'),
+        Row::Run(Way::Head, None),
+        Row::Sizes([0, 0, 4]),
+        Row::Take(0),
+        Row::Take(0),
+        Row::Take(0),
+        Row::Take(b'a'),
+    ];
+    assert_rows(&rt, rt.alloc(), &wide(), &rows, 0);
+}
+
 // A need that is never met is reported at once, and again by each run. Another way serves the queue.
 #[test]
 fn a_need_is_never_met(rt: HostRuntime) {
