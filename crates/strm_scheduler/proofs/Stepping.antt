@@ -302,3 +302,9 @@ module _ (q n : ℕ) (v : PoolValue) (law : IsLawful v) (s : IsServing q n v) wh
     pub stepped_weighs : PassOne n ss → weigh w.arena.shelves ≤ weigh v.arena.shelves + from_here v.arena.shelves n
     stepped_weighs one =
         passed_weighs v.queues.specs law.lawful_queues s.sides q n ss one v w (omega (arith, (hop_ahead v.queues.specs law.lawful_queues q n s.next).there, law.shelves)) steps
+
+-- ---- for users of modules
+
+-- one message that is put on the next queue, and no other step
+pub passed_one : (n : ℕ) (t : TokenValue) (steps : List Step) → steps ≡ Put n t ∷ [] → PassOne n steps
+passed_one n t steps is = subst (PassOne n) (sym is) (refl, tt)

@@ -32,7 +32,7 @@ has_blocks need blocks = nat_le (length need.sizes + need.mblks) blocks
 abbrev pub is_enough : Bool → Need → ℕ → List ClassInfo → Bool
 is_enough all need blocks infos = has_blocks need blocks && are_fitted all infos need.sizes need.sizes
 
--- the module wants the message now, and what it needs is free: so `allocb` succeeds for the sizes, one after another
+-- the module wants the message now, and what it needs is free
 abbrev pub are_free : Need → Arena → Bool
 are_free need a = not need.later && is_enough false need (length a.free) (class_infos a.store)
 
