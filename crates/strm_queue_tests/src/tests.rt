@@ -82,7 +82,6 @@ fn set_kind(rt: &impl Abort, queues: &Queues, blocks: &mut Blocks, token: &Token
 }
 
 // Gives a message a band.
-#[tactic(auto, using(strm_queue::proofs::agreeing::Agreeing::agrees_left))]
 fn set_band(queues: &Queues, blocks: &mut Blocks, token: &Token, band: u8)
     requires agrees { Agrees queues.now blocks.old }
     requires had { IsTrue (has blocks.old token.now) }

@@ -21,7 +21,6 @@ struct Twin {
     ghost node_count: { length strands.chains ≡ 250 },
 }
 
-#[tactic(auto, using(crate::proofs::NodeCounts::node_counts))]
 impl Twin {
     fn new(rt: &impl Abort, alloc: Global) -> Twin {
         let mut plain = Plain::new(rt, alloc, FREE + 1);

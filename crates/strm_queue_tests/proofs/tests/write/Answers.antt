@@ -1,5 +1,0 @@
-use Rattle.strm_queue.proofs.Agreeing.{agrees_left}
-use Rattle.strm_queue_tests.proofs.tests.write.Goals as goal
-
-pub returns-clause-agrees : goal.returns-clause-agrees
-returns-clause-agrees g c = agrees_left c.args.queues.now _ c.args.blocks.now c.write.new.self c.requires.agrees c.write.ensures.shelves

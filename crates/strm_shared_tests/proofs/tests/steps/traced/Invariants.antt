@@ -1,5 +1,0 @@
-use Rattle.strm_shared.specs.Starts.{name_of}
-use Rattle.strm_shared_tests.proofs.tests.steps.traced.Given as goal
-
-abbrev pub ghosts-ended : goal.ghosts-ended
-ghosts-ended g a = name_of a.start
