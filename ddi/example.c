@@ -1,4 +1,4 @@
-/* Tested, not proved: a module that makes letters large, with a bug, and a program that tests it (docs/MODULES.md). */
+/* For testing modules in user space; tested, not proved. A module that makes letters large, with a bug, and its test (docs/MODULES.md). */
 #include <strm_ddi.h>
 #include <sys/stream.h>
 

@@ -1,5 +1,4 @@
-/*
- * strm_ddi.h: streams for testing modules in user space; tested, not proved. A program of one
+/* strm_ddi.h: streams for testing modules in user space; tested, not proved. A program of one
  * thread, on Linux, opens drivers, pushes modules as they are, and sends and receives. Messages and
  * queues are in pools of strm.h.
  *

@@ -440,48 +440,44 @@ int str_ioctl_transparent(strhead_t *head, int command, void *argument, int *val
 
 /* ---- links */
 
+/* Has the queues of a stream head be those of a multiplexing driver, or the head's own again. */
 static void set_lower(strhead_t *lower, struct qinit *read, struct qinit *write, struct streamtab *tab)
 {
+	queue_t *below = lower->q[1].q_next;
 	for (int side = 0; side < 2; side++) {
 		ddi_forget(&lower->q[side]);
 		set_queue(&lower->q[side], &lower->own[side], side ? write : read, side ? 0 : QREADR, lower, tab);
 	}
+	lower->q[1].q_next = below;
+	ddi_trace_queues(lower->q);
 }
 
 static int change_link(strhead_t *upper, strhead_t *lower, int command)
 {
-	struct linkblk block = { .l_qbot = &lower->q[1], .l_index = 1 };
+	struct linkblk block = { .l_qtop = &upper->q[1], .l_qbot = &lower->q[1], .l_index = 1 };
 	size_t length = sizeof block;
-	for (block.l_qtop = &upper->q[1]; block.l_qtop->q_next; block.l_qtop = block.l_qtop->q_next)
-		;
+	while (block.l_qtop->q_next)
+		block.l_qtop = block.l_qtop->q_next;
 	return str_ioctl(upper, command, &block, &length, 0, NULL);
 }
 
 int str_link(strhead_t *upper, strhead_t *lower)
 {
-	queue_t *below = lower->q[1].q_next;
 	int error;
 	if (!upper->driver->st_muxrinit)
 		return EINVAL;
 	set_lower(lower, upper->driver->st_muxrinit, upper->driver->st_muxwinit, upper->driver);
-	lower->q[1].q_next = below;
-	ddi_trace_queues(lower->q);
-	if ((error = change_link(upper, lower, I_LINK)) != 0) {
+	if ((error = change_link(upper, lower, I_LINK)) != 0)
 		set_lower(lower, &head_rinit, &head_winit, NULL);
-		lower->q[1].q_next = below;
-	}
 	return error;
 }
 
 int str_unlink(strhead_t *upper, strhead_t *lower)
 {
-	queue_t *below = lower->q[1].q_next;
 	int error = change_link(upper, lower, I_UNLINK);
-	if (error)
-		return error;
-	set_lower(lower, &head_rinit, &head_winit, NULL);
-	lower->q[1].q_next = below;
-	return 0;
+	if (!error)
+		set_lower(lower, &head_rinit, &head_winit, NULL);
+	return error;
 }
 
 /* ---- the rest of a kernel */
