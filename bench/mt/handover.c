@@ -142,6 +142,14 @@ static uint32_t peer_receive(unsigned char *into)
 
 static struct rte_ring *ring;
 
+/* Spins a little longer; now and then lets others run, since there may be more threads than processors. */
+static void spin(uint32_t *spins)
+{
+	rte_pause();
+	if (++*spins % 256 == 0)
+		sched_yield();
+}
+
 static void peer_open(uint32_t room, uint32_t queues)
 {
 	char *words[] = { "handover", "--no-huge", "--no-pci", "--no-shconf", "-m", "64", "--log-level=1", "--lcores=0" };
@@ -149,29 +157,32 @@ static void peer_open(uint32_t room, uint32_t queues)
 
 	(void)queues;
 	/* DPDK binds the thread that calls it to one processor, and the threads to come would inherit that. */
-	if (sched_getaffinity(0, sizeof(allowed), &allowed) != 0 || rte_eal_init(8, words) < 0 ||
-	    sched_setaffinity(0, sizeof(allowed), &allowed) != 0 || (ring = rte_ring_create("way", room, 0, RING_F_EXACT_SZ)) == NULL)
+	if (sched_getaffinity(0, sizeof(allowed), &allowed) != 0 || rte_eal_init(8, words) < 0 || sched_setaffinity(0, sizeof(allowed), &allowed) != 0)
+		exit(1);
+	/* The mode that DPDK has for more threads than processors. */
+	ring = rte_ring_create("way", room, 0, RING_F_EXACT_SZ | RING_F_MP_RTS_ENQ | RING_F_MC_RTS_DEQ);
+	if (ring == NULL)
 		exit(1);
 }
 
 static void peer_send(const unsigned char *bytes)
 {
 	void *made[MOST_BURST];
-	uint32_t sent = 0, at;
+	uint32_t sent = 0, spins = 0, at;
 
 	for (at = 0; at < burst; at++)
 		made[at] = memcpy(malloc(size), bytes, size);
 	while ((sent += rte_ring_enqueue_burst(ring, made + sent, burst - sent, NULL)) < burst)
-		rte_pause();
+		spin(&spins);
 }
 
 static uint32_t peer_receive(unsigned char *into)
 {
 	void *got[MOST_BURST];
-	uint32_t count, at;
+	uint32_t count, spins = 0, at;
 
 	while ((count = rte_ring_dequeue_burst(ring, got, burst, NULL)) == 0)
-		rte_pause();
+		spin(&spins);
 	for (at = 0; at < count; at++) {
 		memcpy(into + at * size, got[at], size);
 		free(got[at]);
