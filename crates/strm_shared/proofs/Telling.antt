@@ -15,8 +15,7 @@ use Rattle.strm_pool.specs.declared.reply.Reply.{Reply}
 use Rattle.strm_pool.specs.Limits.{most_registers}
 use Rattle.strm_pool.specs.PoolValue.{PoolValue}
 use Rattle.strm_pool.specs.Registers.{Entries, RegisterTable, entries_of, table_of}
-use Rattle.strm_pool.specs.Step.{DeskCall, Replay, Stepped, empty_tables, replay, replay_from, step, table_at}
-use Rattle.strm_pool.proofs.Replays.{replay_more, replay_push}
+use Rattle.strm_pool.specs.Step.{DeskCall, Replay, Stepped, empty_tables, replay, replay_from, step, table_at, with_reply}
 use Rattle.strm_shared.specs.Traces.{IsTraceOf, TraceValue, entries_kept, is_full}
 use Rattle.strm_shared.specs.Books.{BookValue, IsServed}
 use Rattle.strm_shared.specs.Chronicle.{AreTold, calls_of, chronicle_from, entry_of, heads_listed}
@@ -56,6 +55,22 @@ module _ (es : List Entry) (e : Entry) (t u : TraceValue) where
     entries = kept_next most is.most is.entries more;
     few = few_next most is.most is.entries left is.few;
   }
+
+-- ---- a replay with one call more at its end
+
+-- a replay, and one call of a desk behind it
+abbrev replay_more : Replay → DeskCall → Replay
+replay_more r last =
+    let o = step r.pool (table_at r.tables last.desk) last.call in
+    record { pool = o.pool; tables = slice_set r.tables last.desk o.table; replies = r.replies ++ o.reply ∷ [] }
+
+-- a last call is a step from what the calls before it leave
+replay_push : (v : PoolValue) (ts : List RegisterTable) (calls : List DeskCall) (last : DeskCall)
+    → replay_from v ts (calls ++ last ∷ []) ≡ replay_more (replay_from v ts calls) last
+replay_push v ts [] last = refl
+replay_push v ts (first ∷ calls) last =
+    let o = step v (table_at ts first.desk) first.call in
+    ap (with_reply o.reply) (replay_push o.pool (slice_set ts first.desk o.table) calls last)
 
 -- ---- the served calls, from the first on: a replay of them gives pool, tables and replies, and the chronicle gives the pairs
 
