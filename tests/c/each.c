@@ -1515,7 +1515,7 @@ static int are_alike(void)
 	struct strm_census census[2];
 	struct strm_queue_info info[2];
 	struct strm_band_info band[2];
-	struct strm_class_info class[2];
+	struct strm_class_info size_class[2];
 	uint32_t next[2], fewest[2], i, k;
 
 	for (k = 0; k < 2; k++) {
@@ -1533,8 +1533,8 @@ static int are_alike(void)
 	}
 	for (i = 0; i < 3; i++) {
 		for (k = 0; k < 2; k++)
-			ANSWERS(strm_class_info(&twins[k], i, &class[k]), STRM_OK);
-		if (memcmp(&class[0], &class[1], sizeof class[0]) != 0)
+			ANSWERS(strm_class_info(&twins[k], i, &size_class[k]), STRM_OK);
+		if (memcmp(&size_class[0], &size_class[1], sizeof size_class[0]) != 0)
 			return 0;
 	}
 	while (strm_next_service(&twins[0], &next[0]) == STRM_OK)
