@@ -253,7 +253,7 @@ install-docs:
 	install -d $(SHARE)/doc/strm
 	for name in README.md LICENSE docs examples; do rm -rf $(SHARE)/doc/strm/$$name && ln -s ../../strm/$$name $(SHARE)/doc/strm || exit; done
 
-# Builds the library for C, libstrm, and over it libstrm_mt and libstrm_ddi, in build. Beside these is what strm-trace takes. With
+# Builds the library for C, libstrm_mt and libstrm_ddi in build. Beside these is what strm-trace takes. With
 # TARGET=aarch64-unknown-linux-gnu they are for ARM, in build/aarch64, by Debian's gcc-aarch64-linux-gnu. The pkg-config file is build/strm.pc.
 lib: $(ARCHIVE) $(SHARED) $(ARCHIVE_MT) $(SHARED_MT) $(ARCHIVE_DDI) $(TRACE) build/strm.pc
 
