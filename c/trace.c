@@ -443,7 +443,7 @@ static char *add_address(char *at, const void *address)
 	return at + count;
 }
 
-/* Fields of 32 bits, each after its name if it has one. One field without a name stands alone. */
+/* Fields of 32 bits, each after its name if it has one. A field without a name is the only one. */
 static char *add_fields(char *at, const struct form *form, const uint32_t *fields)
 {
 	const char *name = form->names;

@@ -100,10 +100,9 @@ struct output {
 };
 
 /*
- * An open pool. The names of messages are by the numbers of their first blocks. Of a script, whose blocks have numbers of its own: that of each
- * message's first block, the one after each block, those that are not in use, and whether each data block has a line; where the queued message is
- * that a call names by its first block; by the first block of each, where messages were on a queue that a call takes them from; and how many calls
- * there were.
+ * An open pool. The names of messages are by the numbers of their first blocks. The blocks of a script have numbers of its own: `first` has that
+ * of each message's first block, `next` the one after each block, and `unused` those that are not in use. `queue` and `place` say where the message
+ * is that a call names by its first block. Before a call that takes messages off a queue, `places` has the place of each, by its first block.
  */
 struct traced {
 	struct traced *after;

@@ -9,15 +9,15 @@ use strm_pool::{ClassInfo, Pool, ShortList};
 /// How many sizes a need may have.
 pub const MOST_SIZES: usize = 8;
 
-/// What a module needs before it treats a message: for each size a message block and a data block of at least this many bytes,
-/// which `allocb` takes, and message blocks alone, as `dupb` and `dupmsg` take them.
+/// What a module needs before it treats a message. For each size, this is what `allocb` takes: a message block, and a data block
+/// of at least this many bytes. Beside these it needs message blocks alone, as `dupb` and `dupmsg` take them.
 #[derive(Debug, Drop)]
 pub struct Need {
     /// The sizes, in bytes.
     pub sizes: ShortList<u32, MOST_SIZES>,
     /// The number of message blocks that are needed beside those for the sizes.
     pub mblks: u32,
-    /// Whether the module wants the message later, for a reason of its own.
+    /// Whether the module is to get the message later, for a reason of its own.
     pub later: bool,
 }
 
@@ -46,7 +46,7 @@ impl Need {
         }
     }
 
-    /// Says whether the module wants the message now, and all is free. Takes a step for each class and size, and for each two sizes.
+    /// Says whether the module takes the message now, and all is free. Takes a step for each class and size, and for each two sizes.
     pub fn is_free(&self, pool: &Pool) -> bool
         ensures { result ≡ are_free self.now pool.now.arena }
     {

@@ -30,7 +30,7 @@ pub fn flush(pool: &mut Pool, queue: u8, what: Flush)
     }
 }
 
-/// Puts a queue at the end of the run list, unless it is there, or has no next queue (`qenable`).
+/// Puts a queue at the end of the run list, unless it is there, or has no service procedure (`qenable`).
 pub fn enable(pool: &mut Pool, queue: u8)
     requires { IsTrue (has_queue pool.old queue) }
     ensures { pool.new ≡ with_queue_enabled queue pool.old }

@@ -59,7 +59,7 @@ fn overwrite_blocks(
 }
 
 impl Blocks {
-    // Whether a message has fewer bytes than this. Takes a step for each block up to the one that has the last of so many.
+    // Whether a message has fewer bytes than this. Takes a step for each block up to the one that has the last of them.
     fn is_shorter(&self, token: &Token, count: usize) -> bool
         requires { IsTrue (has self.now token.now) }
         ensures { result ≡ nat_lt (size_of (message_at self.now token.now.head)) count }

@@ -78,9 +78,9 @@ impl Blocks {
     /// and band, as [`Blocks::shape`], [`Blocks::settype`] and [`Blocks::setband`] do for one block. All get theirs or
     /// none. All else stays unchanged, and so does all if there are no shapes.
     ///
-    /// Refused as `NoSuchBlock` if the message has fewer blocks. Then refused as the first block whose shape does not fit:
-    /// as `NoRoom` if its data block has fewer bytes than `at + len`, then as `Shared` if its type changes and another
-    /// message block refers to its data block. On an error nothing changes. Takes at most two steps for each shape. In
+    /// Refused as `NoSuchBlock` if the message has fewer blocks. Then the first block whose shape does not fit decides:
+    /// `NoRoom` if its data block has fewer bytes than `at + len`, then `Shared` if its type changes and another message
+    /// block refers to its data block. On an error nothing changes. Takes at most two steps for each shape. In
     /// STREAMS, modules do this by hand (`b_rptr`, `b_wptr`, `db_type`, `b_band`).
     pub fn shape_all<S: Shaped>(&mut self, token: &Token, shapes: &[S]) -> Result<(), Refusal>
         requires { IsTrue (has self.old token.now) }

@@ -1,5 +1,5 @@
-//! A module of each kind: one passes messages on, one changes their bytes, one drops some of them, one needs blocks, one
-//! needs more than there are, and one makes all steps that a module can make.
+//! Modules that pass messages on, change their bytes, drop some, need blocks, and need more than there are. Another one makes
+//! all steps that a module can make.
 ghost use Rattle.std.specs.Prelude.{◌≡◌, ◌≢◌, ◌<◌, IsTrue, List, [], ◌∷◌, false};
 ghost use Rattle.strm_mblk.specs.Arena.{has};
 ghost use Rattle.strm_mblk.specs.BlockCalls.{testb};
