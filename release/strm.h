@@ -46,12 +46,12 @@
  *   - wish (bufcall): a recorded request for a message block and a data block. strm_take_ready
  *     returns the wish, not the blocks.
  *   - look: a call that changes nothing in the pool. Its handle is `const`. Looks are strm_testb,
- *     strm_read, strm_size, strm_msgdsize, strm_block, strm_blocks, strm_bytes, strm_iov,
- *     strm_place, strm_region, strm_has, strm_name_at, strm_qsize, strm_queued_at,
- *     strm_read_queued, strm_first_queued, strm_last_queued, strm_queued_after, strm_queued_before,
- *     strm_queue_of, strm_queue_spec, strm_strqget, strm_run_at, strm_wish_at, strm_census,
- *     strm_class_info, strm_least_free_blocks, strm_least_free, strm_queue_info, strm_band_info,
- *     strm_report and strm_is_open.
+ *     strm_read, strm_size, strm_msgdsize, strm_message, strm_block, strm_blocks, strm_bytes,
+ *     strm_iov, strm_place, strm_region, strm_has, strm_name_at, strm_qsize, strm_queued_at,
+ *     strm_read_queued, strm_first_queued, strm_last_queued, strm_queued_after,
+ *     strm_queued_before, strm_queue_of, strm_queue_spec, strm_strqget, strm_run_at, strm_wish_at,
+ *     strm_census, strm_class_info, strm_least_free_blocks, strm_least_free, strm_queue_info,
+ *     strm_band_info, strm_report, strm_is_open.
  *
  *
  * Results
@@ -196,8 +196,8 @@ extern "C" {
 #endif
 
 /* The version of this header, as a text and as a number. */
-#define STRM_VERSION "0.4.0"
-#define STRM_VERSION_NUMBER 4000
+#define STRM_VERSION "0.5.0"
+#define STRM_VERSION_NUMBER 5000
 
 enum {
 	STRM_OK = 0,			/* done */
@@ -374,6 +374,14 @@ struct strm_block_place {
 	uint32_t capacity;		/* bytes of the data block */
 };
 
+/* What strm_shape_all gives a message block. Since 0.5.0. */
+struct strm_block_shape {
+	uint32_t at;			/* the read place in its data block, in bytes */
+	uint32_t length;		/* bytes between its read place and its write place */
+	uint32_t type;			/* the type of its data block, STRM_M_DATA to STRM_M_IOCDATA */
+	uint32_t band;			/* 0 to 255 */
+};
+
 /* Bytes of a message block, where they are. Its layout is that of Linux's struct iovec. */
 struct strm_iov {
 	const void *base;
@@ -381,8 +389,8 @@ struct strm_iov {
 };
 
 /*
- * A message on a queue. It has no name that could be compared: once it was taken off and freed,
- * another message may have the same head.
+ * A message on a queue, or a held one. On a queue it has no name that could be compared: once it was
+ * taken off and freed, another message may have the same head.
  */
 struct strm_queued {
 	uint32_t head;			/* the number of its first block; it stays while the message is on the queue */
@@ -594,6 +602,12 @@ int strm_size(const struct strm_pool *pool, struct strm_msg msg, uint32_t *bytes
 int strm_msgdsize(const struct strm_pool *pool, struct strm_msg msg, uint32_t *bytes);
 
 /*
+ * Returns what a held message is like, as strm_queued_at does of a queued one. Since 0.5.0.
+ * Not in STREAMS.
+ */
+int strm_message(const struct strm_pool *pool, struct strm_msg msg, struct strm_queued *info);
+
+/*
  * Returns the fields of the block numbered `place`.
  * Refused as STRM_NO_SUCH_BLOCK.
  * STREAMS: the fields of msgb and datab.
@@ -743,6 +757,16 @@ int strm_advance(struct strm_pool *pool, struct strm_msg msg, uint32_t place, ui
  * STREAMS: setting b_rptr and b_wptr.
  */
 int strm_shape(struct strm_pool *pool, struct strm_msg msg, uint32_t place, uint32_t at, uint32_t length);
+
+/*
+ * Gives each of the first `length` blocks of a message its places, type and band, or changes none.
+ * It takes two steps a block, and writes no byte: see strm_shape. Since 0.5.0.
+ * Refused as STRM_BAD_ARGUMENT for a number of no type or band, STRM_NO_SUCH_BLOCK if there are
+ * fewer blocks. Then by the first block that does not fit: as STRM_NO_ROOM, or as STRM_SHARED if
+ * its type would change.
+ * STREAMS: setting b_rptr, b_wptr, db_type and b_band.
+ */
+int strm_shape_all(struct strm_pool *pool, struct strm_msg msg, const struct strm_block_shape *shapes, size_t length);
 
 /* ---- names compared: strm_same_msg(3) */
 
@@ -940,6 +964,18 @@ int strm_flushq(struct strm_pool *pool, uint32_t queue, uint32_t flush);
  */
 int strm_flushband(struct strm_pool *pool, uint32_t queue, uint32_t band, uint32_t flush);
 
+/*
+ * Takes messages off a queue that strm_flushq would free, front to back, at most `length`. Stores
+ * their number in *count, 0 if refused, and their names in the array `msgs` of `length` names. The
+ * rest of the array is unchanged. Then it settles the queue once. Since 0.5.0.
+ * Not in STREAMS.
+ */
+int strm_takeq(struct strm_pool *pool, uint32_t queue, uint32_t flush, struct strm_msg *msgs, size_t length, size_t *count);
+
+/* Takes messages of one band, 0 to 255, as strm_takeq does. Since 0.5.0. Not in STREAMS. */
+int strm_takeq_band(struct strm_pool *pool, uint32_t queue, uint32_t band, uint32_t flush, struct strm_msg *msgs, size_t length,
+	size_t *count);
+
 /* ---- several messages at once: strm_allocb_n(3) */
 
 /*
@@ -984,11 +1020,11 @@ int strm_getq_n(struct strm_pool *pool, uint32_t queue, struct strm_msg *msgs, s
  * own queue would decide for itself. A source without a queue, such as an interrupt, asks about the
  * queue on which it puts. If *yes is 0, it asks again later, or drops the message: nothing wakes
  * it. If it must be woken, give it a queue that stays empty and has a service procedure, and whose
- * next queue is the one on which it puts. The water marks of such a queue do not matter: for
- * instance 1 and 0. Only one queue may have a given queue as its next, so several senders share one
- * empty queue. Its service procedure calls strm_qenable on the queue of each sender that waits, or
- * wakes it. Threads wait by strm_mt.h. The bytes of high priority messages count with band 0, which
- * they can make full. The call may mark a band, so it is no look, and ends pointers of strm_bytes.
+ * next queue is the one on which it puts. Only one queue may have a given queue as its next, so
+ * several senders share one empty queue. Its service procedure calls strm_qenable on the queue of
+ * each sender that waits, or wakes it. Threads wait by strm_mt.h. The bytes of high priority
+ * messages count with band 0, which they can make full. The call may mark a band, so it is no look,
+ * and ends pointers of strm_bytes.
  * As in STREAMS; canput asks for band 0.
  */
 int strm_bcanput(struct strm_pool *pool, uint32_t queue, uint32_t band, uint32_t *yes);
