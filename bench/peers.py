@@ -1,6 +1,6 @@
 #!/usr/bin/env python3
-"""Measures the same works over strm.h, over a pool written by hand in C, and over DPDK, lwIP and GLib where Debian's packages are installed.
-bench/README.md says how."""
+"""Measures the same works over strm.h, over two pools written by hand in C, one of which checks as strm.h does, and over DPDK, lwIP and GLib where
+Debian's packages are installed. bench/README.md says how."""
 import os
 import re
 import shlex
@@ -15,6 +15,8 @@ from programs import options, rewrite
 TOP = os.path.dirname(os.path.dirname(os.path.abspath(__file__)))
 SOURCES = os.path.join(TOP, "bench", "peers")
 PLAIN = os.path.join(TOP, "bench", "c", "plain.c")
+# The calls of strm.h by hand.
+CHECKED = os.path.join(SOURCES, "checked.c")
 COMPILED = ["-std=gnu11", "-O2", "-Wall", "-Wextra", "-pthread"]
 THREADS = 4
 # How many rounds a turn has, of one thread and of each of some threads, and how many turns a run of a program takes.
@@ -37,6 +39,7 @@ class Peer(NamedTuple):
 OURS = "strm"
 PEERS = {
     OURS: Peer("strm.h"),
+    "checked": Peer("checked"),
     "plain": Peer("plain"),
     "dpdk": Peer("DPDK", "libdpdk-dev", "libdpdk"),
     "lwip": Peer("lwIP", "liblwip-dev", "lwip"),
@@ -45,11 +48,15 @@ PEERS = {
 
 
 class Work(NamedTuple):
-    """What a round does, how many messages it makes, and how threads use pools, if there are several."""
+    """What a round does, how many messages it makes, how threads use pools, if there are several, how many messages of how many bytes are on the
+    queue, and the work's name in peers/peer.h if that is another."""
 
     shown: str
     messages: int = 1
     pools: str = ""
+    queued: int = 0
+    size: int = 0
+    made: str = ""
 
 
 # By the names of peers/peer.h, one thread's works, the ways of packets, and those of threads.
@@ -57,7 +64,6 @@ CALLS = {
     "allocb": Work("allocate for 64 bytes, free"),
     "dupb": Work("duplicate, free the duplicate"),
     "queue": Work("allocate, write 64 bytes, put on the queue, take off, free"),
-    "several": Work("the same, 32 messages at a time", 32),
     "copy_short": Work("copy 64 bytes, free the copy"),
     "copy_long": Work("copy 1,500 bytes, free the copy"),
     "chain": Work("build a message of four blocks of 64 bytes, free it"),
@@ -69,6 +75,17 @@ WAYS = {
     "copies_long": Work("1,500 bytes: copied in, copied to be looked at, and copied out"),
     "in_place_long": Work("1,500 bytes: copied in, read in place"),
     "no_copy_long": Work("1,500 bytes: never copied"),
+}
+# Messages of a burst; and on a deep queue, with their bytes.
+BURSTS = (8, 32, 256)
+DEEP = [(queued, size) for size in (64, 1500) for queued in (1_000, 8_000, 16_000)]
+IN_PLACE = {64: "in_place_short", 1500: "in_place_long"}
+MANY = {
+    **{f"several_{count}": Work(f"allocate, write 64 bytes, put, take, free, {count} at a time", count) for count in BURSTS},
+    **{
+        f"deep_{queued}_{size}": Work(f"{size:,} bytes through a queue of {queued:,} messages", queued=queued, size=size, made=IN_PLACE[size])
+        for queued, size in DEEP
+    },
 }
 SHARED = {
     "shared_queue": Work("one pool and queue for all", pools="shared"),
@@ -92,9 +109,10 @@ def built(name, archive, room):
     if found is None:
         return None
     program = os.path.join(room, name)
-    more = {OURS: ["-I" + os.path.join(TOP, "c"), archive], "plain": [PLAIN]}.get(name, [])
-    sources = [os.path.join(SOURCES, file) for file in ("main.c", f"{name}.c")]
-    subprocess.run([os.environ.get("CC", "cc"), *COMPILED, *found[0], *sources, *more, *found[1], "-o", program], check=True)
+    calls = ["-I" + os.path.join(TOP, "c"), os.path.join(SOURCES, f"{OURS}.c")]
+    more = {OURS: [*calls, archive], "checked": [*calls, CHECKED], "plain": [os.path.join(SOURCES, "plain.c"), PLAIN]}
+    sources = [os.path.join(SOURCES, "main.c"), *more.get(name, [os.path.join(SOURCES, f"{name}.c")])]
+    subprocess.run([os.environ.get("CC", "cc"), *COMPILED, *found[0], *sources, *found[1], "-o", program], check=True)
     return program
 
 
@@ -105,7 +123,9 @@ def version(name):
 
 
 def words_for(work, name, rounds, turns):
-    return [name, str(rounds), str(turns), *([work.pools, str(THREADS)] if work.pools else [])]
+    of_threads = [work.pools, str(THREADS)] if work.pools else []
+    of_queue = ["queued", str(work.queued), str(work.size)] if work.queued else []
+    return [work.made or name, str(rounds), str(turns), *of_threads, *of_queue]
 
 
 def nanoseconds(program, name, work):
@@ -177,6 +197,15 @@ def counts_table(peers, works, counts, what):
         yield f"| {' | '.join([work.shown, *(number(counts[name, peer]) for peer in peers)])} |"
 
 
+def many_table(peers, best, counts):
+    """The nanoseconds and the instructions of each peer."""
+    yield "| A message | " + " | ".join(PEERS[peer].shown for peer in peers) + " |"
+    yield "|---" * (1 + len(peers)) + "|"
+    for name, work in MANY.items():
+        cells = [f"{best[name, peer]:,.1f}, {number(counts[name, peer])}" for peer in peers]
+        yield f"| {' | '.join([work.shown, *cells])} |"
+
+
 def measured(programs, turns):
     """The tables for docs/COST.md, the one for docs/C.md, and the one that is only printed, in markdown."""
     peers = list(programs)
@@ -184,7 +213,7 @@ def measured(programs, turns):
     single = {**CALLS, **WAYS}
     best = fastest(programs, single, turns)
     shared = fastest(programs, SHARED, turns)
-    counts = counted(programs, single)
+    counts = counted(programs, {**single, **MANY})
     long = [
         "The time of a message" + (f", of Debian's {', '.join(named)}" if named else "") + ":",
         "",
@@ -193,6 +222,10 @@ def measured(programs, turns):
         f"The time that passes for a message while {THREADS} threads each do the third of these works:",
         "",
         *times_table(peers, SHARED, shared, "The threads have"),
+        "",
+        "Bursts, and deep queues whose blocks are in drawn order: nanoseconds and instructions of a message:",
+        "",
+        *many_table(peers, fastest(programs, MANY, turns), counts),
     ]
     return long, list(times_table(peers, WAYS, best, "A packet of")), ["Instructions of a message:", "", *counts_table(peers, single, counts, "A work")]
 

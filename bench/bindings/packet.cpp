@@ -77,7 +77,7 @@ int in_place_by_codes(void* given, uint32_t size) {
 
 extern "C" {
 
-void* peer_open(int number, int) { return new strm::pool(config(number)); }
+void* peer_open(int number, const use*) { return new strm::pool(config(number)); }
 int peer_enter(void) { return 1; }
 void peer_leave(void) {}
 

@@ -86,7 +86,7 @@ works! {
 }
 
 #[no_mangle]
-pub extern "C" fn peer_open(number: c_int, _shared: c_int) -> *mut c_void {
+pub extern "C" fn peer_open(number: c_int, _use: *const c_void) -> *mut c_void {
     let config = Config {
         id: number as u32,
         mblks: 4095,

@@ -19,9 +19,9 @@
 #define MIDDLES 32
 #define FRAMES 8
 #define FRAME 4096
-/* Messages on queue 1 for looks, and messages of a call on several. */
+/* Messages on queue 1 for looks, and the most of a call on several. */
 #define QUEUED 101
-#define SEVERAL 16
+#define SEVERAL 256
 
 static struct strm_pool pool = STRM_POOL_INIT, other = STRM_POOL_INIT;
 /* A message without bytes, one of SIZE bytes, one of four blocks of SIZE bytes, and the first on queue 1. */
@@ -265,24 +265,42 @@ static int strm_specs(void)
 	return strm_queue_spec(&pool, 1, &spec) == STRM_OK;
 }
 
-static int strm_several_allocs(void)
+static int allocs(size_t several)
 {
 	struct strm_msg msgs[SEVERAL];
 	size_t count;
 
-	return strm_allocb_n(&pool, SIZE, msgs, SEVERAL, &count) == STRM_OK && strm_freemsg_n(&pool, msgs, SEVERAL, &count) == STRM_OK
-	    && count == SEVERAL;
+	return strm_allocb_n(&pool, SIZE, msgs, several, &count) == STRM_OK && strm_freemsg_n(&pool, msgs, several, &count) == STRM_OK
+	    && count == several;
 }
 
-static int strm_several_queues(void)
+/* The messages of SEVERAL are made by the first call. If they are to have bands, these are drawn. */
+static int queues(size_t several, int banded)
 {
 	static struct strm_msg msgs[SEVERAL];
 	static size_t count;
+	static uint32_t draw = 1;
 
-	if (count == 0 && strm_allocb_n(&pool, SIZE, msgs, SEVERAL, &count) != STRM_OK)
-		return 0;
-	return strm_putq_n(&pool, 0, msgs, SEVERAL, &count) == STRM_OK && strm_getq_n(&pool, 0, msgs, SEVERAL, &count) == STRM_OK
-	    && count == SEVERAL;
+	for (; count < several; count++) {
+		draw = draw * 1103515245u + 12345u;
+		if (strm_allocb(&pool, SIZE, &msgs[count]) != STRM_OK || strm_setband(&pool, msgs[count], banded ? draw >> 16 & 7 : 0) != STRM_OK)
+			return 0;
+	}
+	return strm_putq_n(&pool, 0, msgs, several, &count) == STRM_OK && strm_getq_n(&pool, 0, msgs, several, &count) == STRM_OK
+	    && count == several;
+}
+
+#define BURST(several) \
+	static int strm_allocs_##several(void) { return allocs(several); } \
+	static int strm_queues_##several(void) { return queues(several, 0); }
+
+BURST(8)
+BURST(32)
+BURST(256)
+
+static int strm_bands_32(void)
+{
+	return queues(32, 1);
 }
 
 /* ---- rounds by name */
@@ -312,8 +330,13 @@ static const struct {
 	{ "queued_at", strm_queueds, NULL },
 	{ "read_queued", strm_queued_reads, NULL },
 	{ "queue_spec", strm_specs, NULL },
-	{ "allocb_n", strm_several_allocs, NULL },
-	{ "putq_n", strm_several_queues, NULL },
+	{ "allocb_8", strm_allocs_8, NULL },
+	{ "allocb_32", strm_allocs_32, NULL },
+	{ "allocb_256", strm_allocs_256, NULL },
+	{ "putq_8", strm_queues_8, NULL },
+	{ "putq_32", strm_queues_32, NULL },
+	{ "putq_256", strm_queues_256, NULL },
+	{ "bands_32", strm_bands_32, NULL },
 };
 
 /* Finds the round with this name over one of the two pools, and returns 2 if there is no such name, or 3 if the plain pool lacks it. */

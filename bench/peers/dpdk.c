@@ -18,7 +18,8 @@
 
 /* Messages that a thread's cache keeps. */
 #define CACHED 256
-#define RING 4096
+/* A ring has 2^N places. */
+#define RING(queued) ((queued) < 4096 ? 4096 : 32768)
 
 struct room {
 	struct rte_mempool *pool;
@@ -66,7 +67,34 @@ static struct rte_mbuf *filled(struct room *room, uint16_t size)
 	return msg != NULL && writes(msg, size) ? msg : NULL;
 }
 
-void *peer_open(int number, int shared)
+static int fills(struct room *room, uint32_t size, struct rte_mbuf **msg)
+{
+	*msg = filled(room, (uint16_t)size);
+	return *msg != NULL;
+}
+
+/* Frees a message if there is one. */
+static int freed(struct rte_mbuf *msg)
+{
+	if (msg != NULL)
+		rte_pktmbuf_free(msg);
+	return msg != NULL;
+}
+
+static int frees(struct room *room, struct rte_mbuf *msg)
+{
+	(void)room;
+	return freed(msg);
+}
+
+static int puts_one(struct room *room, struct rte_mbuf *msg)
+{
+	return rte_ring_enqueue(room->queue, msg) == 0;
+}
+
+QUEUE_DRAWN(struct rte_mbuf *, fills, frees, puts_one)
+
+void *peer_open(int number, const struct use *use)
 {
 	struct room *room = calloc(1, sizeof *room);
 	char name[16];
@@ -74,13 +102,13 @@ void *peer_open(int number, int shared)
 	if (room == NULL || !has_begun())
 		return NULL;
 	snprintf(name, sizeof name, "peer%d", number);
-	room->pool = rte_pktmbuf_pool_create(name, BLOCKS, CACHED, 0, RTE_MBUF_DEFAULT_BUF_SIZE, SOCKET_ID_ANY);
-	room->queue = rte_ring_create(name, RING, SOCKET_ID_ANY, shared ? 0 : RING_F_SP_ENQ | RING_F_SC_DEQ);
+	room->pool = rte_pktmbuf_pool_create(name, BLOCKS + use->queued, CACHED, 0, RTE_MBUF_DEFAULT_BUF_SIZE, SOCKET_ID_ANY);
+	room->queue = rte_ring_create(name, RING(use->queued), SOCKET_ID_ANY, use->shared ? 0 : RING_F_SP_ENQ | RING_F_SC_DEQ);
 	if (room->pool == NULL || room->queue == NULL)
 		return NULL;
 	room->small = filled(room, SIZE);
 	room->large = filled(room, LONG);
-	return room->small != NULL && room->large != NULL ? room : NULL;
+	return room->small != NULL && room->large != NULL && queue_drawn(room, use->queued, use->size) ? room : NULL;
 }
 
 /* A thread that DPDK knows has a cache. */
@@ -92,14 +120,6 @@ int peer_enter(void)
 void peer_leave(void)
 {
 	rte_thread_unregister();
-}
-
-/* Frees a message if there is one. */
-static int freed(struct rte_mbuf *msg)
-{
-	if (msg != NULL)
-		rte_pktmbuf_free(msg);
-	return msg != NULL;
 }
 
 static int allocates(void *given)
@@ -172,23 +192,24 @@ static int pulls_up(void *given)
 	return msg != NULL && rte_pktmbuf_linearize(msg) == 0 && freed(msg);
 }
 
-static int queues_several(void *given)
+static int several(struct room *room, unsigned count)
 {
-	struct room *room = given;
-	struct rte_mbuf *msgs[SEVERAL];
-	int k;
+	struct rte_mbuf *msgs[MOST_SEVERAL];
+	unsigned k;
 
-	if (rte_pktmbuf_alloc_bulk(room->pool, msgs, SEVERAL) != 0)
+	if (rte_pktmbuf_alloc_bulk(room->pool, msgs, count) != 0)
 		return 0;
-	for (k = 0; k < SEVERAL; k++)
+	for (k = 0; k < count; k++)
 		if (!writes(msgs[k], SIZE))
 			return 0;
-	if (rte_ring_enqueue_bulk(room->queue, (void **)msgs, SEVERAL, NULL) != SEVERAL
-	    || rte_ring_dequeue_bulk(room->queue, (void **)msgs, SEVERAL, NULL) != SEVERAL)
+	if (rte_ring_enqueue_bulk(room->queue, (void **)msgs, count, NULL) != count
+	    || rte_ring_dequeue_bulk(room->queue, (void **)msgs, count, NULL) != count)
 		return 0;
-	rte_pktmbuf_free_bulk(msgs, SEVERAL);
+	rte_pktmbuf_free_bulk(msgs, count);
 	return 1;
 }
+
+BURSTS
 
 static int copies_out(struct rte_mbuf *msg, uint16_t size)
 {
@@ -234,6 +255,6 @@ WAYS
 /* Pool and ring are for several threads without a lock around calls. */
 const struct work works[] = {
 	{ "allocb", allocates }, { "dupb", duplicates }, { "queue", queues }, { "copy_short", copies_small }, { "copy_long", copies_large },
-	{ "chain", builds }, { "pullup", pulls_up }, { "several", queues_several }, WAYS_BY_NAME, { "shared_queue", queues },
-	{ "shared_several", queues_several }, { NULL, NULL },
+	{ "chain", builds }, { "pullup", pulls_up }, BURSTS_BY_NAME, WAYS_BY_NAME, { "shared_queue", queues },
+	{ "shared_several", several_32 }, { NULL, NULL },
 };

@@ -14,16 +14,44 @@ struct room {
 /* Memory of the program's own. */
 static unsigned char frame[FRAME];
 
-void *peer_open(int number, int shared)
+/* Frees bytes if there are some. */
+static int freed(GBytes *msg)
+{
+	if (msg != NULL)
+		g_bytes_unref(msg);
+	return msg != NULL;
+}
+
+static int fills(struct room *room, uint32_t size, GBytes **msg)
+{
+	(void)room;
+	*msg = g_bytes_new(bytes, size);
+	return 1;
+}
+
+static int frees(struct room *room, GBytes *msg)
+{
+	(void)room;
+	return freed(msg);
+}
+
+static int puts_one(struct room *room, GBytes *msg)
+{
+	g_queue_push_tail(&room->queue, msg);
+	return 1;
+}
+
+QUEUE_DRAWN(GBytes *, fills, frees, puts_one)
+
+void *peer_open(int number, const struct use *use)
 {
 	struct room *room = g_new0(struct room, 1);
 
 	(void)number;
-	(void)shared;
 	g_queue_init(&room->queue);
 	room->small = g_bytes_new(bytes, SIZE);
 	room->large = g_bytes_new(bytes, LONG);
-	return pthread_mutex_init(&room->lock, NULL) == 0 ? room : NULL;
+	return pthread_mutex_init(&room->lock, NULL) == 0 && queue_drawn(room, use->queued, use->size) ? room : NULL;
 }
 
 int peer_enter(void)
@@ -49,14 +77,6 @@ static int duplicates(void *given)
 
 	g_bytes_unref(g_bytes_ref(room->small));
 	return 1;
-}
-
-/* Frees bytes if there are some. */
-static int freed(GBytes *msg)
-{
-	if (msg != NULL)
-		g_bytes_unref(msg);
-	return msg != NULL;
 }
 
 static int queues(void *given)
@@ -89,22 +109,23 @@ static int copies_large(void *given)
 	return copies_bytes(room->large);
 }
 
-static int queues_several(void *given)
+static int several(struct room *room, int count)
 {
-	struct room *room = given;
-	GBytes *msgs[SEVERAL];
+	GBytes *msgs[MOST_SEVERAL];
 	int k, done = 1;
 
-	for (k = 0; k < SEVERAL; k++)
+	for (k = 0; k < count; k++)
 		msgs[k] = g_bytes_new(bytes, SIZE);
-	for (k = 0; k < SEVERAL; k++)
+	for (k = 0; k < count; k++)
 		g_queue_push_tail(&room->queue, msgs[k]);
-	for (k = 0; k < SEVERAL; k++)
+	for (k = 0; k < count; k++)
 		msgs[k] = g_queue_pop_head(&room->queue);
-	for (k = 0; k < SEVERAL; k++)
+	for (k = 0; k < count; k++)
 		done &= freed(msgs[k]);
 	return done;
 }
+
+BURSTS
 
 static int copies_out(GBytes *msg, gsize size)
 {
@@ -190,5 +211,5 @@ static int shares_several(void *given)
 /* It has no chains of blocks. */
 const struct work works[] = {
 	{ "allocb", allocates }, { "dupb", duplicates }, { "queue", queues }, { "copy_short", copies_small }, { "copy_long", copies_large },
-	{ "several", queues_several }, WAYS_BY_NAME, { "shared_queue", shares_queue }, { "shared_several", shares_several }, { NULL, NULL },
+	BURSTS_BY_NAME, WAYS_BY_NAME, { "shared_queue", shares_queue }, { "shared_several", shares_several }, { NULL, NULL },
 };

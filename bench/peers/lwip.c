@@ -11,7 +11,7 @@
 #include <pthread.h>
 #include <stdlib.h>
 
-#define RING 4096u
+#define RING 32768u
 
 struct room {
 	struct pbuf *ring[RING];
@@ -25,29 +25,6 @@ static struct pbuf *filled(u16_t size)
 	struct pbuf *msg = pbuf_alloc(PBUF_RAW, size, PBUF_RAM);
 
 	return msg != NULL && pbuf_take(msg, bytes, size) == ERR_OK ? msg : NULL;
-}
-
-void *peer_open(int number, int shared)
-{
-	struct room *room = calloc(1, sizeof *room);
-
-	(void)shared;
-	if (number == 0)
-		lwip_init();
-	if (room == NULL || pthread_mutex_init(&room->lock, NULL) != 0)
-		return NULL;
-	room->small = filled(SIZE);
-	room->large = filled(LONG);
-	return room->small != NULL && room->large != NULL ? room : NULL;
-}
-
-int peer_enter(void)
-{
-	return 1;
-}
-
-void peer_leave(void)
-{
 }
 
 /* Frees a message if there is one. */
@@ -66,6 +43,49 @@ static void put(struct room *room, struct pbuf *msg)
 static struct pbuf *take(struct room *room)
 {
 	return room->taken == room->put ? NULL : room->ring[room->taken++ % RING];
+}
+
+static int fills(struct room *room, uint32_t size, struct pbuf **msg)
+{
+	(void)room;
+	*msg = filled((u16_t)size);
+	return *msg != NULL;
+}
+
+static int frees(struct room *room, struct pbuf *msg)
+{
+	(void)room;
+	return freed(msg);
+}
+
+static int puts_one(struct room *room, struct pbuf *msg)
+{
+	put(room, msg);
+	return 1;
+}
+
+QUEUE_DRAWN(struct pbuf *, fills, frees, puts_one)
+
+void *peer_open(int number, const struct use *use)
+{
+	struct room *room = calloc(1, sizeof *room);
+
+	if (number == 0)
+		lwip_init();
+	if (room == NULL || pthread_mutex_init(&room->lock, NULL) != 0)
+		return NULL;
+	room->small = filled(SIZE);
+	room->large = filled(LONG);
+	return room->small != NULL && room->large != NULL && queue_drawn(room, use->queued, use->size) ? room : NULL;
+}
+
+int peer_enter(void)
+{
+	return 1;
+}
+
+void peer_leave(void)
+{
 }
 
 static int allocates(void *room)
@@ -140,51 +160,53 @@ static int pulls_up(void *room)
 	return msg->next == NULL && freed(msg);
 }
 
-static int makes_several(struct pbuf **msgs)
+static int makes_several(struct pbuf **msgs, int count)
 {
 	int k;
 
-	for (k = 0; k < SEVERAL; k++)
+	for (k = 0; k < count; k++)
 		if ((msgs[k] = filled(SIZE)) == NULL)
 			return 0;
 	return 1;
 }
 
-static int frees_several(struct pbuf **msgs)
+static int frees_several(struct pbuf **msgs, int count)
 {
 	int k, done = 1;
 
-	for (k = 0; k < SEVERAL; k++)
+	for (k = 0; k < count; k++)
 		done &= freed(msgs[k]);
 	return done;
 }
 
-static void puts_several(struct room *room, struct pbuf **msgs)
+static void puts_several(struct room *room, struct pbuf **msgs, int count)
 {
 	int k;
 
-	for (k = 0; k < SEVERAL; k++)
+	for (k = 0; k < count; k++)
 		put(room, msgs[k]);
 }
 
-static void takes_several(struct room *room, struct pbuf **msgs)
+static void takes_several(struct room *room, struct pbuf **msgs, int count)
 {
 	int k;
 
-	for (k = 0; k < SEVERAL; k++)
+	for (k = 0; k < count; k++)
 		msgs[k] = take(room);
 }
 
-static int queues_several(void *given)
+static int several(struct room *room, int count)
 {
-	struct pbuf *msgs[SEVERAL];
+	struct pbuf *msgs[MOST_SEVERAL];
 
-	if (!makes_several(msgs))
+	if (!makes_several(msgs, count))
 		return 0;
-	puts_several(given, msgs);
-	takes_several(given, msgs);
-	return frees_several(msgs);
+	puts_several(room, msgs, count);
+	takes_several(room, msgs, count);
+	return frees_several(msgs, count);
 }
+
+BURSTS
 
 static int copies(struct room *room, u16_t size)
 {
@@ -246,19 +268,19 @@ static int shares_several(void *given)
 	struct room *room = given;
 	struct pbuf *msgs[SEVERAL];
 
-	if (!makes_several(msgs))
+	if (!makes_several(msgs, SEVERAL))
 		return 0;
 	pthread_mutex_lock(&room->lock);
-	puts_several(room, msgs);
+	puts_several(room, msgs, SEVERAL);
 	pthread_mutex_unlock(&room->lock);
 	pthread_mutex_lock(&room->lock);
-	takes_several(room, msgs);
+	takes_several(room, msgs, SEVERAL);
 	pthread_mutex_unlock(&room->lock);
-	return frees_several(msgs);
+	return frees_several(msgs, SEVERAL);
 }
 
 const struct work works[] = {
 	{ "allocb", allocates }, { "dupb", duplicates }, { "queue", queues }, { "copy_short", copies_small }, { "copy_long", copies_large },
-	{ "chain", builds }, { "pullup", pulls_up }, { "several", queues_several }, WAYS_BY_NAME, { "shared_queue", shares_queue },
+	{ "chain", builds }, { "pullup", pulls_up }, BURSTS_BY_NAME, WAYS_BY_NAME, { "shared_queue", shares_queue },
 	{ "shared_several", shares_several }, { NULL, NULL },
 };

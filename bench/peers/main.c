@@ -3,8 +3,9 @@
  * processor, or with threads those that passed, divided by the rounds of all threads.
  *
  *     peer WORK ROUNDS TURNS [shared|own THREADS]
+ *     peer WORK ROUNDS TURNS queued MESSAGES BYTES
  *
- * Threads share one pool, or each has its own. Each runs on a core of its own, as far as there are enough. Status 3 says that the peer has no such
+ * Threads share one pool, or each has its own. Or this number of messages with so many bytes each are on the queue. Each runs on a core of its own, as far as there are enough. Status 3 says that the peer has no such
  * work.
  */
 #define _GNU_SOURCE
@@ -33,6 +34,36 @@ struct worker {
 const unsigned char bytes[FRAME];
 unsigned char copied[FRAME];
 volatile unsigned seen;
+
+/* For a deep queue there are MORE message blocks than messages on it. */
+#define MIDDLE_CLASS 32
+#define MORE 300
+
+void peer_classes(const struct use *use, uint32_t classes[CLASSES][2])
+{
+	static const uint32_t without_queue[CLASSES][2] = { { SIZE, BLOCKS - MIDDLE_CLASS - LAST_CLASS }, { 256, MIDDLE_CLASS }, { FRAME, LAST_CLASS } };
+	int deep = use->size == SIZE ? 0 : 1;
+
+	memcpy(classes, without_queue, sizeof without_queue);
+	if (use->queued == 0)
+		return;
+	classes[0][1] = MIDDLE_CLASS;
+	classes[1][0] = 1536;
+	classes[deep][1] = use->queued + MORE;
+}
+
+uint32_t peer_blocks(const struct use *use)
+{
+	return use->queued == 0 ? BLOCKS : use->queued + MORE + MIDDLE_CLASS + LAST_CLASS;
+}
+
+uint32_t drawn(uint32_t count)
+{
+	static uint64_t state = 1;
+
+	state = state * 6364136223846793005u + 1442695040888963407u;
+	return (uint32_t)((state >> 33) % count);
+}
 
 static double now(clockid_t clock)
 {
@@ -104,7 +135,7 @@ static double turn_of_threads(struct worker *workers, int threads)
 }
 
 /* Gives each worker a pool and a core, and returns 0 if there is no pool. `cores` are those that the process may use. */
-static int ready(struct worker *workers, int threads, int shared, const cpu_set_t *cores)
+static int ready(struct worker *workers, int threads, const struct use *use, const cpu_set_t *cores)
 {
 	int k, core = -1;
 
@@ -113,7 +144,7 @@ static int ready(struct worker *workers, int threads, int shared, const cpu_set_
 			core = (core + 1) % CPU_SETSIZE;
 		while (!CPU_ISSET(core, cores));
 		workers[k].core = core;
-		workers[k].room = k > 0 && shared ? workers[0].room : peer_open(k, shared);
+		workers[k].room = k > 0 && use->shared ? workers[0].room : peer_open(k, use);
 		if (workers[k].room == NULL)
 			return 0;
 	}
@@ -134,25 +165,29 @@ int main(int words, char **word)
 {
 	static struct worker workers[MOST_THREADS];
 	int (*made)(void *room) = words >= 4 ? found(word[1]) : NULL;
-	int threads = words == 6 ? atoi(word[5]) : 1;
-	int k, shared = words == 6 && strcmp(word[4], "shared") == 0;
+	int k, threads = words == 6 ? atoi(word[5]) : 1;
+	struct use use = { words == 6 && strcmp(word[4], "shared") == 0, 0, SIZE };
 	double least = -1;
 	cpu_set_t cores;
 	long rounds, turns;
 
-	if (words != 4 && words != 6)
+	if (words != 4 && words != 6 && words != 7)
 		return 2;
 	if (made == NULL)
 		return 3;
+	if (words == 7) {
+		use.queued = (uint32_t)atol(word[5]);
+		use.size = (uint32_t)atol(word[6]);
+	}
 	rounds = atol(word[2]);
-	if (threads < 1 || threads > MOST_THREADS || sched_getaffinity(0, sizeof cores, &cores) != 0 || !ready(workers, threads, shared, &cores))
+	if (threads < 1 || threads > MOST_THREADS || sched_getaffinity(0, sizeof cores, &cores) != 0 || !ready(workers, threads, &use, &cores))
 		return 2;
 	for (k = 0; k < threads; k++) {
 		workers[k].made = made;
 		workers[k].rounds = rounds;
 	}
 	for (turns = atol(word[3]); turns > 0; turns--) {
-		double took = words == 4 ? turn(made, workers[0].room, rounds) : turn_of_threads(workers, threads);
+		double took = words != 6 ? turn(made, workers[0].room, rounds) : turn_of_threads(workers, threads);
 
 		if (took < 0)
 			return 1;

@@ -19,18 +19,40 @@ static struct plain_block *filled(struct room *room, uint32_t size)
 	return msg != NULL && plain_write(msg, bytes, size) ? msg : NULL;
 }
 
-void *peer_open(int number, int shared)
+static int fills(struct room *room, uint32_t size, struct plain_block **msg)
 {
-	static const uint32_t classes[][2] = { { SIZE, BLOCKS - 40 }, { 256, 32 }, { FRAME, 8 } };
+	*msg = filled(room, size);
+	return *msg != NULL;
+}
+
+/* Frees a message if there is one, which it returns. */
+static int freed(struct room *room, struct plain_block *msg)
+{
+	if (msg != NULL)
+		plain_freemsg(&room->pool, msg);
+	return msg != NULL;
+}
+
+static int puts_one(struct room *room, struct plain_block *msg)
+{
+	plain_putq(&room->pool, msg);
+	return 1;
+}
+
+QUEUE_DRAWN(struct plain_block *, fills, freed, puts_one)
+
+void *peer_open(int number, const struct use *use)
+{
+	uint32_t classes[CLASSES][2];
 	struct room *room = calloc(1, sizeof *room);
 
 	(void)number;
-	(void)shared;
-	if (room == NULL || pthread_mutex_init(&room->lock, NULL) != 0 || !plain_open(&room->pool, BLOCKS, classes, 3))
+	peer_classes(use, classes);
+	if (room == NULL || pthread_mutex_init(&room->lock, NULL) != 0 || !plain_open(&room->pool, peer_blocks(use), (const uint32_t(*)[2])classes, CLASSES))
 		return NULL;
 	room->small = filled(room, SIZE);
 	room->large = filled(room, LONG);
-	return room->small != NULL && room->large != NULL ? room : NULL;
+	return room->small != NULL && room->large != NULL && queue_drawn(room, use->queued, use->size) ? room : NULL;
 }
 
 int peer_enter(void)
@@ -40,14 +62,6 @@ int peer_enter(void)
 
 void peer_leave(void)
 {
-}
-
-/* Frees a message if there is one, which it returns. */
-static int freed(struct room *room, struct plain_block *msg)
-{
-	if (msg != NULL)
-		plain_freemsg(&room->pool, msg);
-	return msg != NULL;
 }
 
 static int allocates(void *given)
@@ -64,20 +78,15 @@ static int duplicates(void *given)
 	return freed(room, plain_dupb(&room->pool, room->small));
 }
 
-static int puts_one(struct room *room)
-{
-	struct plain_block *msg = filled(room, SIZE);
-
-	if (msg != NULL)
-		plain_putq(&room->pool, msg);
-	return msg != NULL;
-}
-
 static int queues(void *given)
 {
 	struct room *room = given;
+	struct plain_block *msg = filled(room, SIZE);
 
-	return puts_one(room) && freed(room, plain_getq(&room->pool));
+	if (msg == NULL)
+		return 0;
+	plain_putq(&room->pool, msg);
+	return freed(room, plain_getq(&room->pool));
 }
 
 static int copies_small(void *given)
@@ -121,35 +130,37 @@ static int pulls_up(void *given)
 	return msg != NULL && plain_pullupmsg(&room->pool, msg) && freed(room, msg);
 }
 
-static int puts_several(struct room *room)
+static int puts_several(struct room *room, int count)
 {
-	struct plain_block *msgs[SEVERAL];
+	struct plain_block *msgs[MOST_SEVERAL];
 	int k;
 
-	for (k = 0; k < SEVERAL; k++)
+	for (k = 0; k < count; k++)
 		if ((msgs[k] = filled(room, SIZE)) == NULL)
 			return 0;
-	for (k = 0; k < SEVERAL; k++)
+	for (k = 0; k < count; k++)
 		plain_putq(&room->pool, msgs[k]);
 	return 1;
 }
 
-static int takes_several(struct room *room)
+static int takes_several(struct room *room, int count)
 {
-	struct plain_block *msgs[SEVERAL];
+	struct plain_block *msgs[MOST_SEVERAL];
 	int k, done = 1;
 
-	for (k = 0; k < SEVERAL; k++)
+	for (k = 0; k < count; k++)
 		msgs[k] = plain_getq(&room->pool);
-	for (k = 0; k < SEVERAL; k++)
+	for (k = 0; k < count; k++)
 		done &= freed(room, msgs[k]);
 	return done;
 }
 
-static int queues_several(void *given)
+static int several(struct room *room, int count)
 {
-	return puts_several(given) && takes_several(given);
+	return puts_several(room, count) && takes_several(room, count);
 }
+
+BURSTS
 
 static int copies(struct room *room, uint32_t size)
 {
@@ -192,36 +203,31 @@ WAYS
 
 /* ---- in several threads: the lock is held to put messages, and again to take them */
 
-static int shares(struct room *room, int (*puts_some)(struct room *room), int (*takes_some)(struct room *room))
+static int shares(struct room *room, int count)
 {
 	int done;
 
 	pthread_mutex_lock(&room->lock);
-	done = puts_some(room);
+	done = puts_several(room, count);
 	pthread_mutex_unlock(&room->lock);
 	pthread_mutex_lock(&room->lock);
-	done = done && takes_some(room);
+	done = done && takes_several(room, count);
 	pthread_mutex_unlock(&room->lock);
 	return done;
 }
 
-static int takes_one(struct room *room)
+static int shares_queue(void *room)
 {
-	return freed(room, plain_getq(&room->pool));
+	return shares(room, 1);
 }
 
-static int shares_queue(void *given)
+static int shares_several(void *room)
 {
-	return shares(given, puts_one, takes_one);
-}
-
-static int shares_several(void *given)
-{
-	return shares(given, puts_several, takes_several);
+	return shares(room, SEVERAL);
 }
 
 const struct work works[] = {
 	{ "allocb", allocates }, { "dupb", duplicates }, { "queue", queues }, { "copy_short", copies_small }, { "copy_long", copies_large },
-	{ "chain", builds }, { "pullup", pulls_up }, { "several", queues_several }, WAYS_BY_NAME, { "shared_queue", shares_queue },
+	{ "chain", builds }, { "pullup", pulls_up }, BURSTS_BY_NAME, WAYS_BY_NAME, { "shared_queue", shares_queue },
 	{ "shared_several", shares_several }, { NULL, NULL },
 };

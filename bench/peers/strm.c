@@ -6,44 +6,60 @@
 #include <stdlib.h>
 #include <string.h>
 
-/* Data blocks of the three classes. */
-#define SHORTS (BLOCKS - 40)
-#define MIDDLES 32
-#define FRAMES 8
-
 struct room {
 	struct strm_pool pool;
 	struct strm_msg small, large;
 	pthread_mutex_t lock;
 };
 
-/* Memory of the program's own for each data block of the last class. */
-static unsigned char frames[FRAMES][FRAME];
+/* Memory of the program's own for each data block of the last class, and the number of the first of these. */
+static unsigned char frames[LAST_CLASS][FRAME];
+static uint32_t first_frame;
 
 static int filled(struct room *room, uint32_t size, struct strm_msg *msg)
 {
 	return strm_allocb(&room->pool, size, msg) == STRM_OK && strm_write(&room->pool, *msg, 0, bytes, size) == STRM_OK;
 }
 
-void *peer_open(int number, int shared)
+static int freed(struct room *room, struct strm_msg msg)
 {
-	static const struct strm_class_spec classes[] = { { SIZE, SHORTS }, { 256, MIDDLES }, { FRAME, FRAMES } };
-	static const struct strm_queue_spec queue = { 65536, 1024, 1, STRM_NO_QUEUE };
+	return strm_freemsg(&room->pool, msg) == STRM_OK;
+}
+
+static int puts_one(struct room *room, struct strm_msg msg)
+{
+	return strm_putq(&room->pool, 0, msg) == STRM_OK;
+}
+
+QUEUE_DRAWN(struct strm_msg, filled, freed, puts_one)
+
+void *peer_open(int number, const struct use *use)
+{
+	/* A deep queue is never full. */
+	static const struct strm_queue_spec queue = { 65536, 1024, 1, STRM_NO_QUEUE }, deep = { 1u << 30, 1024, 1, STRM_NO_QUEUE };
+	struct strm_class_spec classes[CLASSES];
+	uint32_t counts[CLASSES][2];
 	struct room *room = calloc(1, sizeof *room);
 	struct strm_config config;
+	int k;
 
-	(void)shared;
+	peer_classes(use, counts);
+	for (k = 0; k < CLASSES; k++) {
+		classes[k].size = counts[k][0];
+		classes[k].count = counts[k][1];
+	}
+	first_frame = counts[0][1] + counts[1][1];
 	memset(&config, 0, sizeof config);
 	config.id = (uint32_t)number;
-	config.mblks = BLOCKS;
+	config.mblks = peer_blocks(use);
 	config.classes = classes;
-	config.class_count = 3;
-	config.queues = &queue;
+	config.class_count = CLASSES;
+	config.queues = use->queued == 0 ? &queue : &deep;
 	config.queue_count = 1;
 	config.first_id = 1;
 	if (room == NULL || pthread_mutex_init(&room->lock, NULL) != 0 || strm_open(&room->pool, &config) != STRM_OK)
 		return NULL;
-	return filled(room, SIZE, &room->small) && filled(room, LONG, &room->large) ? room : NULL;
+	return filled(room, SIZE, &room->small) && filled(room, LONG, &room->large) && queue_drawn(room, use->queued, use->size) ? room : NULL;
 }
 
 int peer_enter(void)
@@ -130,32 +146,34 @@ static int pulls_up(void *given)
 	return built(room, &msg) && strm_pullupmsg(&room->pool, msg, -1) == STRM_OK && strm_freemsg(&room->pool, msg) == STRM_OK;
 }
 
-static int puts_several(struct room *room, struct strm_msg *msgs)
+static int puts_several(struct room *room, struct strm_msg *msgs, size_t length)
 {
 	size_t k, count;
 
-	if (strm_allocb_n(&room->pool, SIZE, msgs, SEVERAL, &count) != STRM_OK || count != SEVERAL)
+	if (strm_allocb_n(&room->pool, SIZE, msgs, length, &count) != STRM_OK || count != length)
 		return 0;
-	for (k = 0; k < SEVERAL; k++)
+	for (k = 0; k < length; k++)
 		if (strm_write(&room->pool, msgs[k], 0, bytes, SIZE) != STRM_OK)
 			return 0;
-	return strm_putq_n(&room->pool, 0, msgs, SEVERAL, &count) == STRM_OK && count == SEVERAL;
+	return strm_putq_n(&room->pool, 0, msgs, length, &count) == STRM_OK && count == length;
 }
 
-static int takes_several(struct room *room, struct strm_msg *msgs)
+static int takes_several(struct room *room, struct strm_msg *msgs, size_t length)
 {
 	size_t count;
 
-	return strm_getq_n(&room->pool, 0, msgs, SEVERAL, &count) == STRM_OK && count == SEVERAL
-	    && strm_freemsg_n(&room->pool, msgs, SEVERAL, &count) == STRM_OK && count == SEVERAL;
+	return strm_getq_n(&room->pool, 0, msgs, length, &count) == STRM_OK && count == length
+	    && strm_freemsg_n(&room->pool, msgs, length, &count) == STRM_OK && count == length;
 }
 
-static int queues_several(void *given)
+static int several(struct room *room, size_t length)
 {
-	struct strm_msg msgs[SEVERAL];
+	struct strm_msg msgs[MOST_SEVERAL];
 
-	return puts_several(given, msgs) && takes_several(given, msgs);
+	return puts_several(room, msgs, length) && takes_several(room, msgs, length);
 }
+
+BURSTS
 
 static int copies(struct room *room, uint32_t size)
 {
@@ -182,7 +200,7 @@ static int in_place(struct room *room, uint32_t size)
 
 static unsigned char *frame_of(const struct strm_block_place *where)
 {
-	return frames[where->data - SHORTS - MIDDLES] + where->at;
+	return frames[where->data - first_frame] + where->at;
 }
 
 static int copies_nothing(struct room *room, uint32_t size)
@@ -222,16 +240,16 @@ static int shares_several(void *given)
 	int done;
 
 	pthread_mutex_lock(&room->lock);
-	done = puts_several(room, msgs);
+	done = puts_several(room, msgs, SEVERAL);
 	pthread_mutex_unlock(&room->lock);
 	pthread_mutex_lock(&room->lock);
-	done = done && takes_several(room, msgs);
+	done = done && takes_several(room, msgs, SEVERAL);
 	pthread_mutex_unlock(&room->lock);
 	return done;
 }
 
 const struct work works[] = {
 	{ "allocb", allocates }, { "dupb", duplicates }, { "queue", queues }, { "copy_short", copies_small }, { "copy_long", copies_large },
-	{ "chain", builds }, { "pullup", pulls_up }, { "several", queues_several }, WAYS_BY_NAME, { "shared_queue", shares_queue },
+	{ "chain", builds }, { "pullup", pulls_up }, BURSTS_BY_NAME, WAYS_BY_NAME, { "shared_queue", shares_queue },
 	{ "shared_several", shares_several }, { NULL, NULL },
 };
