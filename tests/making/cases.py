@@ -9,7 +9,7 @@ import sys
 
 TOP = os.path.dirname(os.path.dirname(os.path.dirname(os.path.abspath(__file__))))
 CASES = os.path.join(TOP, "tests", "cases")
-# How long a program may take to print a case.
+# How long a program of tests/cases may take.
 SECONDS = 120
 # The head of a case in a file of several, with the empty line before it, and what begins the head of a section.
 NAME = re.compile(rb"(?:\A|\n)=== (\w+)\n")
@@ -20,11 +20,24 @@ LISTS = ("modes", "words")
 ESCAPE = re.compile(rb"\\(?:(\n)|(r)|(\\)|x([0-9a-f]{2})|)")
 
 
-def in_file(path):
-    """The cases of a file by their names, each with its text, or None if the file is a program, which prints its one case."""
-    name = os.path.basename(path)
+def print_by(file, *words):
+    """What a program among the files prints: the names of its cases, or the case that a word names."""
+    variables = {**os.environ, "PYTHONPATH": os.path.dirname(CASES)}
+    command = [os.path.join(CASES, file), *words]
+    ran = subprocess.run(command, cwd=TOP, env=variables, stdin=subprocess.DEVNULL, capture_output=True, timeout=SECONDS)
+    if ran.returncode != 0:
+        raise ValueError(f"tests/cases/{file} ends with status {ran.returncode}:\n{ran.stderr.decode('utf-8', 'replace')}")
+    return ran.stdout
+
+
+def in_file(name):
+    """The cases of a file by their names, each with its text, or None if the file is a program, which prints it."""
+    path = os.path.join(CASES, name)
     if os.access(path, os.X_OK):
-        return {name: None}
+        names = print_by(name).decode().split()
+        if not names:
+            raise ValueError(f"tests/cases/{name} prints no case")
+        return dict.fromkeys(names)
     text = pathlib.Path(path).read_bytes()
     first, *parts = NAME.split(text)
     if first or not parts:
@@ -40,7 +53,7 @@ def sources():
     """The file and the text of each case, by its name."""
     found = {}
     for file in sorted(os.listdir(CASES)):
-        for name, text in in_file(os.path.join(CASES, file)).items():
+        for name, text in in_file(file).items():
             if name in found:
                 raise ValueError(f"two cases are called {name}, in tests/cases/{found[name][0]} and {file}")
             found[name] = file, text
@@ -60,13 +73,7 @@ def is_made(name):
 def text_of(name):
     """The text of a case."""
     file, text = sources()[name]
-    if text is not None:
-        return text
-    variables = {**os.environ, "PYTHONPATH": os.path.dirname(CASES)}
-    ran = subprocess.run([os.path.join(CASES, file)], cwd=TOP, env=variables, stdin=subprocess.DEVNULL, capture_output=True, timeout=SECONDS)
-    if ran.returncode != 0:
-        raise ValueError(f"its program ends with status {ran.returncode}:\n{ran.stderr.decode('utf-8', 'replace')}")
-    return ran.stdout
+    return print_by(file, name) if text is None else text
 
 
 def unescaped(text):

@@ -1,4 +1,23 @@
 """Prints a case from the lines of its script and their replies."""
+import sys
+
+# The functions that print the cases of a program of tests/cases, each by its name, which is that of the case.
+PRINTED = {}
+
+
+def printed(function):
+    """Makes a function print a case of the program."""
+    assert function.__name__ not in PRINTED, f"two cases are called {function.__name__}"
+    PRINTED[function.__name__] = function
+    return function
+
+
+def main():
+    """Prints the case that the program's word names, or the names of all."""
+    if sys.argv[1:]:
+        PRINTED[sys.argv[1]]()
+    else:
+        print(*PRINTED, sep="\n")
 
 
 def print_case(**sections):
