@@ -20,6 +20,7 @@ of a number, its beginning and its end."""
 from __future__ import annotations
 
 import operator
+from array import array
 from collections import Counter, defaultdict
 from itertools import count
 from typing import Any, Callable, Counter as Counts, Iterable, Iterator, List, NamedTuple, Sequence, TypeVar
@@ -29,7 +30,6 @@ from strm_tools.model import HIGH_PRIORITY, ORDINARY, Block, Values
 from strm_tools.rules import SETTLES, Found, why_not, why_settled
 from strm_tools.script import lazily
 from strm_tools.view.queues import OF_BYTES, OF_DATA, READ, WANTED, WRITE, Shown, ShownQueue, flags_of, message_of
-from strm_tools.view.tracks import Tracks
 
 Item = TypeVar("Item")
 # A change: the part, a place in it, how many items go there, and those that come.
@@ -74,6 +74,32 @@ def pieces_of(blocks: Iterable[Shown], left: int) -> Iterator[list[int]]:
         if begin < end:
             yield [block[OF_BYTES], begin, end]
         left -= end - begin
+
+
+class Tracks:
+    """Tracks by name: of frames in which something happens, and of numbers that change from frame to frame. A track of frames is the gaps
+    between them. A track of a number is its value at frame 0, and then a gap and a difference for each change."""
+
+    def __init__(self) -> None:
+        self.tracks: dict[str, array[int]] = {}
+        self.last: dict[str, int] = {}
+        self.values: dict[str, int] = {}
+
+    def mark(self, name: str, frame: int) -> None:
+        """Marks a frame, once."""
+        last = self.last.get(name, 0)
+        if last < frame:
+            self.tracks.setdefault(name, array("q")).append(frame - last)
+            self.last[name] = frame
+
+    def step(self, name: str, frame: int, value: int, opening: int = 0) -> None:
+        """The number of this name has a value from this frame on. Before the first step it has the value `opening`."""
+        before = self.values.setdefault(name, opening)
+        if name not in self.tracks:
+            self.tracks[name], self.last[name] = array("q", [opening]), 0
+        if value != before:
+            self.tracks[name].extend((frame - self.last[name], value - before))
+            self.last[name], self.values[name] = frame, value
 
 
 class Film(Replay):

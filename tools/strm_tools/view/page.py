@@ -29,6 +29,12 @@ def source(name: str) -> str:
         return file.read()
 
 
+def panels() -> dict[str, str]:
+    """The panels of a pool, and the help on them, which all pages have."""
+    pool, text = source("pool.html").split("\n<!-- help -->\n")
+    return {"pool": pool, "help": text}
+
+
 def program_of(names: list[str]) -> str:
     """A program of these parts, without the lines that are comments."""
     return re.sub(r"^ *//.*\n", "", "\n".join(source(f"{name}.js") for name in names), flags=re.MULTILINE)
@@ -91,8 +97,8 @@ def write_page(file: Output, title: str, script: str, text: str | None = None) -
     """Writes the page of a run to a file, and returns the replay. Raises `Wrong` if the text is not one of the script, or the page
     becomes too large; then what the file has is no page."""
     write = Writer(file).write
-    head, rest = source("page.html").replace("<!-- help -->", source("help.html")).split("<!-- run -->")
-    write(filled(head, title=html.escape(title), style=source("page.css")))
+    head, rest = source("page.html").split("<!-- run -->")
+    write(filled(head, title=html.escape(title), style=source("page.css"), **panels()))
     labels = labels_of(script)
     film = Film(script, lambda line: chunks.add(line))
     chunks = Chunks(film.script, labels, film.state, lambda rows, states: write(CHUNK.format(rows, states)))
@@ -154,8 +160,7 @@ def play_page() -> str:
         "examples": play_scripts(),
     }
     parts = {name: program_of(names) for name, names in (("drawing", DRAWING), ("model", ["model"]), ("play", ["play"]))}
-    page = source("play.html").replace("<!-- help -->", source("help.html"))
-    return filled(page, style=source("page.css"), facts=compact(facts).replace("<", "\\u003c"), **parts)
+    return filled(source("play.html"), style=source("page.css"), facts=compact(facts).replace("<", "\\u003c"), **panels(), **parts)
 
 
 def filled(text: str, **parts: str) -> str:

@@ -1,1 +1,0 @@
-"""Makes calls to the C library fail."""
