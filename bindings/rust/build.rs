@@ -1,5 +1,5 @@
-//! Finds libstrm.a, or else libstrm.so, and has it linked. Tested, not proved. It looks in the folder that `STRM_LIB_DIR` names, then in `build` of
-//! the repository, then in `lib` of the prefix that the crate is installed below, and then asks pkg-config.
+//! Finds libstrm.a, or else libstrm.so, and has it linked. Tested, not proved. It looks in the folder that `STRM_LIB_DIR` names, then in `build` and
+//! `release` of the repository, then in `lib` of the prefix that the crate is installed below, and then asks pkg-config.
 use std::env;
 use std::path::{Path, PathBuf};
 use std::process::Command;
@@ -20,7 +20,7 @@ fn main() {
     let is_named = named.is_some();
     let mut folders: Vec<PathBuf> = named.into_iter().collect();
     if !is_named {
-        folders.extend([top.join("build"), top.join("../../lib")]);
+        folders.extend([top.join("build"), top.join("release"), top.join("../../lib")]);
         folders.extend(by_pkg_config());
     }
     let found = folders.iter().find_map(|folder| Some((folder.canonicalize().ok()?, kind_of(folder)?)));

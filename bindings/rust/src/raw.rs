@@ -1,4 +1,4 @@
-//! The calls of strm.h, and all unsafe code of the crate. Tested, not proved.
+//! The calls of strm.h, and all unsafe code of the crate but that of channels. Tested, not proved.
 //!
 //! A `safe fn` below keeps each promise of strm.h by its types: a reference leads to one object, which nothing else writes during the call; a look
 //! takes `&Handle`, and any other call `&mut Handle`. Only `open` and `Pool::from_handle` make a handle that is not closed, and no handle is copied.
