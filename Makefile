@@ -237,9 +237,11 @@ install-tools: WHERE install-pages
 	for file in $(MODULES); do install -D -m 644 tools/$$file $(SHARE)/strm/$$file || exit; done
 	install -m 644 VERSION $(SHARE)/strm/VERSION
 	install -D -m 644 bindings/python/strm/__init__.py $(SHARE)/strm/strm/__init__.py
-	install -D -m 644 completions/strm.vim $(SHARE)/vim/vimfiles/syntax/strm.vim
 	echo 'autocmd BufRead,BufNewFile *.strm setfiletype strm' | install -D -m 644 /dev/stdin $(SHARE)/vim/vimfiles/ftdetect/strm.vim
-	install -D -m 644 completions/strm.tmLanguage.json $(SHARE)/strm/vscode/strm.tmLanguage.json
+	commands=$$(tools/strm-check --words | sed -n '/^Messages/,$$s/^  \([a-z][a-z]*\).*/\1/p' | paste -sd '|') && \
+	    for file in vim/vimfiles/syntax/strm.vim strm/vscode/strm.tmLanguage.json; do \
+	        sed "s/@COMMANDS@/$$commands/" completions/$${file##*/} | install -D -m 644 /dev/stdin $(SHARE)/$$file || exit; \
+	    done
 	echo '$(VSCODE)' | install -m 644 /dev/stdin $(SHARE)/strm/vscode/package.json
 	install -d $(DESTDIR)$(PREFIX)/bin
 	for tool in $(TOOLS); do install -m 755 tools/$$tool $(SHARE)/strm && ln -sf ../share/strm/$$tool $(DESTDIR)$(PREFIX)/bin/$$tool || exit; done

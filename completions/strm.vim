@@ -1,9 +1,10 @@
-" Vim: the words of scripts of strm. Without an installed ftdetect: autocmd BufRead,BufNewFile *.strm setfiletype strm
+" Vim: the words of scripts of strm. `make install-tools` puts in the commands.
+" Without an installed ftdetect: autocmd BufRead,BufNewFile *.strm setfiletype strm
 if exists("b:current_syntax") | finish | endif
 syntax match strmComment "^#.*"
 syntax match strmLabel "^#: \(queue\|module\|caller\) .*"
 syntax match strmHeader "^\(pool\|class\|queue\|bufcalls\|worker\)\>"
-syntax match strmCommand "^\(allocb\|testb\|dupb\|dupmsg\|copyb\|copymsg\|write\|settype\|setband\|linkb\|unlinkb\|rmvb\|adjmsg\|pullupmsg\|msgdsize\|size\|read\|block\|freeb\|freemsg\|putq\|putbq\|insq\|getq\|rmvq\|flushq\|flushband\|qsize\|bcanput\|strqset\|strqget\|qenable\|noenable\|enableok\|service\|bufcall\|unbufcall\|ready\|census\)\>"
+syntax match strmCommand "\v^(@COMMANDS@)>"
 syntax match strmRegister " \zs[a-z]\ze\( \|$\)"
 syntax match strmNumber " \zs-\?\d\+\ze\( \|$\)"
 syntax match strmType " \zsM_[A-Z]\+$"
