@@ -83,7 +83,7 @@
  *
  * With STRM_NONE nothing is stored through pointers, except that strm_freeb and strm_unlinkb set
  * *rest to STRM_NO_MSG. After any code but STRM_OK and STRM_NONE, the pool, names, and what
- * pointers lead to are unchanged, except *count as below.
+ * pointers lead to are unchanged, but *count of strm_takeq, strm_takeq_band and _n calls is 0.
  *
  * A call whose name ends in _n makes `length` single calls, or fewer, up to the first that does not
  * return STRM_OK. It returns the code of the first one, or STRM_OK if `length` is 0, whatever the
@@ -868,7 +868,7 @@ int strm_insq(struct strm_pool *pool, uint32_t queue, uint32_t place, struct str
 
 /*
  * Puts a message on a queue as strm_insq does, before the message there whose first block is
- * `before`, or last if that is STRM_NO_HEAD. Takes constant time. Since 0.4.0.
+ * `before`, or last if that is STRM_NO_HEAD. Since 0.4.0.
  * Refused as STRM_NO_SUCH_PLACE if no message on this queue begins with that block; STRM_BAD_ORDER.
  * STREAMS: insq; a number replaces the pointer.
  */
@@ -889,8 +889,7 @@ int strm_getq(struct strm_pool *pool, uint32_t queue, struct strm_msg *msg);
 int strm_rmvq(struct strm_pool *pool, uint32_t queue, uint32_t place, struct strm_msg *msg);
 
 /*
- * Takes the message whose first block is `head` off its queue, and settles the queue. Takes
- * constant time. Since 0.4.0.
+ * Takes the message whose first block is `head` off its queue, and settles the queue. Since 0.4.0.
  * Refused as STRM_NO_SUCH_PLACE if no message on a queue begins with that block.
  * STREAMS: rmvq, whose caller also passes the queue; settling differs as at strm_getq.
  */
