@@ -1,1 +1,0 @@
-"""Fetches and builds what tests/field_run records."""
