@@ -3,7 +3,7 @@
 replies of TEXT and its report. Without, it tests what the binding adds to the calls of strm.h, and if Debian's hypothesis is there, drawn lines beside
 the plain model of the tools. The last line is 'N passed, M failed'.
 
-    tests/bindings/each.py [SCRIPT TEXT]
+    PYTHONPATH=bindings/python:tools tests/bindings/each.py [SCRIPT TEXT]
 """
 import gc
 import os
@@ -11,15 +11,13 @@ import subprocess
 import sys
 import threading
 
+import strm
+from strm_tools import model, script
+from strm_tools.library import Library
+from strm_tools.listing import listed
+from strm_tools.play.session import Session, changes_of
+
 TOP = os.path.dirname(os.path.dirname(os.path.dirname(os.path.abspath(__file__))))
-sys.path[:0] = [os.path.join(TOP, "tools"), os.path.join(TOP, "bindings", "python")]
-
-import strm  # noqa: E402
-from strm_tools import model, script  # noqa: E402
-from strm_tools.library import Library  # noqa: E402
-from strm_tools.listing import listed  # noqa: E402
-from strm_tools.play.session import Session, changes_of  # noqa: E402
-
 passed = failed = 0
 
 
