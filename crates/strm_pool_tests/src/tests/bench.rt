@@ -133,6 +133,20 @@ impl Bench {
         infos
     }
 
+    // The blocks of a register's message have these numbers.
+    pub(super) fn assert_numbers(&mut self, rt: &impl Abort, reg: Reg, numbers: &[u32]) {
+        let token = self.taken(rt, reg);
+        assert!(rt; self.pool.has(&token));
+        for place in 0..=token.blocks() {
+            let wanted = numbers
+                .get(place as usize)
+                .copied()
+                .ok_or(Refusal::NoSuchBlock);
+            assert!(rt; self.pool.number(&token, place) == wanted);
+        }
+        self.hold(rt, reg, token);
+    }
+
     // The first registers have messages with these heads.
     fn assert_heads(&self, rt: &impl Abort, heads: &[Option<u32>]) {
         let mut place = 0u8;

@@ -1,10 +1,13 @@
 //! Calls in place and looks, worked out by hand.
 use super::bench::Bench;
-use super::in_place::InPlace::{Advance, Edit, Fill, Overwrite, Prepend, Reserve};
+use super::in_place::InPlace;
+use super::in_place::InPlace::{
+    Advance, Edit, Fill, Overwrite, Prepend, Reserve, ShapeAll, Window,
+};
 use super::{SIZES, octets, reg};
 use std::fmt::Debug;
 use std::process::Abort;
-use strm_pool::{BlockInfo, BlockPlace, Call, MsgType, QueuedInfo, Refusal};
+use strm_pool::{BlockInfo, BlockPlace, Call, MsgType, QueuedInfo, Refusal, Shape};
 
 const NO_ROOM: Result<u32, Refusal> = Err(Refusal::NoRoom);
 
@@ -128,6 +131,75 @@ fn changes_what_is_not_shared(rt: HostRuntime) {
     bench.end();
 }
 
+// What a block is to be like.
+const fn shape(at: u32, len: u32, kind: MsgType, band: u8) -> Shape {
+    Shape {
+        at,
+        len,
+        kind,
+        band,
+    }
+}
+
+// The first block of the message has a duplicate, so it keeps its type, and its data block is lent to no one.
+#[test]
+fn shapes_blocks(rt: HostRuntime) {
+    let (a, b) = (reg(&rt, b'a'), reg(&rt, b'b'));
+    let mut bench = Bench::opened(&rt, rt.alloc(), (1, 8), &SIZES);
+    let calls = [
+        Call::Allocb(a, 16),
+        Call::Write(a, 0, octets(&rt, b"head")),
+        Call::Allocb(b, 16),
+        Call::Write(b, 0, octets(&rt, b"tail")),
+        Call::Linkb(a, b),
+        Call::Dupb(a, b),
+    ];
+    bench.done(&rt, &calls, &[Some(0), Some(2)]);
+    bench.assert_numbers(&rt, a, &[0, 1]);
+    let (kept, new) = (MsgType::MData, MsgType::MProto);
+    let whole = shape(0, 16, kept, 0);
+    let refused = [
+        (ShapeAll(&[whole, whole, whole]), NO_SUCH_BLOCK),
+        (ShapeAll(&[shape(0, 17, kept, 0)]), NO_ROOM),
+        (ShapeAll(&[whole, shape(16, 1, kept, 0)]), NO_ROOM),
+        (ShapeAll(&[shape(0, 4, new, 0)]), SHARED),
+        (ShapeAll(&[shape(9, 8, new, 0)]), NO_ROOM),
+        (
+            ShapeAll(&[shape(0, 4, new, 0), shape(9, 8, kept, 0)]),
+            SHARED,
+        ),
+        (ShapeAll(&[]), Ok(0)),
+        (InPlace::Shape(2, 0, 0), NO_SUCH_BLOCK),
+        (InPlace::Shape(0, 17, 0), NO_ROOM),
+        (Window(0, b"x"), SHARED),
+        (Window(2, b""), NO_SUCH_BLOCK),
+    ];
+    bench.change(&rt, a, &refused);
+    bench.assert_blocks(
+        &rt,
+        a,
+        &[(placed(0, 0, 4), b"head"), (placed(1, 0, 4), b"tail")],
+    );
+    let done = [
+        (Window(1, b"T"), Ok(0)),
+        (InPlace::Shape(0, 0, 3), Ok(0)),
+        (
+            ShapeAll(&[shape(1, 3, kept, 2), shape(0, 2, new, 9)]),
+            Ok(0),
+        ),
+    ];
+    bench.change(&rt, a, &done);
+    bench.assert_blocks(
+        &rt,
+        a,
+        &[(placed(0, 1, 3), b"ead"), (placed(1, 0, 2), b"Ta")],
+    );
+    bench.assert_told(&rt, a, 0, (kept, 2));
+    bench.assert_told(&rt, a, 1, (new, 9));
+    bench.assert_told(&rt, b, 0, (kept, 0));
+    bench.end();
+}
+
 #[test]
 fn looks_at_a_queue(rt: HostRuntime) {
     let (a, b) = (reg(&rt, b'a'), reg(&rt, b'b'));
@@ -161,6 +233,10 @@ fn looks_at_a_queue(rt: HostRuntime) {
     assert_is(&rt, pool.queued_at(0, 0), Ok(told));
     assert_is(&rt, pool.queued_at(0, 2), Err(Refusal::NoSuchPlace));
     assert_is(&rt, pool.queued_at(1, 0), Err(Refusal::NoSuchQueue));
+    assert_is(&rt, pool.queued_bytes(1, 1), Ok(&b"more"[..]));
+    assert_is(&rt, pool.queued_bytes(0, 0), Ok(&b"one"[..]));
+    assert_is(&rt, pool.queued_bytes(0, 1), Err(Refusal::NoSuchBlock));
+    assert_is(&rt, pool.queued_bytes(2, 1), Err(Refusal::NoSuchPlace));
     let mut bytes = [b'.'; 6];
     assert_is(&rt, pool.read_queued(0, 0, 3, &mut bytes), Ok(5));
     assert_is(&rt, bytes, *b"emore.");
