@@ -82,7 +82,7 @@ class Answer(NamedTuple):
     stdout: str
     stderr: str
 
-    def __str__(self):
+    def __repr__(self):
         return f"status {self.status}, {self.stdout[-100:]!r}, {self.stderr[-100:]!r}"
 
 
