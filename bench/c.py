@@ -59,13 +59,14 @@ ROUNDS = {
     "read_queued": Round("`strm_read_queued` 64 bytes of the first", 1, "read_queued"),
     "queue_spec": Round("`strm_queue_spec`", 1, "queue_spec"),
 }
-# The way of a packet, by its name in peers/peer.h: its bytes, how it comes in, and how it is looked at and goes out.
+# The way of a packet, by its name in peers/strm.c: its bytes, how it comes in, and how it is looked at and goes out.
 WAYS = {
     "copies_short": ("64", "`strm_write`", "`strm_read`"),
     "in_place_short": ("64", "`strm_write`", "`strm_bytes`"),
     "copies_long": ("1,500", "`strm_write`", "`strm_read`"),
     "in_place_long": ("1,500", "`strm_write`", "`strm_bytes`"),
     "no_copy_long": ("1,500", "`strm_place`, `strm_advance`", "`strm_place`"),
+    "receives_long": ("1,500", "`strm_room`, `strm_advance`", "`strm_iov`"),
 }
 # The ways to take memory, by their names in open.c, and how often each is tried.
 TAKEN = {
@@ -151,7 +152,8 @@ def table(program, pools, rounds):
 def ways(archive, room, rounds):
     """The way of a packet, in markdown."""
     programs = {name: peers.built(name, archive, room) for name in ("plain", "strm")}
-    times, steps = peers.fastest(programs, peers.WAYS, rounds), peers.counted(programs, peers.WAYS)
+    works = {name: peers.Work(" ".join(told)) for name, told in WAYS.items()}
+    times, steps = peers.fastest(programs, works, rounds), peers.counted(programs, works)
     yield "| Bytes | Comes in by | Is looked at, and goes out, by | plain, ns | strm.h, ns | plain, instructions | strm.h |"
     yield "|---|---|---|---|---|---|---|"
     for name, told in WAYS.items():

@@ -384,6 +384,38 @@ int strm_advance(struct strm_pool *pool, struct strm_msg msg, uint32_t place, ui
 	return STRM_OK;
 }
 
+int strm_room(struct strm_pool *pool, struct strm_msg msg, uint32_t place, uint8_t **at, size_t *length)
+{
+	struct checked *of = opened(pool);
+	struct block *block = of != NULL ? named(of, msg) : NULL;
+
+	if (of == NULL || at == NULL || length == NULL || block == NULL)
+		return of == NULL ? STRM_NOT_OPEN : at == NULL || length == NULL ? STRM_BAD_ARGUMENT : STRM_INVALID;
+	block = block_at(block, place);
+	if (block == NULL)
+		return STRM_NO_SUCH_BLOCK;
+	if (block->data->references > 1)
+		return STRM_SHARED;
+	*at = block->data->bytes + block->at + block->length;
+	*length = block->data->of->size - block->at - block->length;
+	return STRM_OK;
+}
+
+int strm_iov(const struct strm_pool *pool, struct strm_msg msg, uint32_t from, struct strm_iov *into, size_t length, size_t *count)
+{
+	struct checked *of = opened(pool);
+	struct block *block = of != NULL ? named(of, msg) : NULL;
+
+	if (of == NULL || into == NULL || count == NULL || block == NULL)
+		return of == NULL ? STRM_NOT_OPEN : into == NULL || count == NULL ? STRM_BAD_ARGUMENT : STRM_INVALID;
+	block = block_at(block, from);
+	for (*count = 0; block != NULL && *count < length; block = block->cont, ++*count) {
+		into[*count].base = block->data->bytes + block->at;
+		into[*count].length = block->length;
+	}
+	return STRM_OK;
+}
+
 /* All bytes of a message, which strm.c pulls up: the new data block comes with a block of its own, which takes the old blocks and is freed. */
 int strm_pullupmsg(struct strm_pool *pool, struct strm_msg msg, int32_t length)
 {

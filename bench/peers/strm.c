@@ -214,7 +214,22 @@ static int copies_nothing(struct room *room, uint32_t size)
 	    && sees(frame_of(&where)) && strm_freemsg(&room->pool, msg) == STRM_OK;
 }
 
+/* The packet is written where its block has room, and goes out from there. */
+static int receives(struct room *room, uint32_t size)
+{
+	struct strm_msg msg;
+	struct strm_iov iov;
+	uint8_t *at;
+	size_t length, count;
+
+	return strm_allocb(&room->pool, size, &msg) == STRM_OK && strm_room(&room->pool, msg, 0, &at, &length) == STRM_OK && length >= size
+	    && strm_advance(&room->pool, msg, 0, size) == STRM_OK && sees(at) && strm_putq(&room->pool, 0, msg) == STRM_OK
+	    && strm_getq(&room->pool, 0, &msg) == STRM_OK && strm_iov(&room->pool, msg, 0, &iov, 1, &count) == STRM_OK && iov.length == size
+	    && sees(iov.base) && strm_freemsg(&room->pool, msg) == STRM_OK;
+}
+
 WAYS
+WAY(receives, LONG, long)
 
 /* ---- in several threads: the lock is held to put messages, and again to take them */
 
@@ -250,6 +265,6 @@ static int shares_several(void *given)
 
 const struct work works[] = {
 	{ "allocb", allocates }, { "dupb", duplicates }, { "queue", queues }, { "copy_short", copies_small }, { "copy_long", copies_large },
-	{ "chain", builds }, { "pullup", pulls_up }, BURSTS_BY_NAME, WAYS_BY_NAME, { "shared_queue", shares_queue },
-	{ "shared_several", shares_several }, { NULL, NULL },
+	{ "chain", builds }, { "pullup", pulls_up }, BURSTS_BY_NAME, WAYS_BY_NAME, { "receives_long", receives_long },
+	{ "shared_queue", shares_queue }, { "shared_several", shares_several }, { NULL, NULL },
 };
