@@ -700,6 +700,13 @@ static void test_writable(void)
 	bytes = NULL;
 	ANSWERS(strm_edit(&pool, a, 0, &bytes, &length), STRM_OK);
 	CHECK(length == 0 && bytes != NULL);
+	/* of the second block */
+	ANSWERS(strm_shape(&pool, a, 0, 0, 0), STRM_OK);
+	ANSWERS(strm_linkb(&pool, a, message(&pool, "wolf")), STRM_OK);
+	ANSWERS(strm_edit(&pool, a, 1, &bytes, &length), STRM_OK);
+	CHECK(length == 4 && memcmp(bytes, "wolf", 4) == 0);
+	ANSWERS(strm_room(&pool, a, 1, &room, &length), STRM_OK);
+	CHECK(length == 12 && room == bytes + 4);
 	ANSWERS(strm_close(&pool), STRM_OK);
 }
 
