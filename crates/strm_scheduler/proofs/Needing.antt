@@ -60,13 +60,12 @@ module _ {M : Type 0} (needs : Needs M) (m : M) (q n : ℕ) (v x : PoolValue) (t
       queued_from is ms = and_then (info_of_message v.arena.store) (if is then ok_or (slice_get ms 0) NoSuchPlace else Err NoSuchQueue)
 
   -- what is free when the message is first on its queue is free once it is taken
-  pub ready : IsMet needs m q v → IsReady needs m q t x
+  pub ready : IsMet needs m q v → IsReady needs m q n t x
   ready is_met =
       let info = info_there v.arena.store taken.message some_blocks in
       let met = is_met info.0 (queued ∙ info.1) in
       record {
         asked = v;
-        next = n;
         taken = taken;
         first = info.0;
         like = (λ i. info_of_message (ap (λ (a : Arena). a.store) taken.arena i) (message_now i)) ∙ info.1;

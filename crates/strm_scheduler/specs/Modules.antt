@@ -54,19 +54,11 @@ pub record IsHeldBack {M : Type 0} (needs : Needs M) (m : M) (q : ℕ) (v : Pool
 abbrev pub AreHeldBack : {M : Type 0} → Needs M → M → PoolValue → Type 0
 AreHeldBack needs m v = All (λ q. IsHeldBack needs m q v true) v.queues.run
 
--- What a run leaves, by what it returns. A queue whose need is never met is the last one on the run list.
-abbrev pub IsEnded : {M : Type 0} → Needs M → M → PoolValue → Ended → Type 0
-IsEnded needs m v Idle = v.queues.run ≡ []
-IsEnded needs m v HeldBack = (0 < length v.queues.run) × AreHeldBack needs m v
-IsEnded needs m v Spent = 0 < length v.queues.run
-IsEnded needs m v (NeverMet q) = IsHeldBack needs m q v false × ((before : List ℕ) × (v.queues.run ≡ before ++ q ∷ []))
-
--- The message of token t was the first one of queue q, and is held. When the module was asked, with pool `asked`, it needed what is
--- free now.
-pub record IsReady {M : Type 0} (needs : Needs M) (m : M) (q : ℕ) (t : TokenValue) (v : PoolValue) : Type 0 where
+-- The message of token t was the first one of queue q, may go on to queue n, and is held. When the module was asked, with pool `asked`,
+-- it needed what is free now.
+pub record IsReady {M : Type 0} (needs : Needs M) (m : M) (q n : ℕ) (t : TokenValue) (v : PoolValue) : Type 0 where
   pub asked : PoolValue
-  pub next : ℕ
-  pub taken : IsTaken q next t asked v
+  pub taken : IsTaken q n t asked v
   pub first : QueuedInfo
   pub like : info_of_message v.arena.store (message_at v.arena t.head) ≡ Ok first
   pub need : Need
@@ -80,7 +72,7 @@ pub record IsTreated {M : Type 0} (needs : Needs M) (treats : Treats M) (q n : �
   pub token : TokenValue
   pub held : PoolValue
   pub taken : IsTaken q n token v held
-  pub ready : IsReady needs m q token held
+  pub ready : IsReady needs m q n token held
   pub steps : List Step
   pub treated : treats m held q n token steps k w
   pub stepped : AreSteps q steps held w
@@ -125,10 +117,10 @@ pub record IsTurned {M : Type 0} (needs : Needs M) (queue : ℕ) (ever : Bool) (
   pub held : IsHeldBack needs k queue w ever
   pub same : k ≡ m
 
--- the first queue of the run list was served if `so` is true; otherwise it was held back
+-- the first queue of the run list was served if `so` is true; otherwise it was held back, and what it needs can become free
 abbrev pub IsTurn : {M : Type 0} → Needs M → Treats M → Bool → M → PoolValue → M → PoolValue → Type 0
 IsTurn needs treats true m v k w = IsFirstTreated needs treats m v k w
-IsTurn needs treats false m v k w = (queue : ℕ) × (ever : Bool) × IsTurned needs queue ever m v k w
+IsTurn needs treats false m v k w = (queue : ℕ) × IsTurned needs queue true m v k w
 
 -- The queues of the run list had their turns, one after another: for each turn, last turn first, whether a queue was served.
 abbrev pub AreTurns : {M : Type 0} → Needs M → Treats M → List Bool → M → PoolValue → M → PoolValue → Type 0
@@ -139,10 +131,26 @@ AreTurns {M} needs treats (so ∷ turns) m v k w = (l : M) × (x : PoolValue) ×
 abbrev pub services_of : List Bool → ℕ
 services_of turns = length (filter (λ so. so) turns)
 
+-- the number of turns since the last service among them
+abbrev pub turns_since : List Bool → ℕ
+turns_since [] = 0
+turns_since (true ∷ turns) = 0
+turns_since (false ∷ turns) = suc (turns_since turns)
+
+-- How a run ended after turns that left the module m and the pool v, by what it returns. If each queue on the run list is held back, each
+-- had one turn since the last service. If a need is never met, the first queue had one more turn, was held back, and is the last one now.
+abbrev pub IsEnded : {M : Type 0} → Needs M → List Bool → M → PoolValue → Ended → M → PoolValue → Type 0
+IsEnded needs turns m v Idle k w = (k ≡ m) × (w ≡ v) × (w.queues.run ≡ [])
+IsEnded needs turns m v HeldBack k w = (k ≡ m) × (w ≡ v) × (0 < length w.queues.run) × AreHeldBack needs k w × (turns_since turns ≡ length w.queues.run)
+IsEnded needs turns m v Spent k w = (k ≡ m) × (w ≡ v) × (0 < length w.queues.run) × (turns_since turns ≡ 0)
+IsEnded needs turns m v (NeverMet q) k w = IsTurned needs q false m v k w
+
 -- What a run did: queues had their turns. With a budget, there were no more services, and as many if it is spent.
 pub record IsRunWith {M : Type 0} (needs : Needs M) (treats : Treats M) (budget : Option ℕ) (m : M) (v : PoolValue) (ended : Ended) (k : M) (w : PoolValue) : Type 0 where
   pub turns : List Bool
-  pub taken : AreTurns needs treats turns m v k w
+  pub module_left : M
+  pub pool_left : PoolValue
+  pub taken : AreTurns needs treats turns m v module_left pool_left
   pub within : IfSome budget (λ most. services_of turns ≤ most)
   pub spent : ended ≡ Spent → budget ≡ Some (services_of turns)
-  pub ends : IsEnded needs k w ended
+  pub ends : IsEnded needs turns module_left pool_left ended k w

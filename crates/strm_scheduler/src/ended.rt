@@ -6,7 +6,7 @@ pub enum Ended {
     /// No queue is enabled.
     Idle,
     /// Each queue that is enabled is held back: what the module needs for its first message is not free. Free blocks, and run
-    /// again.
+    /// again. The run list has the order in which the last service left it.
     HeldBack,
     /// The budget of services is spent, and a queue is enabled.
     Spent,

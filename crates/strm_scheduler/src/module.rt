@@ -24,7 +24,7 @@ pub trait Module {
     /// Says what must be free before the module treats this message, the first one of a queue, or that the module wants it
     /// later. Until then, the message stays on its queue.
     ///
-    /// If the pool has too few blocks for it even with all of them free, the run ends, and reports the queue.
+    /// If the pool has too few blocks for it even with all of them free, the run ends at the queue's turn, and reports the queue.
     fn need(&self, pool: &Pool, queue: u8, first: &QueuedInfo) -> Need
         ensures { needs self.now pool.now queue first.now result };
 
@@ -34,7 +34,7 @@ pub trait Module {
     /// several, [`flush`](crate::flush) and [`enable`](crate::enable), in any order: these are its steps.
     fn treat(&mut self, pool: &mut Pool, queue: u8, next: u8, token: Token)
         requires has { IsTrue (has pool.old.arena token) }
-        requires met { IsReady needs self.old queue token pool.old }
+        requires met { IsReady needs self.old queue next token pool.old }
         requires ahead { IsTrue (has_queue pool.old next) }
         requires apart { queue ≢ next }
         ensures { (steps : List Step) × treats self.old pool.old queue next token steps self.new pool.new

@@ -154,7 +154,7 @@ impl Sides {
     ///
     /// A message is held back while what the module needs for it ([`Module::need`]) is not free. It stays first on its queue,
     /// which stays enabled. Other queues are served meanwhile. If messages are held back at the end (`HeldBack`), free blocks,
-    /// and call `run_with` again. A need that the pool can never meet ends the run at once (`NeverMet`).
+    /// and call `run_with` again. A need that the pool can never meet ends the run when its queue has a turn (`NeverMet`).
     ///
     /// `budget` is the greatest number of services. Without one, the module must pass one message on at most for each that it
     /// gets, and leave the queues unchanged otherwise: so the run ends.

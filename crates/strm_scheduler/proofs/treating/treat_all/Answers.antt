@@ -1,9 +1,9 @@
 -- One more queue was served, or found held back. At the end, each one on the run list is held back, or the budget is spent.
 use Rattle.std.proofs.Common.{◌<◌, ap, arith, false, length, refl, subst, sym, true, [], ◌∷◌, ◌∙◌}
+use Rattle.std.proofs.lemmas.Bool.{false≢true}
 use Rattle.std.specs.Option.{is_some}
-use Rattle.strm_pool.specs.PoolValue.{PoolValue}
 use Rattle.strm_scheduler.specs.Holding.{work_left}
-use Rattle.strm_scheduler.specs.Modules.{IsHeldBack, IsTurned}
+use Rattle.strm_scheduler.specs.Modules.{IsTurned}
 use Rattle.strm_scheduler.proofs.Holding.{IsLeft, last_all, last_more, last_none, left_none, left_served, left_spent, left_within, left_without, none_long, place_past, place_within, served_left, turned_left}
 use Rattle.strm_scheduler.proofs.treating.treat_all.Goals as goal
 
@@ -11,7 +11,8 @@ pub loop-left-init : goal.loop-left-init
 loop-left-init g c = record {
   awake = c.requires.awake;
   last = last_none g.M.Module.needs c.args.handler.now c.args.pool.now;
-  turns = ([], (refl, refl), left_none c.args.budget);
+  turns = ([], (refl, refl), left_none c.args.budget, refl);
+  fresh = λ spent. refl;
 }
 
 pub treat_first-requires : goal.treat_first-requires
@@ -26,12 +27,15 @@ pub returns-then-is_spent-clause-ran : goal.returns-then-is_spent-clause-ran
 returns-then-is_spent-clause-ran g c =
     let before = c.loop-left.invariant in
     let here = place_within c.loop-left.pool.queues.run c.loop-left.count (sym (ap is_some c.run_at.ensures) ∙ sym c.is_some.ensures ∙ c.loop-left-test.true) in
+    let spent = sym c.is_spent.ensures ∙ c.if-is_spent.true in
     record {
       turns = before.turns.0;
+      module_left = c.loop-left.handler;
+      pool_left = c.loop-left.pool;
       taken = before.turns.1;
       within = left_within c.args.budget c.loop-left.left before.turns.0 before.turns.2;
-      spent = λ is. left_spent c.args.budget c.loop-left.left before.turns.0 (sym c.is_spent.ensures ∙ c.if-is_spent.true) before.turns.2;
-      ends = omega (arith, here);
+      spent = λ is. left_spent c.args.budget c.loop-left.left before.turns.0 spent before.turns.2;
+      ends = (refl, refl, omega (arith, here), before.turns.3 ∙ before.fresh spent);
     }
 
 -- ---- a queue was served
@@ -56,7 +60,9 @@ loop-left-preserved-in-None g c =
         (c.loop-left.handler, c.loop-left.pool, before.turns.1, step.treated c.in-None.is),
         subst (λ o. IsLeft c.args.budget o (true ∷ before.turns.0)) (sym c.one_less-left.ensures)
             (left_served c.args.budget c.loop-left.left before.turns.0 (sym c.is_spent.ensures ∙ c.if-is_spent.false) before.turns.2),
+        refl,
       );
+      fresh = λ spent. refl;
     }
 
 -- ---- a queue is held back
@@ -71,17 +77,19 @@ pub loop-left-preserved : goal.loop-left-preserved
 loop-left-preserved g c =
     let before = c.loop-left.invariant in
     let step = c.treat_first.ensures in
+    let turned = subst (λ e. IsTurned g.M.Module.needs c.in-Some.held.queue e c.loop-left.handler c.loop-left.pool c.treat_first.new.handler c.treat_first.new.pool) c.if-held.true c.in-Some.ensures.turned in
     record {
       awake = step.awake;
       last =
           last_more g.M.Module.needs c.loop-left.handler c.treat_first.new.handler c.loop-left.pool c.treat_first.new.pool c.loop-left.count c.in-Some.held.queue
-          (place_within c.loop-left.pool.queues.run c.loop-left.count (sym (ap is_some c.run_at.ensures) ∙ sym c.is_some.ensures ∙ c.loop-left-test.true)) before.last
-          (subst (λ e. IsTurned g.M.Module.needs c.in-Some.held.queue e c.loop-left.handler c.loop-left.pool c.treat_first.new.handler c.treat_first.new.pool) c.if-held.true c.in-Some.ensures.turned);
+          (place_within c.loop-left.pool.queues.run c.loop-left.count (sym (ap is_some c.run_at.ensures) ∙ sym c.is_some.ensures ∙ c.loop-left-test.true)) before.last turned;
       turns = (
         false ∷ before.turns.0,
-        (c.loop-left.handler, c.loop-left.pool, before.turns.1, (c.in-Some.held.queue, c.in-Some.held.ever, c.in-Some.ensures.turned)),
+        (c.loop-left.handler, c.loop-left.pool, before.turns.1, (c.in-Some.held.queue, turned)),
         before.turns.2,
+        omega (arith, before.turns.3),
       );
+      fresh = λ spent. absurd (false≢true (sym (sym c.is_spent.ensures ∙ c.if-is_spent.false) ∙ spent));
     }
 
 -- ---- the need of a queue is never met
@@ -89,17 +97,14 @@ loop-left-preserved g c =
 pub returns-in-Some-2-clause-ran : goal.returns-in-Some-2-clause-ran
 returns-in-Some-2-clause-ran g c =
     let before = c.loop-left.invariant in
-    let turned = c.in-Some.ensures.turned in
-    let q = c.in-Some.held.queue in
     record {
-      turns = false ∷ before.turns.0;
-      taken = (c.loop-left.handler, c.loop-left.pool, before.turns.1, (q, c.in-Some.held.ever, turned));
+      turns = before.turns.0;
+      module_left = c.loop-left.handler;
+      pool_left = c.loop-left.pool;
+      taken = before.turns.1;
       within = left_within c.args.budget c.loop-left.left before.turns.0 before.turns.2;
       spent = λ is. absurd (cc);
-      ends = (
-        subst (λ e. IsHeldBack g.M.Module.needs c.treat_first.new.handler q c.treat_first.new.pool e) c.if-held.false turned.held,
-        (turned.rest, ap (λ (p : PoolValue). p.queues.run) turned.after),
-      );
+      ends = subst (λ e. IsTurned g.M.Module.needs c.in-Some.held.queue e c.loop-left.handler c.loop-left.pool c.treat_first.new.handler c.treat_first.new.pool) c.if-held.false c.in-Some.ensures.turned;
     }
 
 -- ---- all are held back, or there are none
@@ -111,10 +116,12 @@ returns-then-count-gt0-clause-ran g c =
     let all = last_all g.M.Module.needs c.loop-left.handler c.loop-left.pool c.loop-left.count past before.last in
     record {
       turns = before.turns.0;
+      module_left = c.loop-left.handler;
+      pool_left = c.loop-left.pool;
       taken = before.turns.1;
       within = left_within c.args.budget c.loop-left.left before.turns.0 before.turns.2;
       spent = λ is. absurd (cc);
-      ends = (omega (arith, c.if-count-gt0.true, all.1), all.0);
+      ends = (refl, refl, omega (arith, c.if-count-gt0.true, all.1), all.0, before.turns.3 ∙ sym all.1);
     }
 
 pub returns-else-count-gt0-clause-ran : goal.returns-else-count-gt0-clause-ran
@@ -124,8 +131,10 @@ returns-else-count-gt0-clause-ran g c =
     let long = (last_all g.M.Module.needs c.loop-left.handler c.loop-left.pool c.loop-left.count past before.last).1 in
     record {
       turns = before.turns.0;
+      module_left = c.loop-left.handler;
+      pool_left = c.loop-left.pool;
       taken = before.turns.1;
       within = left_within c.args.budget c.loop-left.left before.turns.0 before.turns.2;
       spent = λ is. absurd (cc);
-      ends = none_long c.loop-left.pool.queues.run (omega (arith, long, c.if-count-gt0.false));
+      ends = (refl, refl, none_long c.loop-left.pool.queues.run (omega (arith, long, c.if-count-gt0.false)));
     }

@@ -1,9 +1,9 @@
--- All queues are kept awake. The last queues of the run list are held back. The work or what is left of the budget falls, or one more
--- queue is held back.
-use Rattle.std.proofs.Common.{Bool, List}
-use Rattle.strm_scheduler.specs.Holding.{AreLastHeldBack, work_left}
+-- All queues are kept awake. The last queues of the run list are held back: those that had a turn since the last service. The work or what
+-- is left of the budget falls, or one more queue is held back.
+use Rattle.std.proofs.Common.{◌≡◌, Bool, true, List}
+use Rattle.strm_scheduler.specs.Holding.{AreLastHeldBack, is_spent, work_left}
 use Rattle.strm_scheduler.specs.Laws.{AreKeptAwake}
-use Rattle.strm_scheduler.specs.Modules.{AreTurns}
+use Rattle.strm_scheduler.specs.Modules.{AreTurns, turns_since}
 use Rattle.strm_scheduler.proofs.Holding.{IsLeft}
 use Rattle.strm_scheduler.proofs.treating.treat_all.Given as goal
 
@@ -11,7 +11,8 @@ abbrev pub invariant-loop-left : goal.invariant-loop-left
 invariant-loop-left g l = record {
   awake : AreKeptAwake l.pool;
   last : AreLastHeldBack g.M.Module.needs l.handler l.count l.pool;
-  turns : (turns : List Bool) × AreTurns g.M.Module.needs g.M.Module.treats turns l.initial.handler l.initial.pool l.handler l.pool × IsLeft l.fn.budget l.left turns;
+  turns : (turns : List Bool) × AreTurns g.M.Module.needs g.M.Module.treats turns l.initial.handler l.initial.pool l.handler l.pool × IsLeft l.fn.budget l.left turns × (turns_since turns ≡ l.count);
+  fresh : is_spent l.left ≡ true → l.count ≡ 0;
 }
 
 abbrev pub decreases-loop-left : goal.decreases-loop-left
