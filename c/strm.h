@@ -128,15 +128,17 @@
  *     it, calls that meet often end the program by SIGILL, or they damage the pool unnoticed.
  *     ThreadSanitizer seldom reports them, since the library has no instrumentation. Different
  *     pools may be used at the same time.
- *   - Nothing is written through a pointer that strm_bytes, strm_iov or strm_region returns.
- *     Nothing is read through it from the beginning of the next call with that pool that is no
- *     look; a look leaves it good, and so does strm_room, strm_edit or strm_window. So a thread
- *     that shares the pool holds its lock from before the call until it has read there, without a
- *     gap; a read lock is enough. The pointer is passed to no call with the same pool, such as
- *     strm_write: copy the bytes by strm_read first. A call with another pool may get it.
+ *   - Nothing is written through a pointer that strm_bytes or strm_iov returns. Nothing is read
+ *     through it from the beginning of the next call with that pool that is no look; a look leaves
+ *     it good, and so does strm_room, strm_edit or strm_window. So a thread that shares the pool
+ *     holds its lock from before the call until it has read there, without a gap; a read lock is
+ *     enough. The pointer is passed to no call with the same pool, such as strm_write: copy the
+ *     bytes by strm_read first. A call with another pool may get it.
  *   - The same is true of a pointer that strm_room, strm_edit or strm_window returns, but bytes may
  *     be written there too, as many as the call counted. They are then the bytes that the data
  *     block has. While a thread writes there, it holds the lock as for a call that is no look.
+ *   - Bytes at an address of strm_region are read at any time between calls. They are written there
+ *     only when strm_window would allow it, with the same locks, but without that call.
  *   - No call is made from a signal handler. An interrupt handler makes calls only while no other
  *     call runs.
  *   - Calls use SSE registers. Code that may not, as in most kernels, saves these before a call and
