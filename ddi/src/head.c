@@ -8,9 +8,13 @@
 /* Ticks that an ioctl waits for its reply. */
 enum { PATIENCE = 1500 };
 
-struct strhead {
+/* A pair of queues, with what the layer has of each. */
+struct pair {
 	queue_t q[2];
 	struct strm_ddi_queue own[2];
+};
+struct strhead {
+	struct pair pair;
 	struct streamtab *driver;
 	int error, is_hung_up;
 	uint_t ioctl;			/* the one that waits, or 0 */
@@ -30,9 +34,9 @@ static void set_options(queue_t *q, const struct stroptions *options)
 	if (options->so_flags & SO_LOWAT)
 		strqset(q, QLOWAT, options->so_flags & SO_BAND ? options->so_band : 0, (long)options->so_lowat);
 	if (options->so_flags & SO_MINPSZ)
-		head->q[1].q_minpsz = options->so_minpsz;
+		head->pair.q[1].q_minpsz = options->so_minpsz;
 	if (options->so_flags & SO_MAXPSZ)
-		head->q[1].q_maxpsz = options->so_maxpsz;
+		head->pair.q[1].q_maxpsz = options->so_maxpsz;
 	if (options->so_flags & SO_WROFF)
 		head->headroom = options->so_wroff;
 }
@@ -113,52 +117,53 @@ int str_init(const struct strm_config *config)
 
 int str_fini(void)
 {
+	int reported;
 	ddi_trace_close();
-	ddi_census();
+	reported = ddi_census();
 	ddi_close();
-	return ddi_misuse_count();
+	return reported;
 }
 
-static void set_queue(queue_t *q, struct strm_ddi_queue *own, struct qinit *what, uint_t flag, strhead_t *head, struct streamtab *tab)
+/* Has a pair of queues be those of a module, a driver or a stream head. What they lead to stays. */
+static void set_pair(queue_t *q, struct qinit *read, struct qinit *write, strhead_t *head, struct streamtab *tab)
 {
-	const struct module_info *info = what->qi_minfo;
-	*q = (queue_t){ .q_qinfo = what, .q_flag = flag, .q_layer = own, .q_minpsz = info->mi_minpsz, .q_maxpsz = info->mi_maxpsz,
-		.q_hiwat = info->mi_hiwat > 0 ? info->mi_hiwat : 1, .q_lowat = info->mi_lowat };
-	if (q->q_lowat >= q->q_hiwat)
-		q->q_lowat = q->q_hiwat - 1;
-	*own = (struct strm_ddi_queue){ .head = head, .tab = tab, .number = -1,
-		.marks = { (uint32_t)q->q_hiwat, (uint32_t)q->q_lowat } };
+	for (int side = 0; side < 2; side++) {
+		struct strm_ddi_queue *own = &((struct pair *)q)->own[side];
+		struct qinit *what = side ? write : read;
+		const struct module_info *info = what->qi_minfo;
+		*own = (struct strm_ddi_queue){ .head = head, .tab = tab, .marks = ddi_marks(info->mi_hiwat, info->mi_lowat) };
+		q[side] = (queue_t){ .q_qinfo = what, .q_next = q[side].q_next, .q_flag = side ? 0 : QREADR, .q_minpsz = info->mi_minpsz,
+			.q_maxpsz = info->mi_maxpsz, .q_hiwat = own->marks.hiwat, .q_lowat = own->marks.lowat, .q_layer = own };
+	}
+	ddi_trace_queues(q);
+}
+
+static void connect_pairs(queue_t *above, queue_t *below)
+{
+	above[1].q_next = below;
+	if (below)
+		OTHERQ(below)->q_next = above;
 }
 
 static void take_out(strhead_t *head, queue_t *q)
 {
-	queue_t *below = q[1].q_next;
 	ddi_trace_close();
-	head->q[1].q_next = below;
-	if (below)
-		OTHERQ(below)->q_next = &head->q[0];
-	for (int side = 0; side < 2; side++)
-		ddi_forget(&q[side]);
-	free(q[0].q_layer);
+	connect_pairs(head->pair.q, q[1].q_next);
+	ddi_forget(&q[0]);
+	ddi_forget(&q[1]);
 	free(q);
 }
 
 /* Puts a pair of queues below the head, and opens it. */
 static int put_in(strhead_t *head, struct streamtab *tab, dev_t device, int flag, int sflag)
 {
-	queue_t *q = malloc(2 * sizeof *q), *below = head->q[1].q_next;
-	struct strm_ddi_queue *own = malloc(2 * sizeof *own);
+	queue_t *q = calloc(1, sizeof(struct pair));
 	struct frame frame;
 	int error = 0;
 	AT_HEAD();
-	set_queue(&q[0], &own[0], tab->st_rdinit, QREADR, head, tab);
-	set_queue(&q[1], &own[1], tab->st_wrinit, 0, head, tab);
-	q[0].q_next = &head->q[0];
-	q[1].q_next = below;
-	head->q[1].q_next = &q[1];
-	if (below)
-		OTHERQ(below)->q_next = &q[0];
-	ddi_trace_queues(q);
+	set_pair(q, tab->st_rdinit, tab->st_wrinit, head, tab);
+	connect_pairs(q, head->pair.q[1].q_next);
+	connect_pairs(head->pair.q, &q[1]);
 	ddi_enter(&frame, q, "open");
 	if (tab->st_rdinit->qi_qopen)
 		error = tab->st_rdinit->qi_qopen(q, &device, flag, sflag, NULL);
@@ -173,9 +178,7 @@ int str_open(struct streamtab *driver, dev_t device, int flag, strhead_t **head)
 	strhead_t *new = *head = calloc(1, sizeof **head);
 	int error;
 	new->driver = driver;
-	set_queue(&new->q[0], &new->own[0], &head_rinit, QREADR, new, NULL);
-	set_queue(&new->q[1], &new->own[1], &head_winit, 0, new, NULL);
-	ddi_trace_queues(new->q);
+	set_pair(new->pair.q, &head_rinit, &head_winit, new, NULL);
 	if ((error = put_in(new, driver, device, 0, flag)) != 0)
 		free(new);
 	return error;
@@ -186,9 +189,10 @@ int str_push(strhead_t *head, struct streamtab *module)
 	return head->is_hung_up ? ENXIO : put_in(head, module, 0, 0, MODOPEN);
 }
 
+/* Closes the module or driver below the head. */
 static void remove_top(strhead_t *head)
 {
-	queue_t *q = head->q[1].q_next - 1;
+	queue_t *q = RD(head->pair.q[1].q_next);
 	void *private = q->q_ptr;
 	struct frame frame;
 	str_run();
@@ -205,7 +209,7 @@ static void remove_top(strhead_t *head)
 
 int str_pop(strhead_t *head)
 {
-	if (!head->q[1].q_next->q_next)
+	if (!head->pair.q[1].q_next->q_next)
 		return EINVAL;
 	remove_top(head);
 	return 0;
@@ -213,17 +217,17 @@ int str_pop(strhead_t *head)
 
 int str_close(strhead_t *head)
 {
-	while (head->q[1].q_next)
+	while (head->pair.q[1].q_next)
 		remove_top(head);
-	ddi_forget(&head->q[0]);
-	ddi_forget(&head->q[1]);
+	ddi_forget(&head->pair.q[0]);
+	ddi_forget(&head->pair.q[1]);
 	free(head);
 	return 0;
 }
 
 queue_t *str_queue(strhead_t *head, int place)
 {
-	queue_t *q = &head->q[1];
+	queue_t *q = &head->pair.q[1];
 	while (place-- > 0 && q)
 		q = q->q_next;
 	return q ? RD(q) : NULL;
@@ -236,7 +240,7 @@ static mblk_t *message(int type, const void *bytes, size_t length, size_t headro
 {
 	mblk_t *first = NULL, **last = &first;
 	do {
-		size_t part = length < STRM_MOST_DATA_BYTES - headroom ? length : STRM_MOST_DATA_BYTES - headroom;
+		size_t part = ddi_least(length, STRM_MOST_DATA_BYTES - headroom);
 		if ((*last = allocb(part + headroom, BPRI_MED)) == NULL) {
 			freemsg(first);
 			return NULL;
@@ -254,50 +258,16 @@ static mblk_t *message(int type, const void *bytes, size_t length, size_t headro
 	return first;
 }
 
-/* Copies bytes of a message, and returns their number. */
-static size_t copy_out(const mblk_t *mp, void *into, size_t room)
-{
-	size_t count = 0;
-	for (; mp; mp = mp->b_cont) {
-		size_t part = (size_t)MBLKL(mp) < room - count ? (size_t)MBLKL(mp) : room - count;
-		if (part > 0)
-			memcpy((char *)into + count, mp->b_rptr, part);
-		count += part;
-	}
-	return count;
-}
-
 static int may_send(strhead_t *head, uchar_t band)
 {
 	AT_HEAD();
 	if (head->error || head->is_hung_up)
 		return head->error ? head->error : ENXIO;
-	if (bcanputnext(&head->q[1], band))
+	if (bcanputnext(&head->pair.q[1], band))
 		return 0;
 	str_run();
 	AT_HEAD();
-	return bcanputnext(&head->q[1], band) ? 0 : EAGAIN;
-}
-
-int str_write(strhead_t *head, const void *bytes, size_t length)
-{
-	const queue_t *below = head->q[1].q_next;
-	size_t most = below->q_maxpsz == INFPSZ ? length : (size_t)below->q_maxpsz;
-	int error = 0;
-	mblk_t *mp;
-	if ((ssize_t)length < below->q_minpsz || (length > most && (below->q_minpsz > 0 || most == 0)))
-		return ERANGE;
-	do {
-		size_t part = length < most ? length : most;
-		if ((error = may_send(head, 0)) != 0)
-			return error;
-		if ((mp = message(M_DATA, bytes, part, head->headroom)) == NULL)
-			return ENOSR;
-		putnext(&head->q[1], mp);
-		bytes = (const char *)bytes + part;
-		length -= part;
-	} while (length > 0);
-	return 0;
+	return bcanputnext(&head->pair.q[1], band) ? 0 : EAGAIN;
 }
 
 int str_putmsg(strhead_t *head, const void *control, size_t control_length, const void *bytes, size_t length, int type, int band)
@@ -307,7 +277,7 @@ int str_putmsg(strhead_t *head, const void *control, size_t control_length, cons
 	AT_HEAD();
 	if (error)
 		return error;
-	if (bytes && (data = message(M_DATA, bytes, length, control ? 0 : head->headroom)) == NULL)
+	if ((bytes || !control) && (data = message(M_DATA, bytes, length, control ? 0 : head->headroom)) == NULL)
 		return ENOSR;
 	if ((mp = control ? message(type, control, control_length, 0) : data) == NULL) {
 		freemsg(data);
@@ -316,16 +286,32 @@ int str_putmsg(strhead_t *head, const void *control, size_t control_length, cons
 	if (control && data)
 		linkb(mp, data);
 	mp->b_band = (uchar_t)band;
-	putnext(&head->q[1], mp);
+	putnext(&head->pair.q[1], mp);
 	return 0;
+}
+
+int str_write(strhead_t *head, const void *bytes, size_t length)
+{
+	const queue_t *below = head->pair.q[1].q_next;
+	size_t most = below->q_maxpsz == INFPSZ ? length : (size_t)below->q_maxpsz, part;
+	int error;
+	if ((ssize_t)length < below->q_minpsz || (length > most && (below->q_minpsz > 0 || most == 0)))
+		return ERANGE;
+	do {
+		part = ddi_least(length, most);
+		error = str_putmsg(head, NULL, 0, bytes, part, M_DATA, 0);
+		bytes = (const char *)bytes + part;
+		length -= part;
+	} while (!error && length > 0);
+	return error;
 }
 
 mblk_t *str_getmsg(strhead_t *head)
 {
 	AT_HEAD();
-	if (!head->q[0].q_first)
+	if (!head->pair.q[0].q_first)
 		str_run();
-	return getq(&head->q[0]);
+	return getq(&head->pair.q[0]);
 }
 
 int str_read(strhead_t *head, void *into, size_t length, size_t *count)
@@ -336,10 +322,10 @@ int str_read(strhead_t *head, void *into, size_t length, size_t *count)
 	if (!mp)
 		return head->error ? head->error : head->is_hung_up ? 0 : EAGAIN;
 	if (mp->b_datap->db_type != M_DATA) {
-		putbq(&head->q[0], mp);
+		putbq(&head->pair.q[0], mp);
 		return EBADMSG;
 	}
-	left = *count = copy_out(mp, into, length);
+	left = *count = ddi_copy_out(mp, into, length);
 	while (mp && left >= (size_t)MBLKL(mp)) {
 		left -= (size_t)MBLKL(mp);
 		rest = mp->b_cont;
@@ -348,7 +334,7 @@ int str_read(strhead_t *head, void *into, size_t length, size_t *count)
 	}
 	if (mp) {
 		mp->b_rptr += left;
-		putbq(&head->q[0], mp);
+		putbq(&head->pair.q[0], mp);
 	}
 	return 0;
 }
@@ -359,7 +345,7 @@ int str_read(strhead_t *head, void *into, size_t length, size_t *count)
 static mblk_t *asked(strhead_t *head, mblk_t *mp)
 {
 	mblk_t *reply;
-	putnext(&head->q[1], mp);
+	putnext(&head->pair.q[1], mp);
 	for (int ticks = 0; !head->reply && ticks <= PATIENCE; ticks++)
 		if (str_run() == 0)
 			str_wait(1);
@@ -369,73 +355,67 @@ static mblk_t *asked(strhead_t *head, mblk_t *mp)
 	return reply;
 }
 
-static int begin_ioctl(strhead_t *head, int command, const void *bytes, size_t length, mblk_t **mp)
+/* Answers an M_COPYIN or M_COPYOUT from memory, by an M_IOCDATA. */
+static void answer_copy(mblk_t *mp)
+{
+	const struct copyreq request = *(struct copyreq *)mp->b_rptr;
+	struct copyresp response = { .cp_cmd = request.cq_cmd, .cp_id = request.cq_id, .cp_private = request.cq_private };
+	mblk_t *data = mp->b_datap->db_type == M_COPYIN ? message(M_DATA, request.cq_addr, request.cq_size, 0) : NULL;
+	if (mp->b_datap->db_type == M_COPYOUT)
+		ddi_copy_out(mp->b_cont, request.cq_addr, request.cq_size);
+	else if (!data)
+		response.cp_rval = (char *)1;
+	freemsg(unlinkb(mp));
+	mp->b_cont = data;
+	mp->b_datap->db_type = M_IOCDATA;
+	memcpy(mp->b_rptr, &response, sizeof response);
+	mp->b_wptr = mp->b_rptr + sizeof response;
+}
+
+/* Makes an ioctl with bytes, and copies those of its reply. If `count` is TRANSPARENT, M_COPYIN and M_COPYOUT are answered before that. */
+static int do_ioctl(strhead_t *head, int command, const void *bytes, size_t length, uint_t count, void *reply, size_t *came, size_t room, int *value)
 {
 	static uint_t last;
 	union { struct iocblk ioctl; struct copyreq request; struct copyresp response; } first;
+	int error;
+	mblk_t *mp;
 	AT_HEAD();
 	memset(&first, 0, sizeof first);
 	first.ioctl.ioc_cmd = command;
 	first.ioctl.ioc_id = head->ioctl = ++last;
-	first.ioctl.ioc_count = length;
-	if ((*mp = message(M_IOCTL, &first, sizeof first, 0)) == NULL)
+	first.ioctl.ioc_count = count;
+	if ((mp = message(M_IOCTL, &first, sizeof first, 0)) == NULL)
 		return ENOSR;
-	if (length > 0 && ((*mp)->b_cont = message(M_DATA, bytes, length, 0)) == NULL) {
-		freemsg(*mp);
+	if (length > 0 && (mp->b_cont = message(M_DATA, bytes, length, 0)) == NULL) {
+		freemsg(mp);
 		return ENOSR;
 	}
-	return 0;
-}
-
-/* What an M_IOCACK or M_IOCNAK says. */
-static int ended(strhead_t *head, mblk_t *mp, void *bytes, size_t *length, size_t room, int *value)
-{
-	const struct iocblk *ioctl;
-	int error;
+	while ((mp = asked(head, mp)) != NULL && count == TRANSPARENT && (DB_TYPE(mp) == M_COPYIN || DB_TYPE(mp) == M_COPYOUT))
+		answer_copy(mp);
 	head->ioctl = 0;
-	if (length)
-		*length = 0;
+	if (came)
+		*came = 0;
 	if (!mp)
 		return ETIME;
-	ioctl = (const struct iocblk *)mp->b_rptr;
-	error = ioctl->ioc_error ? ioctl->ioc_error : mp->b_datap->db_type == M_IOCACK ? 0 : EINVAL;
+	first.ioctl = *(struct iocblk *)mp->b_rptr;
+	error = first.ioctl.ioc_error ? first.ioctl.ioc_error : DB_TYPE(mp) == M_IOCACK ? 0 : EINVAL;
 	if (value)
-		*value = ioctl->ioc_rval;
-	if (!error && length)
-		*length = copy_out(mp->b_cont, bytes, room);
+		*value = first.ioctl.ioc_rval;
+	if (!error && came)
+		*came = ddi_copy_out(mp->b_cont, reply, room);
 	freemsg(mp);
 	return error;
 }
 
 int str_ioctl(strhead_t *head, int command, void *bytes, size_t *length, size_t room, int *value)
 {
-	mblk_t *mp;
-	int error = begin_ioctl(head, command, bytes, length ? *length : 0, &mp);
-	return error ? error : ended(head, asked(head, mp), bytes, length, room, value);
+	size_t count = length ? *length : 0;
+	return do_ioctl(head, command, bytes, count, (uint_t)count, bytes, length, room, value);
 }
 
 int str_ioctl_transparent(strhead_t *head, int command, void *argument, int *value)
 {
-	mblk_t *mp, *data;
-	int error = begin_ioctl(head, command, &argument, sizeof argument, &mp);
-	if (error)
-		return error;
-	((struct iocblk *)mp->b_rptr)->ioc_count = TRANSPARENT;
-	while ((mp = asked(head, mp)) != NULL && (mp->b_datap->db_type == M_COPYIN || mp->b_datap->db_type == M_COPYOUT)) {
-		const struct copyreq request = *(struct copyreq *)mp->b_rptr;
-		struct copyresp response = { .cp_cmd = request.cq_cmd, .cp_id = request.cq_id, .cp_private = request.cq_private };
-		data = mp->b_datap->db_type == M_COPYIN ? message(M_DATA, request.cq_addr, request.cq_size, 0) : NULL;
-		if (mp->b_datap->db_type == M_COPYOUT)
-			copy_out(mp->b_cont, request.cq_addr, request.cq_size);
-		else if (!data)
-			response.cp_rval = (char *)1;
-		freemsg(unlinkb(mp));
-		mp->b_cont = data;
-		mp->b_datap->db_type = M_IOCDATA;
-		memcpy(mp->b_rptr, &response, sizeof response);
-		mp->b_wptr = mp->b_rptr + sizeof response;
-	}
-	return ended(head, mp, NULL, NULL, 0, value);
+	return do_ioctl(head, command, &argument, sizeof argument, TRANSPARENT, NULL, NULL, 0, value);
 }
 
 /* ---- links */
@@ -443,18 +423,14 @@ int str_ioctl_transparent(strhead_t *head, int command, void *argument, int *val
 /* Has the queues of a stream head be those of a multiplexing driver, or the head's own again. */
 static void set_lower(strhead_t *lower, struct qinit *read, struct qinit *write, struct streamtab *tab)
 {
-	queue_t *below = lower->q[1].q_next;
-	for (int side = 0; side < 2; side++) {
-		ddi_forget(&lower->q[side]);
-		set_queue(&lower->q[side], &lower->own[side], side ? write : read, side ? 0 : QREADR, lower, tab);
-	}
-	lower->q[1].q_next = below;
-	ddi_trace_queues(lower->q);
+	ddi_forget(&lower->pair.q[0]);
+	ddi_forget(&lower->pair.q[1]);
+	set_pair(lower->pair.q, read, write, lower, tab);
 }
 
 static int change_link(strhead_t *upper, strhead_t *lower, int command)
 {
-	struct linkblk block = { .l_qtop = &upper->q[1], .l_qbot = &lower->q[1], .l_index = 1 };
+	struct linkblk block = { .l_qtop = &upper->pair.q[1], .l_qbot = &lower->pair.q[1], .l_index = 1 };
 	size_t length = sizeof block;
 	while (block.l_qtop->q_next)
 		block.l_qtop = block.l_qtop->q_next;

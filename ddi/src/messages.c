@@ -1,6 +1,5 @@
-/* For testing modules in user space; tested, not proved. Messages, whose blocks and bytes are those of pools of strm.h.
- *
- * strm.h lets bytes be written between strm_window and the next call. A module writes when it likes, at addresses that stay. */
+/* For testing modules in user space; tested, not proved. Messages, whose blocks and bytes are those of pools of strm.h. A module writes at addresses
+ * of strm_region, as the rule there allows, unless it writes to data that is shared or on a queue: that is wrong in a kernel too. */
 #include "ddi.h"
 
 #ifdef __SANITIZE_ADDRESS__
@@ -21,17 +20,19 @@ static const struct strm_class_spec usual[] = { { 64, 512 }, { 256, 512 }, { 102
 static size_t most_blocks, free_count;
 static struct block *free_first, *free_last;
 
-#define TYPE(type) [type] = STRM_##type + 1
-static const uint8_t to_pool[256] = {
+/* What each type of a message is called, and one more than its number in strm.h, or 0 where that lacks it. */
+#define TYPE(type) [type] = { #type, STRM_##type + 1 }
+#define OTHER(type) [type] = { #type, 0 }
+static const struct type { const char *name; uint32_t number; } types[256] = {
 	TYPE(M_DATA), TYPE(M_PROTO), TYPE(M_BREAK), TYPE(M_PASSFP), TYPE(M_SIG), TYPE(M_DELAY), TYPE(M_CTL), TYPE(M_IOCTL), TYPE(M_SETOPTS),
 	TYPE(M_IOCACK), TYPE(M_IOCNAK), TYPE(M_PCPROTO), TYPE(M_PCSIG), TYPE(M_READ), TYPE(M_FLUSH), TYPE(M_STOP), TYPE(M_START),
-	TYPE(M_HANGUP), TYPE(M_ERROR), TYPE(M_COPYIN), TYPE(M_COPYOUT), TYPE(M_IOCDATA)
+	TYPE(M_HANGUP), TYPE(M_ERROR), TYPE(M_COPYIN), TYPE(M_COPYOUT), TYPE(M_IOCDATA), OTHER(M_EVENT), OTHER(M_RSE), OTHER(M_PCRSE),
+	OTHER(M_STOPI), OTHER(M_STARTI), OTHER(M_PCEVENT), OTHER(M_UNHANGUP), OTHER(M_CMD)
 };
 
-/* The type in the pool of one that strm.h does not have: none of these has data. */
-static uint8_t pool_type(int type)
+const char *ddi_type_name(int type)
 {
-	return to_pool[type] ? to_pool[type] - 1 : type >= QPCTL ? STRM_M_PCSIG : STRM_M_CTL;
+	return types[type & 255].name ? types[type & 255].name : "a type without a name";
 }
 
 /* ---- pools */
@@ -41,7 +42,7 @@ int ddi_open_pool(void)
 	struct strm_queue_spec queues[STRM_MOST_QUEUES];
 	struct pool *pool = &ddi_pools[ddi_pool_count];
 	const uint8_t *base;
-	size_t size, stride, count = 0;
+	size_t size, stride;
 	struct data *d;
 	for (int k = 0; k < STRM_MOST_QUEUES; k++)
 		queues[k] = (struct strm_queue_spec){ .hiwat = 1, .service = 1, .next = STRM_NO_QUEUE };
@@ -50,13 +51,12 @@ int ddi_open_pool(void)
 	if (ddi_pool_count == MOST_POOLS || strm_open(&pool->pool, &ddi_config) != STRM_OK)
 		return -1;
 	for (size_t c = 0; c < ddi_config.class_count; c++)
-		count += classes[c].count;
-	d = pool->data = calloc(pool->data_count = count, sizeof *d);
+		pool->data_count += classes[c].count;
+	d = pool->data = calloc(pool->data_count, sizeof *d);
 	pool->of = calloc(ddi_config.mblks, sizeof *pool->of);
 	for (uint32_t c = 0; strm_region(&pool->pool, c, &base, &size, &stride) == STRM_OK; c++)
-		for (size_t at = 0; at < size; at += stride, d++)
-			*d = (struct data){ .base = (uchar_t *)(uintptr_t)base + at, .size = (uint32_t)stride, .pool = (uint8_t)ddi_pool_count,
-				.number = (uint32_t)(d - pool->data) };
+		for (size_t at = 0; at < size; at += stride)
+			*d++ = (struct data){ .base = (uchar_t *)(uintptr_t)base + at, .size = (uint32_t)stride };
 	return ddi_pool_count++;
 }
 
@@ -70,9 +70,7 @@ int ddi_open(const struct strm_config *given)
 		return -1;
 	memcpy(classes, ddi_config.classes, ddi_config.class_count * sizeof *classes);
 	ddi_config.classes = classes;
-	ddi_pool_count = 0;
 	ddi_block_count = free_count = 0;
-	free_first = free_last = NULL;
 	most_blocks = (size_t)ddi_config.mblks * MOST_POOLS + QUARANTINE;
 	ddi_blocks = calloc(most_blocks, sizeof *ddi_blocks);
 	return ddi_open_pool();
@@ -83,12 +81,13 @@ void ddi_close(void)
 	ASAN_UNPOISON_MEMORY_REGION(ddi_blocks, most_blocks * sizeof *ddi_blocks);
 	for (struct pool *pool = ddi_pools; pool < ddi_pools + ddi_pool_count; pool++) {
 		strm_close(&pool->pool);
+		for (size_t k = 0; k < pool->data_count; k++)
+			free(pool->data[k].told);
 		free(pool->of);
 		free(pool->data);
-		memset(pool, 0, sizeof *pool);
 	}
+	memset(ddi_pools, 0, sizeof ddi_pools);
 	free(ddi_blocks);
-	ddi_blocks = NULL;
 	ddi_pool_count = 0;
 }
 
@@ -107,34 +106,40 @@ static struct block *take_block(void)
 }
 
 /* The data block of a new message, as it is after allocb. */
-static struct data *new_data(int pool, struct strm_msg name, uint8_t type)
+static struct data *new_data(struct strm_msg name, uint8_t type)
 {
+	struct pool *pool = &ddi_pools[name.pool - 1];
 	struct strm_block_place where;
 	struct data *d;
-	strm_place(&ddi_pools[pool].pool, name, 0, &where);
-	d = &ddi_pools[pool].data[where.data];
+	strm_place(&pool->pool, name, 0, &where);
+	d = &pool->data[where.data];
 	d->d = (dblk_t){ .db_base = d->base, .db_lim = d->base + d->size, .db_ref = 1, .db_type = type };
 	d->references = 1;
-	d->type = pool_type(type);
 	return d;
 }
 
-/* A new message block over a data block, with the places and the band of `like`, if that is not null. */
-static struct block *new_block(int pool, struct strm_msg name, struct data *d, const struct block *like, const char *routine)
+static struct given given_of(const struct block *b)
+{
+	return (struct given){ b->m.b_rptr, b->m.b_wptr, b->data->d.db_type, b->m.b_band };
+}
+
+/* A new message block over a data block, with the places and the band of `like`, or without bytes if that is null. */
+static struct block *new_block(struct strm_msg name, struct data *d, const struct block *like, const char *routine)
 {
 	struct block *b = take_block();
+	b->m = (mblk_t){ .b_rptr = d->d.db_base, .b_wptr = d->d.db_base, .b_datap = &d->d };
+	if (like) {
+		b->m.b_rptr += MBLKHEAD(&like->m);
+		b->m.b_wptr = b->m.b_rptr + MBLKL(&like->m);
+		b->m.b_band = like->m.b_band;
+	}
 	b->data = d;
+	b->given = given_of(b);
 	b->name = name;
-	b->at = like ? like->at : 0;
-	b->length = like ? like->length : 0;
-	b->band = like ? like->band : 0;
-	b->m = (mblk_t){ .b_rptr = d->d.db_base + b->at, .b_wptr = d->d.db_base + b->at + b->length, .b_datap = &d->d, .b_band = b->band };
-	b->pool = (uint8_t)pool;
 	b->where = HELD;
-	b->owner = ddi_frame && ddi_frame->q ? ddi_frame->q->q_qinfo->qi_minfo : NULL;
+	b->owner = ddi_frame->as.module;
 	b->event_count = 0;
-	b->queue = NULL;
-	ddi_pools[pool].of[name.head] = b;
+	ddi_pool_of(b)->of[name.head] = b;
 	ddi_note(b, routine);
 	return b;
 }
@@ -148,7 +153,7 @@ static void end_reference(struct data *d)
 }
 
 /* A block is freed in the pool. No address is left in it, so a module that follows a pointer there faults. */
-void ddi_end_block(struct block *b)
+static void end_block(struct block *b)
 {
 	b->where = FREE;
 	memset(&b->m, 0xA5, sizeof b->m);
@@ -159,11 +164,18 @@ void ddi_end_block(struct block *b)
 	end_reference(b->data);
 }
 
+void ddi_free(struct block *b)
+{
+	if (strm_freemsg(&ddi_pool_of(b)->pool, b->name) == STRM_OK)
+		end_block(b);
+}
+
 struct block *ddi_held(mblk_t *mp, const char *routine)
 {
 	size_t at = (size_t)((uintptr_t)mp - (uintptr_t)ddi_blocks);
 	struct block *b = (struct block *)mp;
-	const struct module_info *own = ddi_frame && ddi_frame->q ? ddi_frame->q->q_qinfo->qi_minfo : NULL;
+	const struct module_info *own = ddi_frame->as.module;
+	BEGIN_CALL();
 	if (at >= ddi_block_count * sizeof *b || at % sizeof *b != 0)
 		ddi_misuse(routine, NULL, "%p is no message block", (void *)mp);
 	else if (b->where == FREE)
@@ -183,111 +195,129 @@ struct block *ddi_held(mblk_t *mp, const char *routine)
 	return NULL;
 }
 
-/* Has the messages's blocks belong to the module of a queue. */
-void ddi_own(mblk_t *mp, const queue_t *q)
+static int is_given(const struct block *b)
 {
-	for (; mp; mp = mp->b_cont)
-		((struct block *)mp)->owner = q ? q->q_qinfo->qi_minfo : NULL;
+	return b->given.read == b->m.b_rptr && b->given.write == b->m.b_wptr && b->given.type == b->data->d.db_type && b->given.band == b->m.b_band;
 }
 
-/* Gives the pool what the module changed of the first `count` blocks of a message: places, types, and the band of the first. strm_shape_all is to be
- * this one call. Returns 0 if one is misused. */
+/* The shape of a block as the pool takes it. A type that strm.h lacks is one there that has no data. */
+static struct strm_block_shape shape_of(const struct block *b)
+{
+	uint32_t number = types[b->given.type].number;
+	return (struct strm_block_shape){ (uint32_t)MBLKHEAD(&b->m), (uint32_t)MBLKL(&b->m),
+		number > 0 ? number - 1 : b->given.type >= QPCTL ? STRM_M_PCSIG : STRM_M_CTL, b->given.band };
+}
+
+/* Whether the pool can take what a module changed of a block. */
+static int is_right(const struct block *b, const char *routine)
+{
+	const mblk_t *mp = &b->m;
+	if (MBLKHEAD(mp) < 0 || MBLKL(mp) < 0 || MBLKTAIL(mp) < 0)
+		ddi_misuse(routine, b, "b_rptr is %td, b_wptr is %td, and the data block has %td bytes", MBLKHEAD(mp), mp->b_wptr - DB_BASE(mp),
+			MBLKSIZE(mp));
+	else if (DB_TYPE(mp) != b->given.type && b->data->references > 1)
+		ddi_misuse(routine, b, "db_type was changed to %s, and %d message blocks refer to the data block", ddi_type_name(DB_TYPE(mp)),
+			b->data->references);
+	else
+		return 1;
+	return 0;
+}
+
+/* Gives the pool what a module changed of the first `count` blocks of a message. Returns 0 if one is misused. */
 static int give(struct block *first, uint32_t count, const char *routine)
 {
-	struct strm_pool *pool = &ddi_pools[first->pool].pool;
+	static struct strm_block_shape shapes[STRM_MOST_MBLKS];
 	struct block *b = first;
-	for (uint32_t place = 0; place < count; place++, b = (struct block *)b->m.b_cont) {
-		struct data *d = b->data;
-		ptrdiff_t at = b->m.b_rptr - d->d.db_base, length = b->m.b_wptr - b->m.b_rptr;
-		uint8_t type = pool_type(d->d.db_type);
-		if (at < 0 || length < 0 || b->m.b_wptr > d->d.db_lim) {
-			ddi_misuse(routine, b, "b_rptr is %td, b_wptr is %td, and the data block has %td bytes", at, at + length, MBLKSIZE(&b->m));
-			return 0;
+	uint32_t right, changed = 0;
+	first->size = 0;
+	for (right = 0; right < count; right++, b = (struct block *)b->m.b_cont) {
+		if (!is_given(b)) {
+			if (!is_right(b, routine))
+				break;
+			b->given = given_of(b);
+			changed = right + 1;
 		}
-		if (at != b->at || length != b->length)
-			strm_shape(pool, first->name, place, b->at = (uint32_t)at, b->length = (uint32_t)length);
-		if (type != d->type && strm_settype(pool, first->name, place, d->type = type) != STRM_OK) {
-			ddi_misuse(routine, b, "db_type was changed to %s, and %d message blocks refer to the data block", ddi_type_name(d->d.db_type),
-				d->references);
-			return 0;
-		}
+		first->size += (uint32_t)MBLKL(&b->m);
 	}
-	if (first->m.b_band != first->band)
-		strm_setband(pool, first->name, first->band = first->m.b_band);
-	return 1;
+	b = first;
+	for (uint32_t k = 0; k < changed; k++, b = (struct block *)b->m.b_cont)
+		shapes[k] = shape_of(b);
+	if (changed > 0)
+		strm_shape_all(&ddi_pool_of(first)->pool, first->name, shapes, changed);
+	return right == count;
 }
 
 /* Moves a block to another pool, with all bytes of its data block. The old data block loses a reference. */
-static void cross(struct block *b, int pool)
+static void cross(struct block *b, struct pool *pool)
 {
-	struct data *from = b->data, *to;
+	struct data *from = b->data;
 	ptrdiff_t at = MBLKHEAD(&b->m), length = MBLKL(&b->m);
-	strm_shape(&ddi_pools[b->pool].pool, b->name, 0, b->at = 0, b->length = from->size);
-	if (strm_transfer(&ddi_pools[b->pool].pool, &ddi_pools[pool].pool, b->name, &b->name) != STRM_OK) {
+	struct strm_block_shape whole = shape_of(b);
+	whole.at = 0;
+	whole.length = from->size;
+	strm_shape_all(&ddi_pool_of(b)->pool, b->name, &whole, 1);
+	if (strm_transfer(&ddi_pool_of(b)->pool, &pool->pool, b->name, &b->name) != STRM_OK) {
 		fprintf(stderr, "strm_ddi: the pool of the queue has no block left for the message: give str_init more\n");
 		abort();
 	}
-	to = b->data = new_data(pool, b->name, from->d.db_type);
+	b->data = new_data(b->name, from->d.db_type);
 	if (from->d.db_base != from->base)
-		memcpy(to->base, from->d.db_base, (size_t)(from->d.db_lim - from->d.db_base));
-	b->m.b_datap = &to->d;
-	b->m.b_rptr = to->base + at;
+		memcpy(b->data->base, from->d.db_base, (size_t)(from->d.db_lim - from->d.db_base));
+	b->m.b_datap = &b->data->d;
+	b->m.b_rptr = b->data->base + at;
 	b->m.b_wptr = b->m.b_rptr + length;
-	b->pool = (uint8_t)pool;
-	ddi_pools[pool].of[b->name.head] = b;
+	b->given.read = NULL;
+	pool->of[b->name.head] = b;
 	end_reference(from);
 }
 
-/* Joins the blocks of a message in a pool, as the module has linked them. Returns 0 if one of them is misused, with nothing joined. */
-int ddi_join(mblk_t *mp, int pool, const char *routine)
+/*
+ * Joins the blocks of a message, as the module has linked them, or takes the first one alone: in a pool, or if that is null, where the first one is.
+ * Returns the first block, or null if one is misused, with nothing joined.
+ */
+struct block *ddi_join(mblk_t *mp, struct pool *pool, int is_whole, const char *routine)
 {
-	struct block *first = (struct block *)mp, *b = first;
-	first->joined = 0;
-	for (mblk_t *bp = mp; bp; bp = bp->b_cont, first->joined++) {
-		if (bp != mp && (b = ddi_held(bp, routine)) == NULL)
-			break;
-		if (b->pool != pool)
+	struct block *first = ddi_held(mp, routine), *b = first;
+	if (!first)
+		return NULL;
+	if (!pool)
+		pool = ddi_pool_of(first);
+	if (ddi_pool_of(first) != pool)
+		cross(first, pool);
+	first->joined = 1;
+	for (mblk_t *bp = is_whole ? mp->b_cont : NULL; bp && (b = ddi_held(bp, routine)) != NULL; bp = bp->b_cont) {
+		if (ddi_pool_of(b) != pool)
 			cross(b, pool);
-		if (b != first && strm_linkb(&ddi_pools[pool].pool, first->name, b->name) != STRM_OK) {
+		if (strm_linkb(&pool->pool, first->name, b->name) != STRM_OK) {
 			ddi_misuse(routine, first, "b_cont leads to a block of the message");
 			b = NULL;
 			break;
 		}
+		first->joined++;
 	}
 	if (b && give(first, first->joined, routine))
-		return 1;
+		return first;
 	ddi_part(first, routine);
-	return 0;
+	return NULL;
 }
 
 /* Parts them again: each is held by a name of its own. The name of the first one is right. */
 void ddi_part(struct block *b, const char *routine)
 {
-	struct strm_pool *pool = &ddi_pools[b->pool].pool;
+	struct pool *pool = ddi_pool_of(b);
+	struct block *next;
 	struct strm_msg rest;
-	uint16_t left = b->joined;
-	for (b->where = HELD; left-- > 1 && strm_unlinkb(pool, b->name, &rest) == STRM_OK; b->where = HELD) {
-		struct block *next = ddi_pools[b->pool].of[rest.head];
-		if (b->m.b_cont != &next->m && b->queue)
+	for (uint32_t left = b->joined; b; b = next) {
+		next = left-- > 1 && strm_unlinkb(&pool->pool, b->name, &rest) == STRM_OK ? pool->of[rest.head] : NULL;
+		if (next)
+			next->name = rest;
+		if (b->where == QUEUED && (struct block *)b->m.b_cont != next) {
 			ddi_misuse(routine, b, "b_cont was changed while the message was on a queue");
-		b->m.b_cont = &next->m;
-		b->queue = NULL;
-		b = next;
-		b->name = rest;
+			b->m.b_cont = (mblk_t *)next;
+		}
+		b->where = HELD;
+		b->owner = ddi_frame->as.module;
 	}
-	if (b->m.b_cont && b->queue) {
-		ddi_misuse(routine, b, "b_cont was changed while the message was on a queue");
-		b->m.b_cont = NULL;
-	}
-	b->queue = NULL;
-}
-
-size_t ddi_size(const mblk_t *mp)
-{
-	size_t size = 0;
-	for (; mp; mp = mp->b_cont)
-		size += (size_t)MBLKL(mp);
-	return size;
 }
 
 /* ---- made and freed */
@@ -295,39 +325,48 @@ size_t ddi_size(const mblk_t *mp)
 static struct block *allocate(size_t size, const char *routine)
 {
 	struct strm_msg name;
-	int code = size > UINT32_MAX ? STRM_TOO_LARGE : strm_allocb(&ddi_pools[0].pool, (uint32_t)size, &name);
-	struct block *b = code == STRM_OK ? new_block(0, name, new_data(0, name, M_DATA), NULL, routine) : NULL;
-	if (!b && ddi_frame)
+	struct block *b = NULL;
+	int code;
+	BEGIN_CALL();
+	code = size > UINT32_MAX ? STRM_TOO_LARGE : strm_allocb(&ddi_pools[0].pool, (uint32_t)size, &name);
+	if (code == STRM_OK)
+		b = new_block(name, new_data(name, M_DATA), NULL, routine);
+	else
 		ddi_frame->failed = strm_ddi_at;
-	END_CALL(ddi_reply(code), "allocb %t %l", b ? &b->m : NULL, (long)size);
+	END_CALL(ddi_reply(code), "allocb %t %l", b, (long)size);
 	return b;
 }
 
 mblk_t *allocb(size_t size, uint_t priority)
 {
 	(void)priority;
-	BEGIN_CALL();
 	return (mblk_t *)allocate(size, "allocb");
 }
 
 mblk_t *esballoc(uchar_t *base, size_t size, uint_t priority, frtn_t *routine)
 {
-	struct block *b;
+	struct block *b = allocate(size, "esballoc");
 	(void)priority;
-	BEGIN_CALL();
-	if ((b = allocate(size, "esballoc")) == NULL)
-		return NULL;
-	b->data->d = (dblk_t){ .db_frtnp = routine, .db_base = base, .db_lim = base + size, .db_ref = 1, .db_type = M_DATA };
-	b->m.b_rptr = b->m.b_wptr = base;
-	return &b->m;
+	if (b) {
+		b->data->d = (dblk_t){ .db_frtnp = routine, .db_base = base, .db_lim = base + size, .db_ref = 1, .db_type = M_DATA };
+		b->m.b_rptr = b->m.b_wptr = base;
+	}
+	return (mblk_t *)b;
+}
+
+int testb(size_t size, uint_t priority)
+{
+	uint32_t yes = 0;
+	(void)priority;
+	return size <= UINT32_MAX && strm_testb(&ddi_pools[0].pool, (uint32_t)size, &yes) == STRM_OK && yes;
 }
 
 static mblk_t *release(mblk_t *mp, const char *routine)
 {
 	struct block *b = ddi_held(mp, routine);
 	mblk_t *rest = b ? mp->b_cont : NULL;
-	if (b && strm_freemsg(&ddi_pools[b->pool].pool, b->name) == STRM_OK)
-		ddi_end_block(b);
+	if (b)
+		ddi_free(b);
 	return rest;
 }
 
@@ -344,90 +383,70 @@ void freeb(mblk_t *mp)
 {
 	if (ddi_traced && is_led_to_twice((struct block *)mp))
 		mp->b_cont = NULL;
-	BEGIN_CALL();
 	release(mp, "freeb");
 	END_CALL("ok", "freeb %f", mp);
 }
 
 void freemsg(mblk_t *mp)
 {
-	mblk_t *first = mp;
-	if (!mp)
-		return;
-	BEGIN_CALL();
-	while (mp)
-		mp = release(mp, "freemsg");
-	END_CALL("ok", "freemsg %f", first);
+	mblk_t *rest = mp;
+	while (rest)
+		rest = release(rest, "freemsg");
+	if (mp)
+		END_CALL("ok", "freemsg %f", mp);
 }
 
-static int duplicate(struct block *b, struct block **copy, const char *routine)
+/* Makes a message anew by a call of the pool: its first block, or all, which are joined meanwhile. */
+static mblk_t *made_of(mblk_t *mp, int (*make)(struct strm_pool *, struct strm_msg, struct strm_msg *), int is_copy, int all, const char *routine,
+	const char *call)
 {
-	struct strm_msg name;
-	int code = give(b, 1, routine) ? strm_dupb(&ddi_pools[b->pool].pool, b->name, &name) : STRM_INVALID;
-	if (code == STRM_OK) {
-		b->data->d.db_ref = ++b->data->references;
-		*copy = new_block(b->pool, name, b->data, b, routine);
-	}
-	return code;
-}
-
-static int copy_one(struct block *b, struct block **copy, const char *routine)
-{
-	struct strm_msg name;
-	int code = give(b, 1, routine) ? strm_copyb(&ddi_pools[b->pool].pool, b->name, &name) : STRM_INVALID;
-	if (code == STRM_OK) {
-		*copy = new_block(b->pool, name, new_data(b->pool, name, b->data->d.db_type), b, routine);
-		if (b->data->base != b->data->d.db_base)
-			memcpy((*copy)->m.b_rptr, b->m.b_rptr, b->length);
-	}
-	return code;
-}
-
-/* Makes each block of a message, or only the first one, anew: all or none. */
-static mblk_t *made_of(mblk_t *mp, int (*make)(struct block *, struct block **, const char *), int all, const char *routine, const char *call)
-{
-	mblk_t *first = NULL, **last = &first, *bp;
-	struct strm_census census;
-	int code = STRM_OK, count = 0;
-	BEGIN_CALL();
-	for (bp = mp; bp && code == STRM_OK; bp = all ? bp->b_cont : NULL) {
-		struct block *b = ddi_held(bp, routine), *copy;
-		code = b ? make(b, &copy, routine) : STRM_INVALID;
-		if (code == STRM_OK) {
-			*last = &copy->m;
-			last = &copy->m.b_cont;
-		}
-	}
-	if (code != STRM_OK) {
-		while (first)
-			first = release(first, routine);
-		for (bp = mp; bp && code != STRM_INVALID; bp = bp->b_cont)
-			count++;
-		if (strm_census(&ddi_pools[0].pool, &census) == STRM_OK && (uint32_t)count > census.free)
-			code = STRM_NO_MBLK;
+	struct block *b = ddi_join(mp, NULL, all, routine), *copy;
+	mblk_t *first = NULL, **last = &first;
+	struct strm_msg name, rest;
+	struct strm_pool *pool;
+	int code;
+	if (!b)
+		return NULL;
+	pool = &ddi_pool_of(b)->pool;
+	code = make(pool, b->name, &name);
+	ddi_part(b, routine);
+	for (int left = code; left == STRM_OK; name = rest, b = (struct block *)b->m.b_cont) {
+		left = strm_unlinkb(pool, name, &rest);
+		b->data->references += !is_copy;
+		b->data->d.db_ref = b->data->references;
+		copy = new_block(name, is_copy ? new_data(name, b->data->d.db_type) : b->data, b, routine);
+		if (is_copy && DB_BASE(&b->m) != b->data->base)
+			memcpy(copy->m.b_rptr, b->m.b_rptr, (size_t)MBLKL(&b->m));
+		*last = &copy->m;
+		last = &copy->m.b_cont;
 	}
 	END_CALL(ddi_reply(code), call, mp, first);
 	return first;
 }
 
-#define MADE(name, make, all) \
+#define MADE(name, is_copy, all) \
 	mblk_t *name(mblk_t *mp) \
 	{ \
-		return made_of(mp, make, all, #name, #name " %f %t"); \
+		return made_of(mp, strm_##name, is_copy, all, #name, #name " %f %t"); \
 	}
-MADE(dupb, duplicate, 0)
-MADE(dupmsg, duplicate, 1)
-MADE(copyb, copy_one, 0)
-MADE(copymsg, copy_one, 1)
-
-int testb(size_t size, uint_t priority)
-{
-	uint32_t yes = 0;
-	(void)priority;
-	return size <= UINT32_MAX && strm_testb(&ddi_pools[0].pool, (uint32_t)size, &yes) == STRM_OK && yes;
-}
+MADE(dupb, 0, 0)
+MADE(dupmsg, 0, 1)
+MADE(copyb, 1, 0)
+MADE(copymsg, 1, 1)
 
 /* ---- joined, parted, trimmed and counted: nothing of this is in the pool before the message is on a queue */
+
+size_t ddi_copy_out(const mblk_t *mp, void *into, size_t room)
+{
+	size_t count = 0;
+	for (; mp; mp = mp->b_cont) {
+		size_t part = ddi_least((size_t)MBLKL(mp), room - count);
+		if (part > 0)
+			memcpy((char *)into + count, mp->b_rptr, part);
+		count += part;
+	}
+	return count;
+}
 
 /* The bytes of the leading blocks of the first block's type. */
 static ssize_t leading(const mblk_t *mp)
@@ -438,92 +457,63 @@ static ssize_t leading(const mblk_t *mp)
 	return size;
 }
 
-/* Trims bytes from the tail of some blocks, last block first. Returns how many are left. */
-static ssize_t trim_tail(mblk_t *mp, ssize_t size)
-{
-	ssize_t cut;
-	if (!mp)
-		return size;
-	size = trim_tail(mp->b_cont, size);
-	cut = size < MBLKL(mp) ? size : MBLKL(mp);
-	mp->b_wptr -= cut;
-	return size - cut;
-}
-
 int adjmsg(mblk_t *mp, ssize_t length)
 {
 	mblk_t *part = mp;
-	ssize_t size = length < 0 ? -length : length, cut;
+	ssize_t left, size;
 	int is_done;
 	if (!ddi_held(mp, "adjmsg"))
 		return 0;
-	BEGIN_CALL();
 	for (mblk_t *bp = mp; length < 0 && bp; bp = bp->b_cont)
 		if (bp->b_datap->db_type != part->b_datap->db_type)
 			part = bp;
-	is_done = size <= leading(part);
-	if (is_done && length < 0)
-		trim_tail(part, size);
-	for (; is_done && length > 0 && size > 0; part = part->b_cont, size -= cut) {
-		cut = size < MBLKL(part) ? size : MBLKL(part);
-		part->b_rptr += cut;
+	left = length < 0 ? leading(part) + length : length;
+	is_done = left >= 0 && left <= leading(part);
+	for (; is_done && part; part = part->b_cont, left -= size) {
+		size = (ssize_t)ddi_least((size_t)MBLKL(part), (size_t)left);
+		if (length < 0)
+			part->b_wptr = part->b_rptr + size;
+		else
+			part->b_rptr += size;
 	}
 	END_CALL(is_done ? "ok" : "refused 8 Short", "adjmsg %f %l", mp, (long)length);
 	return is_done;
 }
 
 /* Pulls up in the pool, which frees the blocks that gave all bytes: the others get their new places. */
-static int pull(struct block *first, size_t size)
-{
-	struct strm_pool *pool = &ddi_pools[first->pool].pool;
-	uchar_t bytes[STRM_MOST_DATA_BYTES];
-	size_t at = 0, cut;
-	mblk_t *bp, *next;
-	int code;
-	if (size > sizeof bytes || size > classes[ddi_config.class_count - 1].size)
-		return STRM_TOO_LARGE;
-	if (!ddi_join(&first->m, first->pool, "pullupmsg"))
-		return STRM_INVALID;
-	for (bp = &first->m; at < size; at += cut, bp = bp->b_cont)
-		memcpy(bytes + at, bp->b_rptr, cut = size - at < (size_t)MBLKL(bp) ? size - at : (size_t)MBLKL(bp));
-	if ((code = strm_pullupmsg(pool, first->name, (int32_t)size)) == STRM_OK) {
-		uchar_t type = first->data->d.db_type;
-		end_reference(first->data);
-		for (at = size - (size_t)MBLKL(&first->m); at > 0; at -= cut) {
-			bp = first->m.b_cont;
-			next = bp->b_cont;
-			cut = at < (size_t)MBLKL(bp) ? at : (size_t)MBLKL(bp);
-			bp->b_rptr += cut;
-			((struct block *)bp)->at += (uint32_t)cut;
-			((struct block *)bp)->length -= (uint32_t)cut;
-			if (MBLKL(bp) == 0) {
-				first->m.b_cont = next;
-				first->joined--;
-				ddi_end_block((struct block *)bp);
-			}
-		}
-		first->data = new_data(first->pool, first->name, type);
-		memcpy(first->data->base, bytes, size);
-		first->m.b_datap = &first->data->d;
-		first->m.b_rptr = first->data->base;
-		first->m.b_wptr = first->data->base + size;
-		first->at = 0;
-		first->length = (uint32_t)size;
-	}
-	ddi_part(first, "pullupmsg");
-	return code;
-}
-
 int pullupmsg(mblk_t *mp, ssize_t length)
 {
-	struct block *b = ddi_held(mp, "pullupmsg");
-	ssize_t size;
+	struct block *first = ddi_join(mp, NULL, 1, "pullupmsg"), *b;
+	struct data *old;
+	size_t size, left, cut;
 	int code;
-	if (!b)
+	if (!first)
 		return 0;
-	BEGIN_CALL();
-	size = length == -1 ? leading(mp) : length;
-	code = length < -1 || size > leading(mp) ? STRM_SHORT : size > MBLKL(mp) ? pull(b, (size_t)size) : STRM_OK;
+	size = (size_t)(length == -1 ? leading(mp) : length);
+	code = length > leading(mp) ? STRM_SHORT : strm_pullupmsg(&ddi_pool_of(first)->pool, first->name, (int32_t)length);
+	if (code == STRM_OK && size > (size_t)MBLKL(mp)) {
+		old = first->data;
+		left = size - (size_t)MBLKL(mp);
+		first->data = new_data(first->name, old->d.db_type);
+		ddi_copy_out(mp, first->data->base, size);
+		for (; left > 0; left -= cut) {
+			b = (struct block *)mp->b_cont;
+			cut = ddi_least(left, (size_t)MBLKL(&b->m));
+			b->m.b_rptr += cut;
+			b->given.read = b->m.b_rptr;
+			if (MBLKL(&b->m) == 0) {
+				mp->b_cont = b->m.b_cont;
+				first->joined--;
+				end_block(b);
+			}
+		}
+		mp->b_datap = &first->data->d;
+		mp->b_rptr = first->data->base;
+		mp->b_wptr = mp->b_rptr + size;
+		first->given = given_of(first);
+		end_reference(old);
+	}
+	ddi_part(first, "pullupmsg");
 	END_CALL(ddi_reply(code), "pullupmsg %f %l", mp, (long)length);
 	return code == STRM_OK;
 }
@@ -543,7 +533,6 @@ void linkb(mblk_t *mp, mblk_t *tail)
 	mblk_t *last = mp;
 	if (!ddi_held(mp, "linkb") || (tail && !ddi_held(tail, "linkb")))
 		return;
-	BEGIN_CALL();
 	while (last->b_cont && last != tail)
 		last = last->b_cont;
 	if (last == tail)
@@ -558,7 +547,6 @@ mblk_t *unlinkb(mblk_t *mp)
 	mblk_t *rest;
 	if (!ddi_held(mp, "unlinkb"))
 		return NULL;
-	BEGIN_CALL();
 	rest = mp->b_cont;
 	mp->b_cont = NULL;
 	END_CALL(rest ? "ok" : "none", "unlinkb %f %t", mp, rest);
@@ -575,7 +563,6 @@ mblk_t *rmvb(mblk_t *mp, mblk_t *bp)
 		place++;
 	if (!*at)
 		return (mblk_t *)-1;
-	BEGIN_CALL();
 	*at = bp->b_cont;
 	bp->b_cont = NULL;
 	END_CALL("ok", "rmvb %f %d %t", mp, place, bp);
@@ -587,7 +574,6 @@ size_t msgdsize(mblk_t *mp)
 	size_t size = 0;
 	if (!ddi_held(mp, "msgdsize"))
 		return 0;
-	BEGIN_CALL();
 	for (const mblk_t *bp = mp; bp; bp = bp->b_cont)
 		size += bp->b_datap->db_type == M_DATA ? (size_t)MBLKL(bp) : 0;
 	END_CALL("size %l", "msgdsize %f", mp, (long)size);

@@ -2,21 +2,87 @@
  * which run one inside another; and what runs later: service procedures, timeouts and functions of wishes. */
 #include "ddi.h"
 
-struct frame *ddi_frame;
+#include <errno.h>
+
 const char ddi_service[] = "service";
-int ddi_pending_count;
+static struct frame test = { .as.procedure = "" };
+struct frame *ddi_frame = &test;
+
+/* ---- queues of a pool */
+
+/* Water marks as strm.h takes them. */
+struct strm_marks ddi_marks(size_t hiwat, size_t lowat)
+{
+	uint32_t high = hiwat > 0 ? (uint32_t)hiwat : 1;
+	return (struct strm_marks){ high, lowat < high ? (uint32_t)lowat : high - 1 };
+}
+
+/* Gives a queue a number in the first pool that has one left. */
+RARE static void number_queue(queue_t *q)
+{
+	struct strm_ddi_queue *own = q->q_layer;
+	int place = 0;
+	while (place < ddi_pool_count * STRM_MOST_QUEUES && ddi_pools[place / STRM_MOST_QUEUES].queues[place % STRM_MOST_QUEUES])
+		place++;
+	if (place == ddi_pool_count * STRM_MOST_QUEUES && ddi_open_pool() < 0) {
+		fprintf(stderr, "strm_ddi: no more than %d pools of 16 queues can be open\n", MOST_POOLS);
+		abort();
+	}
+	own->pool = &ddi_pools[place / STRM_MOST_QUEUES];
+	own->number = (uint32_t)(place % STRM_MOST_QUEUES);
+	own->pool->queues[own->number] = q;
+	for (uint32_t band = 0; band < STRM_BANDS; band++)
+		strm_strqset(&own->pool->pool, own->number, band, own->marks.hiwat, own->marks.lowat);
+	if (!q->q_qinfo->qi_srvp)
+		strm_noenable(&own->pool->pool, own->number);
+}
+
+/* The queue as the layer has it, with a number, which it gets when it is first needed; and its pool and number, as arguments. */
+static inline struct strm_ddi_queue *own_of(queue_t *q)
+{
+	if (!q->q_layer->pool)
+		number_queue(q);
+	return q->q_layer;
+}
+#define AT(q) &own_of(q)->pool->pool, own_of(q)->number
+
+static int is_full(queue_t *q, int band)
+{
+	struct strm_band_info info;
+	return q->q_layer->pool && (band > 0 || q->q_count >= q->q_hiwat) && strm_band_info(AT(q), (uint32_t)band, &info) == STRM_OK && info.full;
+}
+
+/* Gives up the number of a queue, with what is on it. */
+void ddi_forget(queue_t *q)
+{
+	struct strm_ddi_queue *own = q->q_layer;
+	struct strm_msg none;
+	uint32_t number, left = 0;
+	if (!own->pool)
+		return;
+	flushq(q, FLUSHALL);
+	strm_enableok(AT(q));
+	strm_getq(AT(q), &none);
+	while (strm_run_at(&own->pool->pool, left, &number) == STRM_OK)
+		left++;
+	while (left-- > 0 && strm_next_service(&own->pool->pool, &number) == STRM_OK)
+		if (number != own->number)
+			strm_qenable(&own->pool->pool, number);
+	own->pool->queues[own->number] = NULL;
+	own->pool = NULL;
+}
 
 /* ---- procedures */
 
-/* A call that waits until no procedure of its module, or its pair of queues, runs. */
+/* A put procedure, or the function of qwriter, that waits until no procedure of its module, or its pair of queues, runs. */
 static struct later {
 	struct later *next;
 	queue_t *q;
 	mblk_t *mp;
-	void (*function)(queue_t *, mblk_t *);
+	void (*writer)(queue_t *, mblk_t *);
 } *later_first;
 
-static struct { struct streamtab *tab; int flag; } flags[32];
+static struct { const struct streamtab *tab; int flag; } flags[32];
 
 void str_flag(struct streamtab *module, int flag)
 {
@@ -27,61 +93,66 @@ void str_flag(struct streamtab *module, int flag)
 	flags[k].flag = flag;
 }
 
-/* Whether a procedure runs with which one of this queue may not run. Any counts as running for qwriter, `is_writer`. */
+/* Whether a procedure runs with which one of this queue, or its writer, may not run. */
 static int is_inside(const queue_t *q, int is_writer)
 {
-	int flag = D_MP;
+	const struct streamtab *tab = q->q_layer->tab;
+	int flag = is_writer ? D_MTPERMOD : 0;
 	for (int k = 0; k < 32 && flags[k].tab; k++)
-		if (flags[k].tab == q->q_layer->tab)
-			flag = flags[k].flag;
-	for (const struct frame *frame = ddi_frame; frame && (is_writer || flag != D_MP); frame = frame->before)
-		if (frame->q && (frame->q == q || frame->q == OTHERQ(q) ||
-			((is_writer || flag & D_MTPERMOD) && frame->q->q_layer->tab == q->q_layer->tab)))
-			return 1;
+		if (flags[k].tab == tab)
+			flag |= flags[k].flag;
+	if (flag & (D_MTQPAIR | D_MTPERQ | D_MTPERMOD))
+		for (const struct frame *frame = ddi_frame; frame; frame = frame->before)
+			if (frame->q && (frame->q == q || frame->q == OTHERQ(q) || (flag & D_MTPERMOD && frame->q->q_layer->tab == tab)))
+				return 1;
 	return 0;
 }
 
-static void add_later(queue_t *q, mblk_t *mp, void (*function)(queue_t *, mblk_t *))
+static void add_later(queue_t *q, mblk_t *mp, void (*writer)(queue_t *, mblk_t *))
 {
 	struct later **at = &later_first;
 	while (*at)
 		at = &(*at)->next;
 	*at = malloc(sizeof **at);
-	**at = (struct later){ .q = q, .mp = mp, .function = function };
+	**at = (struct later){ .q = q, .mp = mp, .writer = writer };
 }
 
 void ddi_enter(struct frame *frame, queue_t *q, const char *procedure)
 {
-	if (ddi_traced)
-		ddi_trace_begin();
-	*frame = (struct frame){ .q = q, .procedure = procedure, .before = ddi_frame };
+	BEGIN_CALL();
+	*frame = (struct frame){ .q = q, .as = { q ? q->q_qinfo->qi_minfo : NULL, procedure }, .before = ddi_frame };
 	ddi_frame = frame;
 }
 
-static void run_put(queue_t *q, mblk_t *mp)
+static void run(queue_t *q, mblk_t *mp, void (*writer)(queue_t *, mblk_t *))
 {
 	struct frame frame;
-	ddi_enter(&frame, q, "put");
-	q->q_qinfo->qi_putp(q, mp);
+	ddi_enter(&frame, q, writer ? "writer" : "put");
+	if (writer)
+		writer(q, mp);
+	else
+		q->q_qinfo->qi_putp(q, mp);
 	ddi_leave();
+}
+
+RARE static void run_later(void)
+{
+	for (struct later **at = &later_first, *later; (later = *at) != NULL; at = &later->next)
+		if (!is_inside(later->q, later->writer != NULL)) {
+			struct later call = *later;
+			*at = later->next;
+			free(later);
+			run(call.q, call.mp, call.writer);
+			return;
+		}
 }
 
 void ddi_leave(void)
 {
-	if (ddi_traced)
-		ddi_trace_begin();
+	BEGIN_CALL();
 	ddi_frame = ddi_frame->before;
-	for (struct later **at = &later_first, *later; (later = *at) != NULL; at = &later->next)
-		if (!is_inside(later->q, later->function != run_put)) {
-			struct later call = *later;
-			struct frame frame;
-			*at = later->next;
-			free(later);
-			ddi_enter(&frame, call.function == run_put ? NULL : call.q, "writer");
-			call.function(call.q, call.mp);
-			ddi_leave();
-			return;
-		}
+	if (later_first)
+		run_later();
 }
 
 /* The queue that decides whether one may send to `q`. */
@@ -101,14 +172,14 @@ static void put_to(queue_t *q, mblk_t *mp, const char *routine, int is_next)
 		ddi_misuse(routine, b, "there is no next queue");
 		return;
 	}
-	if (is_next && ddi_frame && ddi_frame->procedure == ddi_service && (mp->b_datap->db_type == M_DATA || mp->b_datap->db_type == M_PROTO)
-		&& ddi_is_full(decides(q), mp->b_band))
+	if (is_next && ddi_frame->as.procedure == ddi_service && (DB_TYPE(mp) == M_DATA || DB_TYPE(mp) == M_PROTO) && is_full(decides(q), mp->b_band))
 		ddi_misuse(routine, b, "band %d of %s is full: a service procedure asks canputnext before", mp->b_band, ddi_module(decides(q)));
-	ddi_own(mp, q);
+	for (mblk_t *bp = mp; bp; bp = bp->b_cont)
+		((struct block *)bp)->owner = q->q_qinfo->qi_minfo;
 	if (is_inside(q, 0))
-		add_later(q, mp, run_put);
+		add_later(q, mp, NULL);
 	else
-		run_put(q, mp);
+		run(q, mp, NULL);
 }
 
 void put(queue_t *q, mblk_t *mp)
@@ -121,39 +192,25 @@ void putnext(queue_t *q, mblk_t *mp)
 	put_to(q->q_next, mp, "putnext", 1);
 }
 
-void qreply(queue_t *q, mblk_t *mp)
-{
-	putnext(OTHERQ(q), mp);
-}
-
-static int put_made(queue_t *q, int type, int byte)
+/* Puts a message of a type, with a byte if `count` is 1. */
+int strm_ddi_putctl(queue_t *q, int type, int byte, int count)
 {
 	mblk_t *mp = allocb(1, BPRI_HI);
 	if (!mp)
 		return 0;
 	mp->b_datap->db_type = (uchar_t)type;
-	if (byte >= 0)
-		*mp->b_wptr++ = (uchar_t)byte;
+	*mp->b_wptr = (uchar_t)byte;
+	mp->b_wptr += count;
 	put(q, mp);
 	return 1;
 }
 
-int putctl(queue_t *q, int type)
-{
-	return put_made(q, type, -1);
-}
-
-int putctl1(queue_t *q, int type, int byte)
-{
-	return put_made(q, type, byte & 255);
-}
-
 void qwriter(queue_t *q, mblk_t *mp, void (*function)(), int scope)
 {
+	struct frame frame;
 	(void)scope;
 	add_later(q, mp, (void (*)(queue_t *, mblk_t *))function);
-	if (!ddi_frame) {
-		struct frame frame;
+	if (ddi_frame == &test) {
 		ddi_enter(&frame, NULL, "");
 		ddi_leave();
 	}
@@ -163,79 +220,6 @@ queue_t *backq(queue_t *q)
 {
 	queue_t *behind = OTHERQ(q)->q_next;
 	return behind ? OTHERQ(behind) : NULL;
-}
-
-/* ---- queues of a pool */
-
-/* Gives a queue a number in the first pool that has one left. */
-static void number_queue(queue_t *q)
-{
-	struct strm_ddi_queue *own = q->q_layer;
-	for (own->pool = 0; own->number < 0; own->pool += own->number < 0) {
-		if (own->pool == ddi_pool_count && ddi_open_pool() < 0) {
-			fprintf(stderr, "strm_ddi: no more than %d pools of 16 queues can be open\n", MOST_POOLS);
-			abort();
-		}
-		for (int k = 0; k < STRM_MOST_QUEUES && own->number < 0; k++)
-			if (!ddi_pools[own->pool].queue_at[k])
-				own->number = k;
-	}
-	ddi_pools[own->pool].queue_at[own->number] = q;
-	own->at = &ddi_pools[own->pool].pool;
-	for (uint32_t band = 0; band < STRM_BANDS; band++)
-		strm_strqset(own->at, (uint32_t)own->number, band, own->marks.hiwat, own->marks.lowat);
-	if (!q->q_qinfo->qi_srvp)
-		strm_noenable(own->at, (uint32_t)own->number);
-}
-
-/* The pool of a queue, which gets a number when it is first needed; and both, as arguments. */
-static inline struct strm_pool *pool_of(queue_t *q)
-{
-	if (q->q_layer->number < 0)
-		number_queue(q);
-	return q->q_layer->at;
-}
-
-static inline uint32_t number_of(queue_t *q)
-{
-	if (q->q_layer->number < 0)
-		number_queue(q);
-	return (uint32_t)q->q_layer->number;
-}
-#define AT(q) pool_of(q), number_of(q)
-
-static int is_enabled(queue_t *q)
-{
-	struct strm_queue_info info;
-	return q->q_layer->number >= 0 && strm_queue_info(AT(q), &info) == STRM_OK && info.enabled;
-}
-
-int ddi_is_full(const queue_t *q, int band)
-{
-	struct strm_band_info info;
-	return q->q_layer->number >= 0 && (band > 0 || q->q_count >= q->q_hiwat) &&
-		strm_band_info(&ddi_pools[q->q_layer->pool].pool, (uint32_t)q->q_layer->number, (uint32_t)band, &info) == STRM_OK && info.full;
-}
-
-/* Gives up the number of a queue, with what is on it. */
-void ddi_forget(queue_t *q)
-{
-	struct strm_msg none;
-	struct pool *pool = &ddi_pools[q->q_layer->pool];
-	uint32_t number, count = 0, waiting[STRM_MOST_QUEUES];
-	if (q->q_layer->number < 0)
-		return;
-	flushq(q, FLUSHALL);
-	number = number_of(q);
-	strm_enableok(&pool->pool, number);
-	strm_getq(&pool->pool, number, &none);
-	while (strm_next_service(&pool->pool, &waiting[count]) == STRM_OK)
-		count++;
-	for (uint32_t k = 0; k < count; k++)
-		if (waiting[k] != number)
-			strm_qenable(&pool->pool, waiting[k]);
-	pool->queue_at[number] = NULL;
-	q->q_layer->number = -1;
 }
 
 /* ---- enabling */
@@ -255,22 +239,18 @@ ENABLING(noenable)
 ENABLING(enableok)
 
 /* Enables the nearest queue behind with a service procedure if a band for which it waits has room. It may be in another pool. */
-static void wake(queue_t *q)
+RARE static void wake(queue_t *q)
 {
 	struct strm_ddi_queue *own = q->q_layer;
 	struct strm_band_info info;
 	int is_woken = 0;
-	if (!own->is_asked)
-		return;
 	own->is_asked = 0;
-	for (uint32_t band = 0; band < STRM_BANDS; band++)
-		if (own->asked[band / 32] >> band % 32 & 1) {
-			strm_band_info(AT(q), band, &info);
-			own->is_asked |= info.wanted;
-			is_woken |= !info.wanted;
-			if (!info.wanted)
-				own->asked[band / 32] &= ~(1u << band % 32);
-		}
+	for (uint8_t *asked = own->asked; (asked = memchr(asked, 1, (size_t)(own->asked + STRM_BANDS - asked))) != NULL; asked++) {
+		strm_band_info(AT(q), (uint32_t)(asked - own->asked), &info);
+		*asked = info.wanted != 0;
+		own->is_asked |= *asked;
+		is_woken |= !*asked;
+	}
 	for (q = is_woken ? backq(q) : NULL; q; q = backq(q))
 		if (q->q_qinfo->qi_srvp) {
 			strm_qenable(AT(q));
@@ -284,10 +264,8 @@ int bcanput(queue_t *q, uchar_t band)
 	uint32_t yes = 1;
 	BEGIN_CALL();
 	strm_bcanput(AT(target), band, &yes);
-	if (!yes) {
-		target->q_layer->asked[band / 32] |= 1u << band % 32;
-		target->q_layer->is_asked = 1;
-	}
+	if (!yes)
+		target->q_layer->asked[band] = target->q_layer->is_asked = 1;
 	END_CALL(yes ? "yes" : "no", "bcanput %q %d", q, (int)band);
 	return (int)yes;
 }
@@ -295,17 +273,16 @@ int bcanput(queue_t *q, uchar_t band)
 int strqset(queue_t *q, qfields_t what, uchar_t band, long value)
 {
 	struct strm_marks marks;
-	if (what == QMINPSZ || what == QMAXPSZ)
+	if (what == QMINPSZ || what == QMAXPSZ) {
 		*(what == QMINPSZ ? &q->q_minpsz : &q->q_maxpsz) = value;
+		return 0;
+	}
 	if (what != QHIWAT && what != QLOWAT)
-		return what == QMINPSZ || what == QMAXPSZ ? 0 : 22;
+		return EINVAL;
 	BEGIN_CALL();
 	strm_strqget(AT(q), band, &marks);
 	*(what == QHIWAT ? &marks.hiwat : &marks.lowat) = (uint32_t)value;
-	if (marks.hiwat == 0)
-		marks.hiwat = 1;
-	if (marks.lowat >= marks.hiwat)
-		marks.lowat = marks.hiwat - 1;
+	marks = ddi_marks(marks.hiwat, marks.lowat);
 	strm_strqset(AT(q), band, marks.hiwat, marks.lowat);
 	if (band == 0) {
 		q->q_hiwat = marks.hiwat;
@@ -333,117 +310,107 @@ int strqget(queue_t *q, qfields_t what, uchar_t band, void *value)
 		const ssize_t fields[] = { marks.hiwat, marks.lowat, q->q_maxpsz, q->q_minpsz, of_band.bytes };
 		*(ssize_t *)value = fields[what];
 	}
-	return what < QBAD ? 0 : 22;
+	return what < QBAD ? 0 : EINVAL;
 }
 
 /* ---- messages on queues: in q_first and b_next they are in the order that the pool has */
 
-static int rank_of(const mblk_t *mp)
+static uint32_t rank_of(const mblk_t *mp)
 {
-	return queclass(mp) == QPCTL ? STRM_BANDS : mp->b_band;
+	const struct given *given = &((const struct block *)mp)->given;
+	return given->type >= QPCTL ? STRM_BANDS : given->band;
 }
 
-/* Links a message that the pool has put on its queue after another one there, or first. */
-static void link_after(queue_t *q, mblk_t *before, mblk_t *mp)
+/* Links a message that the pool has put on its queue: before `next`, or last, if ranks are in order then. Otherwise only the pool knows its place. */
+static void link_in(queue_t *q, mblk_t *next, struct block *b)
 {
-	struct block *b = (struct block *)mp;
+	mblk_t *mp = &b->m, *before = next ? next->b_prev : q->q_last;
+	uint32_t rank = rank_of(mp), head;
+	if ((before && rank_of(before) < rank) || (next && rank_of(next) > rank)) {
+		before = strm_queued_before(&ddi_pool_of(b)->pool, b->name.head, &head) == STRM_OK ? (mblk_t *)ddi_pool_of(b)->of[head] : NULL;
+		next = before ? before->b_next : q->q_first;
+	}
 	mp->b_prev = before;
-	mp->b_next = before ? before->b_next : q->q_first;
-	*(mp->b_next ? &mp->b_next->b_prev : &q->q_last) = mp;
+	mp->b_next = next;
+	*(next ? &next->b_prev : &q->q_last) = mp;
 	*(before ? &before->b_next : &q->q_first) = mp;
-	if (b->rank == STRM_BANDS)
-		mp->b_band = b->band = 0;
-	if (mp->b_band == 0)
-		q->q_count += ddi_size(mp);
+	if (rank == STRM_BANDS)
+		mp->b_band = b->given.band = 0;
+	if (b->given.band == 0)
+		q->q_count += b->size;
 	for (; b; b = (struct block *)b->m.b_cont) {
 		b->where = QUEUED;
 		b->queue = q;
 	}
 }
 
-static void take_out(queue_t *q, mblk_t *mp)
-{
-	*(mp->b_next ? &mp->b_next->b_prev : &q->q_last) = mp->b_prev;
-	*(mp->b_prev ? &mp->b_prev->b_next : &q->q_first) = mp->b_next;
-	mp->b_next = mp->b_prev = NULL;
-	if (mp->b_band == 0)
-		q->q_count -= ddi_size(mp);
-}
-
-/* The message before one that was put where only the pool knows. */
-static mblk_t *before_in_pool(queue_t *q, const struct block *b)
-{
-	uint32_t head;
-	return strm_queued_before(pool_of(q), b->name.head, &head) == STRM_OK ? &ddi_pools[b->pool].of[head]->m : NULL;
-}
-
-static struct block *joined(queue_t *q, mblk_t *mp, const char *routine)
-{
-	struct block *b = ddi_held(mp, routine);
-	number_of(q);
-	if (!b || !ddi_join(mp, q->q_layer->pool, routine))
-		return NULL;
-	b->rank = (uint16_t)rank_of(mp);
-	return b;
-}
-
 int putq(queue_t *q, mblk_t *mp)
 {
-	struct block *b = joined(q, mp, "putq");
+	struct block *b = ddi_join(mp, own_of(q)->pool, 1, "putq");
 	if (!b)
 		return 0;
-	BEGIN_CALL();
 	strm_putq(AT(q), b->name);
-	link_after(q, !q->q_last || ((struct block *)q->q_last)->rank >= b->rank ? q->q_last : before_in_pool(q, b), mp);
+	link_in(q, NULL, b);
 	END_CALL("ok", "putq %q %f", q, mp);
 	return 1;
 }
 
 int putbq(queue_t *q, mblk_t *mp)
 {
-	struct block *b = joined(q, mp, "putbq");
+	struct block *b = ddi_join(mp, own_of(q)->pool, 1, "putbq");
 	if (!b)
 		return 0;
-	if (b->rank == STRM_BANDS && ddi_frame && ddi_frame->q == q && ddi_frame->procedure == ddi_service)
+	if (rank_of(mp) == STRM_BANDS && ddi_frame->q == q && ddi_frame->as.procedure == ddi_service)
 		ddi_misuse("putbq", b, "a service procedure that puts high priority back is enabled for ever");
-	BEGIN_CALL();
 	strm_putbq(AT(q), b->name);
-	link_after(q, !q->q_first || ((struct block *)q->q_first)->rank <= b->rank ? NULL : before_in_pool(q, b), mp);
+	link_in(q, q->q_first, b);
 	END_CALL("ok", "putbq %q %f", q, mp);
 	return 1;
 }
 
+/* The place of a message on a queue, or -1. Null has the place after the last one. */
+static int place_in(const queue_t *q, const mblk_t *mp)
+{
+	const mblk_t *at = q->q_first;
+	int place = 0;
+	for (; at && at != mp; at = at->b_next)
+		place++;
+	return at == mp ? place : -1;
+}
+
 int insq(queue_t *q, mblk_t *before, mblk_t *mp)
 {
-	struct block *b = joined(q, mp, "insq");
-	int place = 0, code;
+	struct block *b = ddi_join(mp, own_of(q)->pool, 1, "insq");
+	int place = place_in(q, before), code;
 	if (!b)
 		return 0;
-	BEGIN_CALL();
-	for (const mblk_t *at = q->q_first; at && at != before; at = at->b_next)
-		place++;
 	code = strm_insq_at(AT(q), before ? ((struct block *)before)->name.head : STRM_NO_HEAD, b->name);
 	if (code == STRM_NO_SUCH_PLACE)
 		ddi_misuse("insq", b, "the message before which it is to be is not on the queue");
 	if (code != STRM_OK)
 		ddi_part(b, "insq");
 	else
-		link_after(q, before ? before->b_prev : q->q_last, mp);
+		link_in(q, before, b);
 	END_CALL(ddi_reply(code), "insq %q %d %f", q, place, mp);
 	return code == STRM_OK;
 }
 
 /* A message that came off its queue is of the caller's. */
-static mblk_t *taken(queue_t *q, struct strm_msg name, const char *routine)
+static struct block *taken(queue_t *q, struct strm_msg name, const char *routine)
 {
-	struct block *b = ddi_pools[q->q_layer->pool].of[name.head];
+	struct block *b = ddi_pools[name.pool - 1].of[name.head];
+	mblk_t *mp = &b->m;
 	b->name = name;
-	take_out(q, &b->m);
+	*(mp->b_next ? &mp->b_next->b_prev : &q->q_last) = mp->b_prev;
+	*(mp->b_prev ? &mp->b_prev->b_next : &q->q_first) = mp->b_next;
+	mp->b_next = mp->b_prev = NULL;
+	if (b->given.band == 0)
+		q->q_count -= b->size;
 	ddi_part(b, routine);
-	ddi_own(&b->m, ddi_frame ? ddi_frame->q : NULL);
 	ddi_note(b, routine);
-	wake(q);
-	return &b->m;
+	if (q->q_layer->is_asked)
+		wake(q);
+	return b;
 }
 
 mblk_t *getq(queue_t *q)
@@ -451,20 +418,17 @@ mblk_t *getq(queue_t *q)
 	struct strm_msg name;
 	mblk_t *mp;
 	BEGIN_CALL();
-	mp = strm_getq(AT(q), &name) == STRM_OK ? taken(q, name, "getq") : NULL;
+	mp = strm_getq(AT(q), &name) == STRM_OK ? (mblk_t *)taken(q, name, "getq") : NULL;
 	END_CALL(mp ? "ok" : "none", "getq %q %t", q, mp);
 	return mp;
 }
 
 void rmvq(queue_t *q, mblk_t *mp)
 {
-	struct block *b = (struct block *)mp;
 	struct strm_msg name;
-	int place = 0;
+	int place = place_in(q, mp);
 	BEGIN_CALL();
-	for (const mblk_t *at = q->q_first; at && at != mp; at = at->b_next)
-		place++;
-	if (place == qsize(q) || strm_rmvq_msg(pool_of(q), b->name.head, &name) != STRM_OK) {
+	if (place < 0 || strm_rmvq_msg(&own_of(q)->pool->pool, ((struct block *)mp)->name.head, &name) != STRM_OK) {
 		ddi_misuse("rmvq", NULL, "the message is not on the queue");
 		return;
 	}
@@ -473,47 +437,28 @@ void rmvq(queue_t *q, mblk_t *mp)
 }
 
 /* Flushes a band, or all if it is negative. */
-static void flush(queue_t *q, int band, int flag)
+void strm_ddi_flush(queue_t *q, int band, int flag)
 {
+	struct strm_msg names[MOST_TAKEN];
 	uint32_t what = flag == FLUSHALL ? STRM_FLUSHALL : STRM_FLUSHDATA;
-	mblk_t *next, *gone = NULL, *rest;
-	number_of(q);
+	size_t count;
+	struct block *b, *next;
 	BEGIN_CALL();
-	for (mblk_t *mp = q->q_first; mp; mp = next) {
-		next = mp->b_next;
-		if ((band < 0 || mp->b_band == band) && (flag == FLUSHALL || datamsg(mp->b_datap->db_type))) {
-			take_out(q, mp);
-			mp->b_next = gone;
-			gone = mp;
-		}
-	}
-	if (band < 0)
-		strm_flushq(AT(q), what);
-	else
-		strm_flushband(AT(q), (uint32_t)band, what);
-	for (; gone; gone = next) {
-		next = gone->b_next;
-		for (mblk_t *mp = gone; mp; mp = rest) {
-			rest = mp->b_cont;
-			ddi_note((struct block *)mp, "flushq");
-			ddi_end_block((struct block *)mp);
-		}
-	}
-	wake(q);
+	do {
+		if (band < 0)
+			strm_takeq(AT(q), what, names, MOST_TAKEN, &count);
+		else
+			strm_takeq_band(AT(q), (uint32_t)band, what, names, MOST_TAKEN, &count);
+		for (size_t k = 0; k < count; k++)
+			for (b = taken(q, names[k], "flushq"); b; b = next) {
+				next = (struct block *)b->m.b_cont;
+				ddi_free(b);
+			}
+	} while (count == MOST_TAKEN);
 	if (band < 0)
 		END_CALL("ok", "flushq %q %s", q, flag == FLUSHALL ? "all" : "data");
 	else
 		END_CALL("ok", "flushband %q %d %s", q, band, flag == FLUSHALL ? "all" : "data");
-}
-
-void flushq(queue_t *q, int flag)
-{
-	flush(q, -1, flag);
-}
-
-void flushband(queue_t *q, uchar_t band, int flag)
-{
-	flush(q, band, flag);
 }
 
 int qsize(queue_t *q)
@@ -529,56 +474,48 @@ int qsize(queue_t *q)
 
 /* A timeout, or a wish of the first pool. Time is a number of ticks that grows as it passes. */
 static struct pending {
-	int id;
-	uint32_t wish;
-	clock_t when;
+	int id;				/* 0 if there is none; that of a wish is above 0 */
 	queue_t *q;
+	clock_t when;
 	void (*function)(void *), *argument;
 	struct strm_ddi_place at;
 } pending[MOST_PENDING];
-static clock_t now;
+static int pending_count;
+clock_t strm_ddi_now;
+
+static struct pending *pending_of(int id)
+{
+	struct pending *at = pending;
+	while (at < pending + MOST_PENDING && at->id != id)
+		at++;
+	return at < pending + MOST_PENDING ? at : NULL;
+}
 
 static int add_pending(struct pending what)
 {
-	static int last;
-	int k = 0;
-	while (k < MOST_PENDING && pending[k].id)
-		k++;
-	if (k == MOST_PENDING)
+	struct pending *at = pending_of(0);
+	if (!at)
 		return 0;
-	pending[k] = what;
-	ddi_pending_count++;
-	if (ddi_frame)
-		ddi_frame->failed.file = NULL;
-	pending[k].at = strm_ddi_at;
-	return pending[k].id = what.wish ? (int)what.wish : --last;
-}
-
-static void call_pending(struct pending *at)
-{
-	struct pending what = *at;
-	struct frame frame;
-	at->id = 0;
-	ddi_pending_count--;
-	ddi_enter(&frame, what.q, what.wish ? "bufcall" : "timeout");
-	what.function(what.argument);
-	ddi_leave();
+	*at = what;
+	pending_count++;
+	ddi_frame->failed.file = NULL;
+	return what.id;
 }
 
 timeout_id_t qtimeout(queue_t *q, void (*function)(void *), void *argument, clock_t ticks)
 {
-	return add_pending((struct pending){ .when = now + ticks, .q = q, .function = function, .argument = argument });
+	static int last;
+	return add_pending((struct pending){ --last, q, strm_ddi_now + ticks, function, argument, strm_ddi_at });
 }
 
 clock_t untimeout(timeout_id_t id)
 {
-	for (struct pending *at = pending; id && at < pending + MOST_PENDING; at++)
-		if (at->id == id) {
-			at->id = 0;
-			ddi_pending_count--;
-			return at->when - now;
-		}
-	return -1;
+	struct pending *at = id ? pending_of(id) : NULL;
+	if (!at)
+		return -1;
+	at->id = 0;
+	pending_count--;
+	return at->when - strm_ddi_now;
 }
 
 bufcall_id_t qbufcall(queue_t *q, size_t size, uint_t priority, void (*function)(void *), void *argument)
@@ -589,7 +526,7 @@ bufcall_id_t qbufcall(queue_t *q, size_t size, uint_t priority, void (*function)
 	BEGIN_CALL();
 	code = size > UINT32_MAX ? STRM_TOO_LARGE : strm_bufcall(&ddi_pools[0].pool, (uint32_t)size, &wish);
 	if (code == STRM_OK)
-		id = add_pending((struct pending){ .wish = wish, .q = q, .function = function, .argument = argument });
+		id = add_pending((struct pending){ (int)wish, q, 0, function, argument, strm_ddi_at });
 	END_CALL(code == STRM_OK ? "id %d" : ddi_reply(code), "bufcall %l", (long)size, id);
 	return id;
 }
@@ -603,37 +540,51 @@ void unbufcall(bufcall_id_t id)
 	END_CALL(ddi_reply(code), "unbufcall %d", id);
 }
 
+/* The timeout that is due first, by `end`, or null. */
+static struct pending *due(clock_t end)
+{
+	struct pending *first = NULL;
+	for (struct pending *at = pending; pending_count > 0 && at < pending + MOST_PENDING; at++)
+		if (at->id < 0 && at->when <= (first ? first->when - 1 : end))
+			first = at;
+	return first;
+}
+
 /* Calls the function of a wish that can be met, or of a timeout that is due. */
 static int call_ready(void)
 {
 	struct strm_wish wish;
-	int k = 0;
-	if (ddi_pending_count > 0 && strm_take_ready(&ddi_pools[0].pool, &wish) == STRM_OK) {
+	struct pending *at, what;
+	struct frame frame;
+	if (pending_count > 0 && strm_take_ready(&ddi_pools[0].pool, &wish) == STRM_OK) {
 		BEGIN_CALL();
 		END_CALL("ready %d %d", "ready", (int)wish.id, (int)wish.size);
-		while (k < MOST_PENDING && pending[k].id != (int)wish.id)
-			k++;
-		call_pending(&pending[k]);
-		return 1;
+		at = pending_of((int)wish.id);
+	} else {
+		at = due(strm_ddi_now);
 	}
-	for (; ddi_pending_count > 0 && k < MOST_PENDING; k++)
-		if (pending[k].id < 0 && pending[k].when <= now) {
-			call_pending(&pending[k]);
-			return 1;
-		}
-	return 0;
+	if (!at)
+		return 0;
+	what = *at;
+	untimeout(what.id);
+	ddi_enter(&frame, what.q, what.id > 0 ? "bufcall" : "timeout");
+	what.function(what.argument);
+	ddi_leave();
+	return 1;
 }
 
 /* Whether messages are on a queue that has a service procedure, which neither waits to run nor for room at another queue. */
 static int is_asleep(queue_t *q)
 {
-	return q->q_first && q->q_qinfo->qi_srvp && !is_enabled(q) && !(q->q_next && decides(q->q_next)->q_layer->is_asked);
+	struct strm_queue_info info;
+	return q->q_first && q->q_qinfo->qi_srvp && strm_queue_info(AT(q), &info) == STRM_OK && !info.enabled &&
+		!(q->q_next && decides(q->q_next)->q_layer->is_asked);
 }
 
 /* Reports a service procedure for which an allocb failed, if nothing is to run it again. */
 static void check_sleep(queue_t *q, const struct strm_ddi_place *failed)
 {
-	if (!failed->file || ddi_pending_count > 0 || !is_asleep(q))
+	if (!failed->file || pending_count > 0 || !is_asleep(q))
 		return;
 	strm_ddi_at = *failed;
 	ddi_misuse("allocb", (struct block *)q->q_first, "it failed, and the service procedure left messages without a bufcall, a timeout or a qenable");
@@ -647,16 +598,30 @@ void ddi_check_left(queue_t *q)
 			ddi_side(q));
 }
 
+/* Reports what is to run after a module was closed. */
+void ddi_check_pending(queue_t *pair, const void *private)
+{
+	for (struct pending *at = pending; at < pending + MOST_PENDING; at++)
+		if (at->id && (at->q == pair || at->q == pair + 1 || at->argument == pair || at->argument == pair + 1 ||
+			(private && at->argument == private))) {
+			strm_ddi_at = at->at;
+			ddi_misuse(at->id > 0 ? "bufcall" : "timeout", NULL, "it waits, and %s is closed", ddi_module(pair));
+			if (at->id > 0)
+				strm_unbufcall(&ddi_pools[0].pool, (uint32_t)at->id);
+			untimeout(at->id);
+		}
+}
+
 /* The next queue that is enabled and has a service procedure. The pools take turns. */
 static queue_t *next_service(void)
 {
 	static int turn;
 	uint32_t number;
 	for (int k = 0; k < ddi_pool_count; k++) {
-		struct pool *pool = &ddi_pools[turn++ % ddi_pool_count];
+		struct pool *pool = &ddi_pools[turn = turn + 1 < ddi_pool_count ? turn + 1 : 0];
 		while (strm_next_service(&pool->pool, &number) == STRM_OK)
-			if (pool->queue_at[number] && pool->queue_at[number]->q_qinfo->qi_srvp)
-				return pool->queue_at[number];
+			if (pool->queues[number] && pool->queues[number]->q_qinfo->qi_srvp)
+				return pool->queues[number];
 	}
 	return NULL;
 }
@@ -664,13 +629,14 @@ static queue_t *next_service(void)
 int ddi_serve(void)
 {
 	struct frame frame;
-	queue_t *q;
-	ddi_enter(&frame, NULL, "scheduler");
-	if ((q = next_service()) != NULL)
-		END_CALL("queue %q", "service", q);
-	ddi_frame = frame.before;
+	queue_t *q = next_service();
 	if (!q)
 		return 0;
+	if (ddi_traced) {
+		ddi_enter(&frame, NULL, "scheduler");
+		ddi_trace_end("queue %q", "service", q);
+		ddi_frame = frame.before;
+	}
 	ddi_enter(&frame, q, ddi_service);
 	q->q_qinfo->qi_srvp(q);
 	check_sleep(q, &frame.failed);
@@ -688,14 +654,11 @@ int str_run(void)
 
 int str_wait(clock_t ticks)
 {
-	clock_t end = now + ticks, next;
+	clock_t end = strm_ddi_now + ticks;
 	int count = str_run();
-	for (; now < end; count += str_run()) {
-		next = end;
-		for (int k = 0; k < MOST_PENDING; k++)
-			if (pending[k].id < 0 && pending[k].when < next)
-				next = pending[k].when;
-		now = next;
+	for (struct pending *next; strm_ddi_now < end; count += str_run()) {
+		next = due(end);
+		strm_ddi_now = next ? next->when : end;
 	}
 	return count;
 }
@@ -704,35 +667,8 @@ void qwait(queue_t *q)
 {
 	struct frame *inside = ddi_frame;
 	(void)q;
-	ddi_frame = NULL;
+	ddi_frame = &test;
 	if (!ddi_serve() && !call_ready() && !str_wait(1500))
 		ddi_misuse("qwait", NULL, "nothing came in 15 s");
 	ddi_frame = inside;
-}
-
-clock_t ddi_get_lbolt(void)
-{
-	return now;
-}
-
-int drv_getparm(uint_t what, void *value)
-{
-	if (what != LBOLT)
-		return -1;
-	*(clock_t *)value = now;
-	return 0;
-}
-
-/* Reports what is to run after a module was closed. */
-void ddi_check_pending(queue_t *pair, const void *private)
-{
-	for (struct pending *at = pending; at < pending + MOST_PENDING; at++)
-		if (at->id && (at->q == pair || at->q == pair + 1 || at->argument == pair || at->argument == pair + 1 ||
-			(private && at->argument == private))) {
-			strm_ddi_at = at->at;
-			ddi_misuse(at->wish ? "bufcall" : "timeout", NULL, "it waits, and %s is closed", ddi_module(pair));
-			if (at->wish)
-				strm_unbufcall(&ddi_pools[0].pool, at->wish);
-			untimeout(at->id);
-		}
 }

@@ -8,56 +8,43 @@
 #define QUEUE_NEXT '\1'
 
 FILE *ddi_traced;
-static queue_t *queues[STRM_MOST_QUEUES];
-static int queue_count, is_over;
-static char said[128];
-
-static void stop(const char *why)
-{
-	fprintf(stderr, "strm_ddi: the trace ends before: %s\n", why);
-	is_over = 1;
-	ddi_trace_close();
-}
+static queue_t *queues[STRM_MOST_QUEUES], *in_order[STRM_MOST_QUEUES];
+static int queue_count;
+static char said[41];
 
 void ddi_trace_open(void)
 {
-	queue_count = is_over = 0;
+	queue_count = 0;
 	said[0] = 0;
 	if (getenv("STRM_DDI_TRACE"))
 		ddi_traced = tmpfile();
 }
 
+static int index_of(const queue_t *q, queue_t *const in[])
+{
+	int k = 0;
+	while (k < queue_count && in[k] != q)
+		k++;
+	return k;
+}
+
 /* Gives a pair of queues places. The queues of a stream head that is linked below a driver have theirs. */
 void ddi_trace_queues(queue_t *pair)
 {
-	int is_new = 1;
-	for (int k = 0; k < queue_count; k++)
-		if (queues[k] == pair || queues[k] == pair + 1) {
-			queues[k]->q_layer->told = k;
-			is_new = 0;
-		}
-	for (int side = 0; ddi_traced && is_new && side < 2; side++) {
-		if (queue_count == STRM_MOST_QUEUES) {
-			stop("it has at most 16 queues");
-			return;
-		}
-		pair[side].q_layer->told = queue_count;
-		queues[queue_count++] = &pair[side];
+	if (!ddi_traced || index_of(pair, queues) < queue_count)
+		return;
+	if (queue_count == STRM_MOST_QUEUES) {
+		fputs("strm_ddi: the trace ends before: it has at most 16 queues\n", stderr);
+		ddi_trace_close();
+		return;
 	}
+	queues[queue_count++] = &pair[0];
+	queues[queue_count++] = &pair[1];
 }
 
 static struct told as_it_is(const struct block *b)
 {
-	struct told told;
-	memset(&told, 0, sizeof told);
-	told.is_held = b->where == HELD;
-	told.cont = b->m.b_cont;
-	told.read = b->m.b_rptr;
-	told.write = b->m.b_wptr;
-	told.data = b->m.b_datap;
-	told.band = b->m.b_band;
-	told.type = b->m.b_datap->db_type;
-	return told;
+	return (struct told){ b->m.b_cont, b->m.b_rptr, b->m.b_wptr, b->m.b_datap, b->m.b_band, b->m.b_datap->db_type, b->where == HELD };
 }
 
 /* Whether the bytes of a block, up to its write place, are others than the trace has. */
@@ -85,7 +72,7 @@ static void tell_bytes(const struct block *b)
 		first++;
 	while (base[last - 1] == told[last - 1])
 		last--;
-	fprintf(ddi_traced, "b %u %td ", b->data->number, first);
+	fprintf(ddi_traced, "b %td %td ", b->data - ddi_pools[0].data, first);
 	for (ptrdiff_t k = first; k < last; k++)
 		fprintf(ddi_traced, "%02x", base[k]);
 	fputc('\n', ddi_traced);
@@ -95,14 +82,14 @@ static void tell_bytes(const struct block *b)
 static void tell_block(char mark, struct block *b)
 {
 	const mblk_t *mp = &b->m;
-	struct data *d = b->data;
-	if (!d->is_told)
-		fprintf(ddi_traced, "c %u %u\n", d->number, d->size);
-	d->is_told = 1;
+	ptrdiff_t next = mp->b_cont ? (struct block *)mp->b_cont - ddi_blocks : -1, data = b->data - ddi_pools[0].data;
+	if (!b->data->is_told)
+		fprintf(ddi_traced, "c %td %u\n", data, b->data->size);
+	b->data->is_told = 1;
 	if (has_new_bytes(b))
 		tell_bytes(b);
-	fprintf(ddi_traced, "%c %td %td %u %td %td %s %d\n", mark, b - ddi_blocks, mp->b_cont ? (struct block *)mp->b_cont - ddi_blocks : -1, d->number,
-		mp->b_rptr - d->d.db_base, mp->b_wptr - d->d.db_base, ddi_type_name(d->d.db_type), mp->b_band);
+	fprintf(ddi_traced, "%c %td %td %td %td %td %s %d\n", mark, b - ddi_blocks, next, data, MBLKHEAD(mp), mp->b_wptr - DB_BASE(mp),
+		ddi_type_name(DB_TYPE(mp)), mp->b_band);
 	b->told = as_it_is(b);
 }
 
@@ -110,19 +97,22 @@ static void tell_block(char mark, struct block *b)
 static const char *label_of(const queue_t *q)
 {
 	static char label[32];
-	int pair = q->q_layer->told & ~1, same = 1;
-	for (int k = 0; k < pair; k += 2)
+	int same = 1;
+	for (int k = 0; queues[k] != RD(q); k += 2)
 		same += strcmp(ddi_module(queues[k]), ddi_module(q)) == 0;
 	snprintf(label, sizeof label, same > 1 ? "%.20s/%d" : "%.20s", ddi_module(q), same);
 	return label;
 }
 
 /* Prints who calls, if it is another caller than before. */
-void ddi_trace_caller(void)
+static void tell_caller(void)
 {
-	const queue_t *q = ddi_frame ? ddi_frame->q : NULL;
+	const queue_t *q = ddi_frame->q;
 	char label[sizeof said];
-	snprintf(label, 41, "%s%s%s%s%s", q ? label_of(q) : "", q ? " " : "", ddi_side(q), q ? " " : "", ddi_frame ? ddi_frame->procedure : "head");
+	if (q)
+		snprintf(label, sizeof label, "%s %s %s", label_of(q), ddi_side(q), ddi_frame->as.procedure);
+	else
+		snprintf(label, sizeof label, "%s", ddi_frame->before ? ddi_frame->as.procedure : "head");
 	if (strcmp(label, said) != 0)
 		fprintf(ddi_traced, "#: caller %s\n", label);
 	strcpy(said, label);
@@ -134,7 +124,7 @@ void ddi_trace_begin(void)
 	for (struct block *b = ddi_blocks; b < ddi_blocks + ddi_block_count; b++)
 		if (b->where == HELD && is_changed(b)) {
 			int is_shared = b->data->references > 1 && (has_new_bytes(b) || b->m.b_datap->db_type != b->told.type);
-			ddi_trace_caller();
+			tell_caller();
 			tell_block('~', b);
 			if (is_shared)
 				ddi_misuse("a pointer", b, "the module changed a data block to which %d message blocks refer", b->data->references);
@@ -159,7 +149,7 @@ static void tell_value(char kind, va_list *values)
 		if ((mp = va_arg(*values, mblk_t *)) != NULL)
 			fprintf(ddi_traced, "%td", (const struct block *)mp - ddi_blocks);
 	} else if (kind == 'q') {
-		fprintf(ddi_traced, "%c%c", QUEUE_NEXT, 'a' + va_arg(*values, queue_t *)->q_layer->told);
+		fprintf(ddi_traced, "%c%c", QUEUE_NEXT, 'a' + index_of(va_arg(*values, queue_t *), queues));
 	} else if (kind == 'l') {
 		fprintf(ddi_traced, "%ld", va_arg(*values, long));
 	} else if (kind == 'd') {
@@ -182,8 +172,8 @@ static void tell(const char *format, va_list *values)
 void ddi_trace_end(const char *reply, const char *format, ...)
 {
 	va_list values;
-	ddi_trace_caller();
-	fprintf(ddi_traced, "! %s ", ddi_frame && ddi_frame->q ? ddi_module(ddi_frame->q) : "head");
+	tell_caller();
+	fprintf(ddi_traced, "! %s ", ddi_frame->q ? ddi_module(ddi_frame->q) : "head");
 	va_start(values, format);
 	tell(format, &values);
 	fputs(" | ", ddi_traced);
@@ -217,33 +207,28 @@ const char *ddi_reply(int code)
 /* ---- the header and the report */
 
 /* Numbers the queues: each stream's from the first one on, to which none leads. */
-static void number_queues(int numbers[STRM_MOST_QUEUES], queue_t *in_order[STRM_MOST_QUEUES])
+static void number_queues(void)
 {
 	int count = 0;
 	for (int k = 0; k < queue_count; k++) {
 		int is_led_to = 0;
 		for (int other = 0; other < queue_count; other++)
 			is_led_to |= queues[other]->q_next == queues[k];
-		for (queue_t *q = is_led_to ? NULL : queues[k]; q; q = q->q_next) {
-			in_order[count] = q;
-			numbers[q->q_layer->told] = count++;
-		}
+		for (queue_t *q = is_led_to ? NULL : queues[k]; q; q = q->q_next)
+			in_order[count++] = q;
 	}
 }
 
-static void write_header(FILE *out, queue_t *in_order[], const int numbers[])
+static void write_header(FILE *out)
 {
-	struct strm_class_info info;
-	struct strm_census census;
-	strm_census(&ddi_pools[0].pool, &census);
-	fprintf(out, "h pool 1 %u\n", census.free + census.queued + census.held);
-	for (uint32_t c = 0; strm_class_info(&ddi_pools[0].pool, c, &info) == STRM_OK; c++)
-		fprintf(out, "h class %u %u\n", info.size, info.total);
+	fprintf(out, "h pool 1 %u\n", ddi_config.mblks);
+	for (size_t c = 0; c < ddi_config.class_count; c++)
+		fprintf(out, "h class %u %u\n", ddi_config.classes[c].size, ddi_config.classes[c].count);
 	for (int k = 0; k < queue_count; k++) {
 		const queue_t *q = in_order[k];
 		fprintf(out, "h queue %u %u %c ", q->q_layer->marks.hiwat, q->q_layer->marks.lowat, q->q_qinfo->qi_srvp ? 's' : 'n');
 		if (q->q_next)
-			fprintf(out, "%d\n", numbers[q->q_next->q_layer->told]);
+			fprintf(out, "%d\n", index_of(q->q_next, in_order));
 		else
 			fputs("-\n", out);
 	}
@@ -251,73 +236,67 @@ static void write_header(FILE *out, queue_t *in_order[], const int numbers[])
 	for (int k = 0; k < queue_count; k++)
 		fprintf(out, "#: queue %d %s %s\n", k, label_of(in_order[k]), ddi_side(in_order[k]));
 	for (int k = 0; k < queue_count; k += 2)
-		fprintf(out, "#: module %s %d %d\n", label_of(queues[k]), numbers[k + 1], numbers[k]);
+		fprintf(out, "#: module %s %d %d\n", label_of(queues[k]), index_of(queues[k + 1], in_order), index_of(queues[k], in_order));
 }
 
 static void write_queue(FILE *out, int number, const queue_t *q)
 {
+	const struct strm_pool *pool = &ddi_pools[0].pool;
 	struct strm_queue_info info = { .read = 1 };
 	struct strm_band_info band;
-	const struct strm_pool *pool = &ddi_pools[q->q_layer->pool].pool;
-	uint32_t own = (uint32_t)q->q_layer->number;
-	if (q->q_layer->number >= 0)
-		strm_queue_info(pool, own, &info);
+	if (q->q_layer->pool)
+		strm_queue_info(pool, q->q_layer->number, &info);
 	fprintf(out, "r queue %d msgs=%u bytes=%u read=%u noenable=%u enabled=%u\n", number, info.msgs, info.bytes, info.read,
 		q->q_qinfo->qi_srvp ? info.noenable : 0, q->q_qinfo->qi_srvp ? info.enabled : 0);
 	for (uint32_t b = STRM_BANDS; info.msgs > 0 && b-- > 0;)
-		if (strm_band_info(pool, own, b, &band) == STRM_OK && band.bytes > 0)
+		if (strm_band_info(pool, q->q_layer->number, b, &band) == STRM_OK && band.bytes > 0)
 			fprintf(out, "r band %u bytes=%u full=%u wanted=%u\n", b, band.bytes, band.full, band.wanted);
 }
 
-static void write_report(FILE *out, queue_t *in_order[], const int numbers[])
+static void write_report(FILE *out)
 {
+	const struct strm_pool *pool = &ddi_pools[0].pool;
 	struct strm_class_info info;
 	struct strm_census census;
 	struct strm_wish wish;
 	uint32_t at, number;
 	int count = 0;
-	strm_census(&ddi_pools[0].pool, &census);
-	fprintf(out, "r blocks free=%u queued=%u held=%u total=%u\n", census.free, census.queued, census.held, census.free + census.queued + census.held);
-	for (uint32_t c = 0; strm_class_info(&ddi_pools[0].pool, c, &info) == STRM_OK; c++)
+	strm_census(pool, &census);
+	fprintf(out, "r blocks free=%u queued=%u held=%u total=%u\n", census.free, census.queued, census.held, ddi_config.mblks);
+	for (uint32_t c = 0; strm_class_info(pool, c, &info) == STRM_OK; c++)
 		fprintf(out, "r data size=%u free=%u total=%u\n", info.size, info.free, info.total);
 	for (int k = 0; k < queue_count; k++)
 		write_queue(out, k, in_order[k]);
 	fputs("r run", out);
-	for (at = 0; strm_run_at(&ddi_pools[0].pool, at, &number) == STRM_OK; at++) {
-		const queue_t *q = ddi_pools[0].queue_at[number];
+	for (at = 0; strm_run_at(pool, at, &number) == STRM_OK; at++) {
+		const queue_t *q = ddi_pools[0].queues[number];
 		if (q && q->q_qinfo->qi_srvp && count++ >= 0)
-			fprintf(out, " %d", numbers[q->q_layer->told]);
+			fprintf(out, " %d", index_of(q, in_order));
 	}
 	fputs(count > 0 ? "\nr wishes" : " -\nr wishes", out);
-	for (at = 0; strm_wish_at(&ddi_pools[0].pool, at, &wish) == STRM_OK; at++)
+	for (at = 0; strm_wish_at(pool, at, &wish) == STRM_OK; at++)
 		fprintf(out, " %u:%u", wish.id, wish.size);
 	fputs(at > 0 ? "\n" : " -\n", out);
 }
 
 void ddi_trace_close(void)
 {
-	int numbers[STRM_MOST_QUEUES], c;
-	queue_t *in_order[STRM_MOST_QUEUES];
 	FILE *body = ddi_traced, *out = body ? fopen(getenv("STRM_DDI_TRACE"), "w") : NULL;
+	int c;
 	if (out) {
 		ddi_trace_begin();
-		number_queues(numbers, in_order);
-		write_header(out, in_order, numbers);
+		number_queues();
+		write_header(out);
 		rewind(body);
 		while ((c = getc(body)) != EOF)
 			if (c == QUEUE_NEXT)
-				fprintf(out, "%d", numbers[getc(body) - 'a']);
+				fprintf(out, "%d", index_of(queues[getc(body) - 'a'], in_order));
 			else
 				putc(c, out);
-		write_report(out, in_order, numbers);
+		write_report(out);
 		fclose(out);
 	}
 	if (body)
 		fclose(body);
 	ddi_traced = NULL;
-	for (int pool = 0; pool < ddi_pool_count; pool++)
-		for (struct data *d = ddi_pools[pool].data; d && body && d < ddi_pools[pool].data + ddi_pools[pool].data_count; d++) {
-			free(d->told);
-			d->told = NULL;
-		}
 }

@@ -226,6 +226,54 @@ static void send_signal(strhead_t *head)
 	put(str_queue(head, 1) + 1, mp);
 }
 
+static char order[8];
+
+static void note(void *letter)
+{
+	strcat(order, letter);
+}
+
+/* A queue has what a module changed of a chain through pointers; a flush frees more messages than are taken at once; timeouts come in order. */
+static void test_queue(void)
+{
+	strhead_t *head;
+	queue_t *q;
+	mblk_t *mp, *last;
+	size_t count = 0;
+
+	CHECK(str_init(NULL) == 0 && str_open(&echoinfo, 0, 0, &head) == 0);
+	q = WR(str_queue(head, 1));
+	mp = allocb(10, BPRI_MED);
+	for (int k = 0; k < 3; k++)
+		linkb(mp, allocb(10, BPRI_MED));
+	last = mp->b_cont->b_cont;
+	mp->b_cont->b_wptr += 7;
+	last->b_rptr += 2;
+	last->b_wptr += 5;
+	last->b_datap->db_type = M_PROTO;
+	putq(q, mp);
+	CHECK(strqget(q, QCOUNT, 0, &count) == 0 && count == 10 && q->q_count == 10);
+	CHECK(getq(q) == mp && strqget(q, QCOUNT, 0, &count) == 0 && count == 0 && q->q_count == 0 && DB_TYPE(last) == M_PROTO);
+	last = copymsg(mp);
+	CHECK(last && MBLKHEAD(last->b_cont->b_cont) == 2 && MBLKL(last->b_cont->b_cont) == 3 && DB_TYPE(last->b_cont->b_cont) == M_PROTO);
+	freemsg(last);
+	freemsg(mp);
+	for (int k = 0; k < 300; k++) {
+		mp = allocb(1, BPRI_MED);
+		mp->b_band = (uchar_t)(k % 2);
+		putq(q, mp);
+	}
+	flushband(q, 1, FLUSHALL);
+	CHECK(qsize(q) == 150 && q->q_first->b_band == 0);
+	flushq(q, FLUSHALL);
+	CHECK(qsize(q) == 0 && !q->q_first && q->q_count == 0);
+	timeout(note, "c", 5);
+	timeout(note, "a", 2);
+	timeout(note, "b", 2);
+	CHECK(str_wait(4) == 3 && str_wait(1) == 1 && strcmp(order, "abc") == 0);
+	CHECK(str_close(head) == 0 && str_fini() == 0);
+}
+
 static void test_perimeter(void)
 {
 	strhead_t *head;
@@ -273,6 +321,7 @@ int main(int count, char **words)
 	test_order();
 	test_flow();
 	test_many_queues();
+	test_queue();
 	test_perimeter();
 	test_copying();
 	printf("%d passed, %d failed\n", passed, failed);

@@ -10,6 +10,7 @@ static struct strm_config config;
 static queue_t *queues[STRM_MOST_QUEUES];
 static mblk_t *registers[26];
 static char line[40000], *words[8];
+static uchar_t bytes[64 * STRM_MOST_DATA_BYTES];
 static int number, count;
 
 static int nothing(queue_t *q, mblk_t *mp)
@@ -115,18 +116,12 @@ static const char *typed(mblk_t *bp, int type)
 	return "ok";
 }
 
-static void show_bytes(const mblk_t *mp, size_t from)
+static void show_bytes(size_t from, size_t size)
 {
-	size_t shown = 0;
-
-	fputs("bytes ", stdout);
-	for (; mp && shown < 64; mp = mp->b_cont)
-		for (size_t at = 0; at < (size_t)MBLKL(mp) && shown < 64; at++)
-			if (from > 0)
-				from--;
-			else if (++shown > 0)
-				printf("%02x", mp->b_rptr[at]);
-	puts(shown > 0 ? "" : "-");
+	fputs(from < size ? "bytes " : "bytes -", stdout);
+	for (size_t at = from; at < size && at < from + 64; at++)
+		printf("%02x", bytes[at]);
+	puts("");
 }
 
 static void show_block(const mblk_t *bp)
@@ -194,9 +189,9 @@ static const char *call_on_message(const char *word)
 	if (strcmp(word, "msgdsize") == 0)
 		return printf("size %zu\n", msgdsize(mp)), NULL;
 	if (strcmp(word, "size") == 0)
-		return printf("size %zu\n", ddi_size(mp)), NULL;
+		return printf("size %zu\n", ddi_copy_out(mp, bytes, sizeof bytes)), NULL;
 	if (strcmp(word, "read") == 0)
-		return show_bytes(mp, value(2)), NULL;
+		return show_bytes(value(2), ddi_copy_out(mp, bytes, sizeof bytes)), NULL;
 	if (strcmp(word, "block") == 0)
 		return show_block(block_of(mp, value(2))), NULL;
 	return "";
@@ -269,14 +264,14 @@ static void report(void)
 		printf("data size=%u free=%u total=%u\n", class.size, class.free, class.total);
 	for (uint32_t k = 0; k < config.queue_count; k++) {
 		qsize(queues[k]);
-		strm_queue_info(&ddi_pools[0].pool, (uint32_t)queues[k]->q_layer->number, &info);
+		strm_queue_info(&ddi_pools[0].pool, queues[k]->q_layer->number, &info);
 		printf("queue %u msgs=%u bytes=%u read=%u noenable=%u enabled=%u\n", k, info.msgs, info.bytes, info.read,
 			specs[k].service ? info.noenable : 0, specs[k].service ? info.enabled : 0);
 	}
 	fputs("run", stdout);
 	for (uint32_t at = 0, queue; strm_run_at(&ddi_pools[0].pool, at, &queue) == STRM_OK; at++)
 		for (uint32_t k = 0; k < config.queue_count; k++)
-			if (queues[k]->q_layer->number == (int)queue && specs[k].service)
+			if (queues[k]->q_layer->number == queue && specs[k].service)
 				printf(" %u%n", k, &any);
 	puts(any ? "\nwishes -" : " -\nwishes -");
 }

@@ -161,13 +161,12 @@ void freeb(mblk_t *mp), freemsg(mblk_t *mp), linkb(mblk_t *mp, mblk_t *tail), rm
 int pullupmsg(mblk_t *mp, ssize_t length), adjmsg(mblk_t *mp, ssize_t length), testb(size_t size, uint_t priority);
 size_t msgdsize(mblk_t *mp);
 int putq(queue_t *q, mblk_t *mp), putbq(queue_t *q, mblk_t *mp), insq(queue_t *q, mblk_t *before, mblk_t *mp), qsize(queue_t *q);
-void flushq(queue_t *q, int flag), flushband(queue_t *q, uchar_t band, int flag);
 int bcanput(queue_t *q, uchar_t band), strqset(queue_t *q, qfields_t what, uchar_t band, long value);
 int strqget(queue_t *q, qfields_t what, uchar_t band, void *value);
-void qenable(queue_t *q), noenable(queue_t *q), enableok(queue_t *q);
+void qenable(queue_t *q), noenable(queue_t *q), enableok(queue_t *q), strm_ddi_flush(queue_t *q, int band, int flag);
 queue_t *backq(queue_t *q);
-void put(queue_t *q, mblk_t *mp), putnext(queue_t *q, mblk_t *mp), qreply(queue_t *q, mblk_t *mp);
-int putctl(queue_t *q, int type), putctl1(queue_t *q, int type, int byte);
+void put(queue_t *q, mblk_t *mp), putnext(queue_t *q, mblk_t *mp);
+int strm_ddi_putctl(queue_t *q, int type, int byte, int count);
 void qwriter(queue_t *q, mblk_t *mp, void (*function)(), int scope), qwait(queue_t *q);
 enum { PERIM_INNER = 1, PERIM_OUTER };
 enum { D_MTQPAIR = 0x100, D_MTPERQ = 0x200, D_MTPERMOD = 0x400 };
@@ -175,7 +174,8 @@ enum { D_MTQPAIR = 0x100, D_MTPERQ = 0x200, D_MTPERMOD = 0x400 };
 #define D_MP 0x20
 #endif
 timeout_id_t qtimeout(queue_t *q, void (*function)(void *), void *argument, clock_t ticks);
-clock_t untimeout(timeout_id_t id), ddi_get_lbolt(void);
+clock_t untimeout(timeout_id_t id);
+extern clock_t strm_ddi_now;		/* ticks, which grow as time passes */
 bufcall_id_t qbufcall(queue_t *q, size_t size, uint_t priority, void (*function)(void *), void *argument);
 void unbufcall(bufcall_id_t id);
 
@@ -187,7 +187,6 @@ int bcmp(const void *one, const void *other, size_t size);
 enum { CE_CONT, CE_NOTE, CE_WARN, CE_PANIC };
 void cmn_err(int level, const char *format, ...);
 enum { LBOLT = 1 };
-int drv_getparm(uint_t what, void *value);
 
 /* ---- The file and the line of each call, for reports. A module that declares routines itself is compiled with -DSTRM_DDI_NO_LINES. */
 
@@ -220,13 +219,10 @@ void mutex_enter(kmutex_t *mutex), mutex_exit(kmutex_t *mutex);
 #define insq(q, before, mp) (STRM_DDI_AT, insq(q, before, mp))
 #define getq(q) (STRM_DDI_AT, getq(q))
 #define rmvq(q, mp) (STRM_DDI_AT, rmvq(q, mp))
-#define flushq(q, flag) (STRM_DDI_AT, flushq(q, flag))
-#define flushband(q, band, flag) (STRM_DDI_AT, flushband(q, band, flag))
+#define strm_ddi_flush(q, band, flag) (STRM_DDI_AT, strm_ddi_flush(q, band, flag))
 #define put(q, mp) (STRM_DDI_AT, put(q, mp))
 #define putnext(q, mp) (STRM_DDI_AT, putnext(q, mp))
-#define qreply(q, mp) (STRM_DDI_AT, qreply(q, mp))
-#define putctl(q, type) (STRM_DDI_AT, putctl(q, type))
-#define putctl1(q, type, byte) (STRM_DDI_AT, putctl1(q, type, byte))
+#define strm_ddi_putctl(q, type, byte, count) (STRM_DDI_AT, strm_ddi_putctl(q, type, byte, count))
 #define qwriter(q, mp, function, scope) (STRM_DDI_AT, qwriter(q, mp, function, scope))
 #define qtimeout(q, function, argument, ticks) (STRM_DDI_AT, qtimeout(q, function, argument, ticks))
 #define qbufcall(q, size, priority, function, argument) (STRM_DDI_AT, qbufcall(q, size, priority, function, argument))
@@ -241,8 +237,13 @@ void mutex_enter(kmutex_t *mutex), mutex_exit(kmutex_t *mutex);
 #define canput(q) bcanput(q, 0)
 #define bcanputnext(q, band) bcanput((q)->q_next, band)
 #define canputnext(q) bcanput((q)->q_next, 0)
+#define qreply(q, mp) putnext(OTHERQ(q), mp)
+#define putctl(q, type) strm_ddi_putctl(q, type, 0, 0)
+#define putctl1(q, type, byte) strm_ddi_putctl(q, type, byte, 1)
 #define putnextctl(q, type) putctl((q)->q_next, type)
 #define putnextctl1(q, type, byte) putctl1((q)->q_next, type, byte)
+#define flushq(q, flag) strm_ddi_flush(q, -1, flag)
+#define flushband(q, band, flag) strm_ddi_flush(q, (uchar_t)(band), flag)
 #define appq(q, after, mp) insq(q, (after) ? (after)->b_next : (q)->q_first, mp)
 #define allocb_wait(size, priority, flags, error) allocb(size, priority)
 #define allocb_cred(size, credentials, pid) allocb(size, BPRI_MED)
@@ -256,6 +257,8 @@ void mutex_enter(kmutex_t *mutex), mutex_exit(kmutex_t *mutex);
 #define qunbufcall(q, id) unbufcall(id)
 #define qwait_sig(q) (qwait(q), 1)
 #define drv_priv(credentials) 0
+#define ddi_get_lbolt() strm_ddi_now
+#define drv_getparm(what, value) ((what) == LBOLT ? (*(clock_t *)(value) = strm_ddi_now, 0) : -1)
 #define getmajor(device) ((major_t)((device) >> 18))
 #define getminor(device) ((minor_t)((device) & 0x3ffff))
 #define makedevice(major, minor) ((dev_t)(major) << 18 | (minor))

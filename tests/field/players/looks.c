@@ -4,10 +4,10 @@
 /* The most bytes of a reply. */
 #define PIECE 64
 
-static void look_at_size(mblk_t *mp)
+static void look_at_size(mblk_t *mp, size_t size)
 {
     BEGIN_CALL();
-    END_CALL("size %l", "size %f", mp, (long)ddi_size(mp));
+    END_CALL("size %l", "size %f", mp, (long)size);
 }
 
 static void look_at_block(mblk_t *mp, const mblk_t *bp, int place)
@@ -19,38 +19,28 @@ static void look_at_block(mblk_t *mp, const mblk_t *bp, int place)
     END_CALL(reply, "block %f %d", mp, place);
 }
 
-/* Writes the byte of a message at a place in hexadecimal. Returns whether there is one. */
-static int write_byte(char *text, const mblk_t *mp, ptrdiff_t at)
-{
-    while (mp && at >= MBLKL(mp)) {
-        at -= MBLKL(mp);
-        mp = mp->b_cont;
-    }
-    if (mp)
-        sprintf(text, "%02x", mp->b_rptr[at]);
-    return mp != NULL;
-}
-
-static void look_at_bytes(mblk_t *mp, int at)
+/* Shows at most PIECE of the bytes from a place on. */
+static void look_at_bytes(mblk_t *mp, const u_char *bytes, size_t at, size_t size)
 {
     char reply[8 + 2 * PIECE] = "bytes -";
-    int count = 0;
     BEGIN_CALL();
-    while (count < PIECE && write_byte(reply + strlen("bytes ") + 2 * count, mp, at + count))
-        count++;
-    END_CALL(reply, "read %f %d", mp, at);
+    for (size_t k = at; k < size && k < at + PIECE; k++)
+        sprintf(reply + strlen("bytes ") + 2 * (k - at), "%02x", bytes[k]);
+    END_CALL(reply, "read %f %d", mp, (int)at);
 }
 
 void look(mblk_t *mp)
 {
-    int place = 0, size = (int)ddi_size(mp);
-    look_at_size(mp);
+    static u_char bytes[64 * STRM_MOST_DATA_BYTES];
+    size_t size = ddi_copy_out(mp, bytes, sizeof bytes);
+    int place = 0;
+    look_at_size(mp, size);
     msgdsize(mp);
     for (const mblk_t *bp = mp; bp; bp = bp->b_cont)
         look_at_block(mp, bp, place++);
     look_at_block(mp, NULL, place);
-    for (int at = 0; at <= size; at += PIECE)
-        look_at_bytes(mp, at);
+    for (size_t at = 0; at <= size; at += PIECE)
+        look_at_bytes(mp, bytes, at, size);
 }
 
 void each(void (*function)(queue_t *q))
