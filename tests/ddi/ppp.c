@@ -1,5 +1,6 @@
-/* Tested, not proved: passes frames through ppp_ahdlc.c, and packets through ppp.c as a multiplexer over ppp_comp.c and ppp_ahdlc.c. These are ppp's
- * STREAMS modules, as they are. */
+/* Tested, not proved: passes frames through ppp_ahdlc.c, packets through ppp.c as a multiplexer over ppp_comp.c and ppp_ahdlc.c, and those of SunOS 4
+ * through if_ppp.c over both. These are ppp's STREAMS modules, as they are. */
+#define WITH_NETWORK
 #include "modules.h"
 
 #include <strm_ddi.h>
@@ -12,7 +13,8 @@
 #include <net/ppp_defs.h>
 #include <net/pppio.h>
 
-extern struct streamtab pppinfo, pcmpinfo, phdlinfo;
+extern struct streamtab pppinfo, pcmpinfo, phdlinfo, if_pppinfo;
+int if_ppp_unload(void);
 time_t kernel_time;
 
 static int passed, failed;
@@ -130,10 +132,107 @@ static void test_multiplexer(void)
 	CHECK(str_fini() == 2); /* ppp.c never frees an M_CTL of a link, nor the M_PROTO of an attachment */
 }
 
+struct ifqueue ipintrq = { NULL, &ipintrq.first, IFQ_MAXLEN, 0 };
+struct ifnet *ifnet;
+struct inpcb tcb = { .inp_next = &tcb }, udb = { .inp_next = &udb };
+struct in_ifaddr *in_ifaddr;
+
+void if_attach(struct ifnet *ifp)
+{
+	ifnet = ifp;
+}
+
+void m_freem(struct mbuf *m)
+{
+	while (m) {
+		struct mbuf *next = m->m_next;
+		kmem_free(m, sizeof *m);
+		m = next;
+	}
+}
+
+/* Has the network send a packet to an address of a family: small mbufs and large ones in turn. */
+static int output(const unsigned char *packet, int size, int family)
+{
+	struct sockaddr to = { .sa_family = (sa_family_t)family };
+	struct mbuf *first = NULL, **last = &first;
+
+	for (int at = 0, part; at < size; at += part) {
+		MGET(*last, 0, 0);
+		if (at % 2)
+			MCLGET(*last);
+		part = at % 2 ? 901 : 61;
+		part = part < size - at ? part : size - at;
+		memcpy(mtod(*last, unsigned char *), packet + at, (size_t)part);
+		(*last)->m_len = part;
+		last = &(*last)->m_next;
+	}
+	return ifnet->if_output(ifnet, first, &to);
+}
+
+/* Whether the first packet that came for the network is this one, of the interface. Takes it. */
+static int came(const unsigned char *packet, int size)
+{
+	struct mbuf *first = ipintrq.first;
+	int at = -(int)sizeof ifnet, is_same = first && memcmp(mtod(first, char *), &ifnet, sizeof ifnet) == 0;
+
+	if (!first)
+		return 0;
+	for (struct mbuf *m = first; m; m = m->m_next) {
+		int skipped = at < 0 ? -at : 0;
+		is_same = is_same && at + m->m_len <= size && memcmp(mtod(m, char *) + skipped, packet + at + skipped, (size_t)(m->m_len - skipped)) == 0;
+		at += m->m_len;
+	}
+	if ((ipintrq.first = first->m_act) == NULL)
+		ipintrq.last = &ipintrq.first;
+	ipintrq.count--;
+	m_freem(first);
+	return is_same && at == size;
+}
+
+static void test_interface(void)
+{
+	strhead_t *head;
+	unsigned char packet[1400];
+	unsigned map = 0;
+	int unit = 2, same = 0, value;
+	size_t length = sizeof unit;
+	struct ifnet *interface;
+
+	CHECK(str_init(NULL) == 0 && str_open(&echoinfo, 0, 0, &head) == 0);
+	CHECK(str_push(head, &phdlinfo) == 0 && str_push(head, &pcmpinfo) == 0 && str_push(head, &if_pppinfo) == 0);
+	CHECK(str_ioctl(head, PPPIO_XACCM, &map, &length, sizeof map, &value) == 0);
+	length = sizeof unit;
+	CHECK(str_ioctl(head, PPPIO_NEWPPA, &unit, &length, 0, &value) == 0 && ifnet && ifnet->if_unit == unit);
+	length = sizeof unit;
+	CHECK(str_ioctl(head, PPPIO_NEWPPA, &unit, &length, 0, &value) == EINVAL && if_ppp_unload() == EBUSY);
+	CHECK(output(packet, 20, AF_INET) == ENETDOWN);
+	ifnet->if_flags |= IFF_UP;
+	CHECK(output(packet, 20, AF_UNIX) == EAFNOSUPPORT);
+	for (int k = 0; k < 500; k++) {
+		int size = 20 + k * 7 % 1380;
+		for (int at = 0; at < size; at++)
+			packet[at] = (unsigned char)(at * 7 + k);
+		same += output(packet, size, AF_INET) == 0 && str_run() > 0 && came(packet, size);
+	}
+	CHECK(same == 500 && ifnet->if_opackets == 500 && ifnet->if_ipackets == 500 && ifnet->if_ierrors == 0);
+	for (int k = 0; k < IFQ_MAXLEN + 10; k++)
+		same += output(packet, 40, AF_INET) == 0 && str_run() > 0;
+	CHECK(ipintrq.count == IFQ_MAXLEN && ifnet->if_ierrors == 10);
+	while (came(packet, 40))
+		same--;
+	CHECK(same == 510 && ipintrq.count == 0);
+	interface = ifnet;
+	CHECK(str_write(head, packet, 10) == 0 && str_close(head) == 0 && if_ppp_unload() == 0 && !ifnet);
+	kmem_free(interface, sizeof *interface); /* if_ppp.c never frees it */
+	CHECK(str_fini() == 0);
+}
+
 int main(void)
 {
 	test_framer();
 	test_multiplexer();
+	test_interface();
 	printf("%d passed, %d failed\n", passed, failed);
 	return failed > 0;
 }
