@@ -81,22 +81,11 @@ union value {
 	struct strm_msg msg;
 };
 
-/*
- * The lines that are not written yet, and how many bytes are. Of a file, it is part of that, and has a mark for strm-trace. Its size is a multiple of
- * that of a page, which may be 64 KB on ARM.
- */
-struct window {
-	char mark[8];
-	uint64_t from, used;
-	char lines[(128 << 10) - 24];
-};
-#define WINDOW_MARK "\0window"
-
-/* Where lines go: a file, whose window ends it for now, or another descriptor; many at once, if `is_late`. */
+/* Where lines go: a file, or another descriptor; many at once, if `is_late`; and those that are not written yet. */
 struct output {
-	int fd, is_file, is_late;
-	uint64_t ends;
-	struct window *window;
+	int fd, is_open, is_file, is_late;
+	size_t used;
+	char lines[128 << 10];
 };
 
 /*
