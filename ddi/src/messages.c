@@ -358,7 +358,11 @@ int testb(size_t size, uint_t priority)
 {
 	uint32_t yes = 0;
 	(void)priority;
-	return size <= UINT32_MAX && strm_testb(&ddi_pools[0].pool, (uint32_t)size, &yes) == STRM_OK && yes;
+	BEGIN_CALL();
+	if (size <= UINT32_MAX)
+		strm_testb(&ddi_pools[0].pool, (uint32_t)size, &yes);
+	END_CALL(yes ? "yes" : "no", "testb %l", (long)size);
+	return (int)yes;
 }
 
 static mblk_t *release(mblk_t *mp, const char *routine)

@@ -143,7 +143,7 @@ static void test_order(void)
 	str_run();
 	CHECK(mixer_ticks == 2);
 	CHECK(str_ioctl(head, 'x' << 8, NULL, NULL, 0, NULL) == EINVAL);
-	CHECK(str_read(head, back, sizeof back, &count) == EAGAIN);
+	CHECK(str_read(head, back, sizeof back, &count) == EAGAIN && testb(64, BPRI_MED) && !testb(4097, BPRI_MED));
 	CHECK(str_pop(head) == 0 && str_pop(head) == EINVAL && str_close(head) == 0 && str_fini() == 0);
 }
 
