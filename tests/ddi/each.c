@@ -79,6 +79,7 @@ static void test_messages(void)
 	copy->b_wptr = copy->b_rptr + 3;
 	linkb(mp, copy);
 	CHECK(pullupmsg(mp, 9) && MBLKL(mp) == 9 && MBLKL(copy) == 1 && memcmp(mp->b_rptr, "123x56701", 9) == 0 && *copy->b_rptr == '2');
+	CHECK(DB_REF(mp) == 1 && DB_REF(copy) == 1);
 	CHECK(pullupmsg(mp, -1) && !mp->b_cont && MBLKL(mp) == 10 && !pullupmsg(mp, 11));
 	freemsg(mp);
 	mp = esballoc(own, sizeof own, BPRI_MED, NULL);
@@ -137,6 +138,7 @@ static void test_order(void)
 	CHECK(value_of(head, SWAP) == 3 && value_of(head, DROP_BAND) == 2 && mixer_writer_depth == 0);
 	CHECK(value_of(head, RELEASE) == 2 && strcmp(text_of(head), "zero") == 0 && strcmp(text_of(head), "two") == 0);
 	CHECK(value_of(head, LEND) == 0 && mixer_freed == 0 && strcmp(text_of(head), "lent bytes") == 0 && mixer_freed == 1);
+	CHECK(value_of(head, EXCLUSIVE) == 0 && mixer_writer_depth == 0);
 	CHECK(value_of(head, TICK) == 0 && str_run() == 0 && mixer_ticks == 0);
 	CHECK(str_wait(4) == 0 && str_wait(1) == 2 && mixer_ticks == 1);
 	CHECK(value_of(head, AWAIT) == 0);
@@ -270,7 +272,9 @@ static void test_queue(void)
 	timeout(note, "c", 5);
 	timeout(note, "a", 2);
 	timeout(note, "b", 2);
-	CHECK(str_wait(4) == 3 && str_wait(1) == 1 && strcmp(order, "abc") == 0);
+	CHECK(str_wait(9) == 4 && strcmp(order, "abc") == 0);
+	CHECK(strqset(q, QMAXPSZ, 0, 100) == 0 && str_write(head, frame, 250) == 0 && qsize(q) == 3);
+	flushq(q, FLUSHALL);
 	CHECK(str_close(head) == 0 && str_fini() == 0);
 }
 

@@ -180,8 +180,8 @@ static void exclusive(queue_t *q, mblk_t *mp)
 {
 	struct iocblk *ioctl = (struct iocblk *)mp->b_rptr;
 
-	mixer_writer_depth = mixer_depth;
-
+	if (mixer_depth > mixer_writer_depth)
+		mixer_writer_depth = mixer_depth;
 	mp->b_datap->db_type = M_IOCACK;
 	ioctl->ioc_rval = qsize(q);
 	ioctl->ioc_error = ioctl->ioc_count = 0;
@@ -205,6 +205,17 @@ static void await(queue_t *q)
 	mixer_wish = qbufcall(q, 2049, BPRI_MED, is_room, q);
 	while (count > 0)
 		freemsg(mixer_all[--count]);
+}
+
+/* Puts the same again, with a command that has only its function of qwriter, which waits for both procedures. */
+static void put_inside(queue_t *q, mblk_t *mp)
+{
+	mblk_t *copy = copymsg(mp);
+
+	((struct iocblk *)copy->b_rptr)->ioc_cmd = HOLD | 0xff;
+	mixer_depth++;
+	put(q, copy);
+	mixer_depth--;
 }
 
 static int mixer_wput(queue_t *q, mblk_t *mp)
@@ -239,6 +250,9 @@ static int mixer_wput(queue_t *q, mblk_t *mp)
 		break;
 	case AWAIT:
 		await(q);
+		break;
+	case EXCLUSIVE:
+		put_inside(q, mp);
 		break;
 	}
 	mixer_depth++;
