@@ -149,6 +149,7 @@ static void close_output(struct output *out)
 	if (out->is_file)
 		close(out->fd);
 	out->is_open = 0;
+	out->used = 0;
 }
 
 void strm_trace_print(struct output *out, const char *format, ...)
@@ -160,7 +161,7 @@ void strm_trace_print(struct output *out, const char *format, ...)
 	va_start(values, format);
 	out->used += (size_t)vsnprintf(out->lines + out->used, MOST_LINE, format, values);
 	va_end(values);
-	if (out->lines[out->used - 1] == '\n')
+	if (out->used > sizeof out->lines - 2 * MOST_LINE)
 		write_lines(out);
 }
 
@@ -505,7 +506,17 @@ static void end_script(struct traced *traced)
 {
 	if (traced->is_recorded)
 		strm_script_end(traced, NULL);
+	write_lines(&traced->out);
 	close_output(&traced->out);
+}
+
+/* The lines of a call, which may be on two pools, are written together. */
+static void write_scripts(void)
+{
+	struct traced *traced;
+
+	for (traced = pools; mode == SCRIPT && traced != NULL; traced = traced->after)
+		write_lines(&traced->out);
 }
 
 static void remove_pool(struct traced *traced)
@@ -980,6 +991,7 @@ static void look_after(teller *tell, const struct traced_call *call, const union
 		strm_script_call(traced, call, values, code);
 	else if (has_text())
 		add_record(tell, call, values, code, 1);
+	write_scripts();
 	leave_lock();
 }
 
@@ -1119,6 +1131,7 @@ static int opened(const char *call, const struct strm_pool *pool, const struct s
 	if (mode != OFF && code == STRM_OK)
 		add_pool(pool, config);
 	tell_pool(call, code == STRM_OK ? strm_traced(pool) : NULL, config, code);
+	write_scripts();
 	leave_lock();
 	return code;
 }
@@ -1200,5 +1213,6 @@ void strm_trace_label(const struct strm_pool *pool, uint32_t queue, struct strm_
 		traced = NULL;
 	if (traced != NULL && traced->is_recorded)
 		strm_script_label(traced, queue, msg);
+	write_scripts();
 	leave_lock();
 }

@@ -361,3 +361,16 @@ def recorded(lines: list[str], is_checked: bool = False) -> Script:
         more = f"; {CARRIAGE_RETURN}" if "".join(lines[number - 1 : number]).endswith("\r") else ""
         raise Wrong(f"line {number}: {why}{more}", "trace") from None
     return recording.made
+
+
+def completed(lines: list[str]) -> list[str]:
+    """The lines of a trace, with the report of the plain model if the trace ends before the report."""
+    if any(line.startswith("r ") for line in lines):
+        return lines
+    recording = Recording(is_checked=True)
+    try:
+        for line in lines:
+            recording.take(line)
+    except Bad:
+        return lines
+    return [*lines, *(f"r {line}" for line in recording.made.plain.model.report())] if recording.made.plain else lines
