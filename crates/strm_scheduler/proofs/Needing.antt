@@ -41,8 +41,9 @@ info_there : (s : DataStore) (m : Message) → 0 < length m → (first : QueuedI
 info_there s [] some = absurd (omega (arith, some))
 info_there s (b ∷ bs) some = (_, refl)
 
-module _ {M : Type 0} (needs : Needs M) (m : M) (q n : ℕ) (v x : PoolValue) (t : TokenValue) (taken : IsTaken q n t v x) (law : IsLawful v) (there : has_queue v q ≡ true) where
-  message_now : message_at x.arena t.head ≡ taken.message
+-- the message that was taken is held
+module _ (q n : ℕ) (v x : PoolValue) (t : TokenValue) (taken : IsTaken q n t v x) where
+  pub message_now : message_at x.arena t.head ≡ taken.message
   message_now =
       let at_head = λ (h : ℕ). get_or (set v.arena.held h (Some taken.message)) t.head None in
       let had : is_of_length t.blocks (at_head (head_of taken.message)) ≡ true = (and_parts _ _ (subst (λ (a : Arena). has a t ≡ true) taken.arena taken.had)).1 in
@@ -50,6 +51,7 @@ module _ {M : Type 0} (needs : Needs M) (m : M) (q n : ℕ) (v x : PoolValue) (t
       ap at_head (sym taken.head) ∙ held_there v.arena.held t.head t.blocks taken.message (subst (λ h. is_of_length t.blocks (at_head h) ≡ true) (sym taken.head) had) in
       ap (λ (a : Arena). message_at a t.head) taken.arena ∙ ap blocks_of held
 
+module _ {M : Type 0} (needs : Needs M) (m : M) (q n : ℕ) (v x : PoolValue) (t : TokenValue) (taken : IsTaken q n t v x) (law : IsLawful v) (there : has_queue v q ≡ true) where
   some_blocks : 0 < length taken.message
   some_blocks = subst (λ ms. All (λ (k : Message). 0 < length k) ms) taken.first (law.parted.shelved q) 0 taken.message (omega arith)
 
@@ -68,7 +70,7 @@ module _ {M : Type 0} (needs : Needs M) (m : M) (q n : ℕ) (v x : PoolValue) (t
         asked = v;
         taken = taken;
         first = info.0;
-        like = (λ i. info_of_message (ap (λ (a : Arena). a.store) taken.arena i) (message_now i)) ∙ info.1;
+        like = (λ i. info_of_message (ap (λ (a : Arena). a.store) taken.arena i) (message_now q n v x t taken i)) ∙ info.1;
         need = met.0;
         needed = met.1;
         free = ap (are_free met.0) taken.arena ∙ met.2;

@@ -10,6 +10,7 @@ use Rattle.strm_data.specs.MsgType.{is_high_priority}
 use Rattle.strm_scheduler.specs.Forwarding.{first_on, with_first_forwarded, with_forwarded}
 use Rattle.strm_mblk.specs.Arena.{Arena, shelf_at}
 use Rattle.strm_mblk.specs.Block.{Block, Message, kind_of}
+use Rattle.strm_pool.specs.PoolValue.{PoolValue}
 use Rattle.strm_queue.specs.declared.queue_spec.QueueSpec.{QueueSpec}
 use Rattle.strm_queue.specs.Ends.{of_rank}
 use Rattle.strm_queue.specs.Flow.{behind}
@@ -18,7 +19,7 @@ use Rattle.strm_queue.specs.Rank.{as_queued, put_behind, rank_of}
 use Rattle.strm_queue.proofs.order.Ends.{of_rank-append}
 use Rattle.strm_queue.proofs.order.Order.{rank_of-queued}
 use Rattle.strm_scheduler.specs.Sides.{next_of}
-use Rattle.strm_scheduler.specs.Order.{side_of, side_within, part_of}
+use Rattle.strm_scheduler.specs.Order.{KeepsOrder, side_of, side_within, part_of}
 use Rattle.strm_scheduler.proofs.Hops.{behind_is, behind_next, hop_ahead}
 use Rattle.strm_scheduler.proofs.Weighing.{forwarded_weighs}
 
@@ -176,3 +177,22 @@ module _ (specs : List QueueSpec) (lawful : are_lawful specs ≡ true) (q n : �
         let b : Arena = with_forwarded q n count a in
         same_within b (omega (arith, within, before.shelves)) (omega (arith, few, ap length before.left, length-drop count (shelf_at a q))) (length specs) (length specs) (omega arith) e there not_q
         ∙ side_forwarded count a within (omega (arith, few))
+
+-- ---- the same messages
+
+-- a side is the same where shelves and data are
+side_alike : (specs : List QueueSpec) (a b : Arena) → a.store ≡ b.store → a.shelves ≡ b.shelves → (r steps : ℕ) (o : Option ℕ) → side_within steps specs a r o ≡ side_within steps specs b r o
+side_alike specs a b store shelves r zero o = refl
+side_alike specs a b store shelves r (suc steps) None = refl
+side_alike specs a b store shelves r (suc steps) (Some q) =
+    λ i. map (as_queued (store i)) (of_rank (rank_of (store i)) r (get_or (shelves i) q [])) ++ side_alike specs a b store shelves r steps (behind specs q) i
+
+pub order_alike : (v w : PoolValue) → w.arena.store ≡ v.arena.store → w.arena.shelves ≡ v.arena.shelves → KeepsOrder v w
+order_alike v w store shelves end rank last there = side_alike v.queues.specs w.arena v.arena store shelves rank (length v.queues.specs) (Some end)
+
+-- the messages are those that forwarding leaves
+pub order_moved : (q n : ℕ) (v w : PoolValue) → are_lawful v.queues.specs ≡ true → next_of v.queues.specs q ≡ Some n → n < length v.arena.shelves → 0 < length (shelf_at v.arena q)
+    → w.arena.store ≡ v.arena.store → w.arena.shelves ≡ (with_forwarded q n 1 v.arena).shelves → KeepsOrder v w
+order_moved q n v w lawful next within some store shelves end rank last there =
+    side_alike v.queues.specs w.arena (with_forwarded q n 1 v.arena) store shelves rank (length v.queues.specs) (Some end)
+    ∙ side_forwarded v.queues.specs lawful q n next rank end last there 1 v.arena within (omega (arith, some))

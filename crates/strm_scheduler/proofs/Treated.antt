@@ -1,13 +1,13 @@
 -- A service procedure of a module: what each of its steps leaves.
-use Rattle.std.proofs.Common.{◌≡◌, ◌≢◌, ℕ, ◌+◌, ◌<◌, ◌≤◌, ◌⊎◌, inl, inr, Bool, true, false, not, ◌&&◌, ◌||◌, List, [], length, get_or, set, Option, Some, None, sym, ap, ◌∙◌, subst, arith, get_or-set_same}
+use Rattle.std.proofs.Common.{◌≡◌, ◌≢◌, ℕ, ◌+◌, ◌<◌, ◌≤◌, ◌⊎◌, inl, inr, Bool, true, false, not, ◌&&◌, ◌||◌, List, [], ◌∷◌, drop, length, get_or, set, Option, Some, None, sym, ap, ◌∙◌, subst, arith, get_or-set_same}
 use Rattle.std.proofs.lemmas.Bool.{lt-ltb}
 use Rattle.strm_links.specs.Rows as rows
 use Rattle.strm_mblk.specs.declared.token.TokenValue.{TokenValue}
-use Rattle.strm_scheduler.specs.Forwarding.{KeepsRest}
+use Rattle.strm_scheduler.specs.Forwarding.{KeepsRest, with_put}
 use Rattle.strm_scheduler.specs.Handing.{handed_on, with_first_off}
-use Rattle.strm_scheduler.proofs.Moving.{IsGot, handed_whole, leave_same}
+use Rattle.strm_scheduler.proofs.Moving.{IsGot, handed_whole, leave_same, put_leaves}
 use Rattle.strm_mblk.specs.Block.{Message}
-use Rattle.strm_mblk.specs.Arena.{Arena, has, held_at, shelf_at}
+use Rattle.strm_mblk.specs.Arena.{Arena, has, held_at, message_at, shelf_at, with_shelf, without_held}
 use Rattle.strm_pool.specs.Lawful.{IsLawful}
 use Rattle.strm_pool.specs.PoolValue.{PoolValue, has_queue, queued_blocks_of}
 use Rattle.strm_queue.specs.declared.queue_spec.QueueSpec.{QueueSpec}
@@ -18,10 +18,14 @@ use Rattle.strm_queue.specs.Rank.{is_ordered, rank_of}
 use Rattle.strm_scheduler.specs.Awake.{is_awake, may_rest}
 use Rattle.strm_scheduler.specs.Laws.{AreKeptAwake}
 use Rattle.strm_scheduler.specs.Sides.{AreSides, next_of}
+use Rattle.strm_scheduler.specs.Order.{KeepsOrder}
+use Rattle.strm_scheduler.specs.Steps.{AreSteps, Put, Step}
 use Rattle.strm_scheduler.specs.Serving.{FallsBy, IsServing, IsTaken, KeepsAllowed, TakesTo}
 use Rattle.strm_scheduler.specs.Work.{each, from_here, power, powers, weigh}
 use Rattle.strm_scheduler.proofs.Hops.{hop_ahead, hop_within}
-use Rattle.strm_scheduler.proofs.Underway.{Hands, IsUnderway, hand_shelves, hands_on, underway_off}
+use Rattle.strm_scheduler.proofs.Needing.{message_now}
+use Rattle.strm_scheduler.proofs.Ordering.{order_alike, order_moved}
+use Rattle.strm_scheduler.proofs.Underway.{Hands, IsUnderway, hand_shelves, hand_store, hands_on, underway_off}
 use Rattle.strm_scheduler.proofs.Weighing.{from_here-set, from_here_less, weigh-set}
 use Rattle.strm_scheduler.proofs.Falling.{handed_powers}
 use Rattle.strm_scheduler.proofs.Beginning.{underway}
@@ -96,6 +100,17 @@ module _ (q n : ℕ) (v : PoolValue) (law : IsLawful v) (s : IsServing q n v) wh
         let place = ap (λ ss. from_here ss n) shelves_taken ∙ from_here-set v.arena.shelves q taken.behind n in
         omega (arith, most, less, off, first, weight, place)
 
+    -- if it is passed on as it is, the sides keep their messages in order
+    pub order_passed : (w : PoolValue) (steps : List Step) → steps ≡ Put n t ∷ [] → AreSteps q steps x w → KeepsOrder v w
+    order_passed w steps is stepped =
+        let put : AreSteps q (Put n t ∷ []) x w = subst (λ (ss : List Step). AreSteps q ss x w) is stepped in
+        let left : w.arena ≡ with_put n (message_at x.arena t.head) (without_held t.head x.arena) = ap (λ (p : PoolValue). p.arena) put.2 ∙ put_leaves x put.0 n t.head put.1.1 put.1.3 in
+        order_moved q n v w law.lawful_queues s.next n_within (omega (arith, ap length taken.first))
+        (ap (λ (a : Arena). a.store) left ∙ ap (λ (a : Arena). a.store) taken.arena)
+        (ap (λ (a : Arena). a.shelves) left
+        ∙ (λ i. (with_put n (message_now q n v x t taken i) (without_held t.head (taken.arena i))).shelves)
+        ∙ sym (ap (λ ms. (with_put n (get_or ms 0 []) (with_shelf q (drop 1 ms) v.arena)).shelves) taken.first))
+
   -- ---- no message is taken
 
   module _ (w : PoolValue) (ended : handed_on q n (queued_blocks_of v) ≡ (false, queued_blocks_of w)) where
@@ -108,10 +123,19 @@ module _ (q n : ℕ) (v : PoolValue) (law : IsLawful v) (s : IsServing q n v) wh
           awake = λ p t is. all p t (ap (λ (sp : List QueueSpec). next_of sp p) (sym specs) ∙ is);
         }
 
+    shelves_ended : w.arena.shelves ≡ v.arena.shelves
+    shelves_ended =
+        sym (ap (λ (r : Bool × QueuedBlocks). r.1.arena.shelves) ended)
+        ∙ hand_shelves v.queues.specs law.lawful_queues s.sides q n s.next (queued_blocks_of v) underway_now (ap (λ (r : Bool × QueuedBlocks). r.0) ended)
+
     pub weigh_ended : weigh w.arena.shelves ≡ weigh v.arena.shelves
-    weigh_ended =
-        sym (ap (λ (r : Bool × QueuedBlocks). weigh r.1.arena.shelves) ended)
-        ∙ ap weigh (hand_shelves v.queues.specs law.lawful_queues s.sides q n s.next (queued_blocks_of v) underway_now (ap (λ (r : Bool × QueuedBlocks). r.0) ended))
+    weigh_ended = ap weigh shelves_ended
+
+    pub order_ended : KeepsOrder v w
+    order_ended =
+        order_alike v w
+        (sym (ap (λ (r : Bool × QueuedBlocks). r.1.arena.store) ended) ∙ hand_store v.queues.specs law.lawful_queues s.sides q n s.next (queued_blocks_of v) underway_now)
+        shelves_ended
 
     pub run_ended : powers w.queues.run < power q + powers v.queues.run
     run_ended =

@@ -272,6 +272,18 @@ module _ (specs : List QueueSpec) (lawful : are_lawful specs ≡ true) (sides : 
     unfolding handed_on
     hand_shelves = first_shelves (messages_on v q) refl
 
+    pub hand_store : (handed_on q n v).1.arena.store ≡ v.arena.store
+    unfolding handed_on
+    hand_store = by_first (messages_on v q)
+      where
+        by_leave : (m : Message) (goes : Bool) (off : QueuedBlocks) → (with_one_placed q n m goes off).arena.store ≡ off.arena.store
+        by_leave m true off = refl
+        by_leave m false off = refl
+
+        by_first : (ms : List Message) → (hand_first q n ms v).1.arena.store ≡ v.arena.store
+        by_first [] = refl
+        by_first (m ∷ ms) = by_leave m (has_leave n (with_first_off q ms v).queues (with_first_off q ms v).arena m) (with_first_off q ms v)
+
   -- ---- all messages that may go
 
   further_awake : (attempts : ℕ) → ((w : QueuedBlocks) → IsUnderway w → length (messages_on w q) < attempts → AllAwake (forwarded attempts q n w).1) → (count : ℕ) → count < suc attempts

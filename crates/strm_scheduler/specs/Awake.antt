@@ -1,9 +1,9 @@
 -- No lost wake-up: each queue with a service procedure is enabled, or will be as soon as there is something for it to do.
-use Rattle.std.specs.Prelude.{◌≡◌, ℕ, ◌<◌, Bool, not, ◌&&◌, ◌||◌, ◌==◌, IsTrue, List, [], ◌∷◌, length, None, Some}
+use Rattle.std.specs.Prelude.{◌≡◌, ℕ, ◌<◌, Bool, not, ◌&&◌, ◌||◌, ◌==◌, IsTrue, List, [], ◌∷◌, false, length, slice_index_or, None, Some}
 use Rattle.strm_data.specs.DataStore.{DataStore}
 use Rattle.strm_links.specs.Rows as rows
 use Rattle.strm_mblk.specs.Block.{Message}
-use Rattle.strm_queue.specs.Flow.{has_band}
+use Rattle.strm_queue.specs.Flow.{band_count, has_band, lowat_of}
 use Rattle.strm_queue.specs.Limits.{high_rank}
 use Rattle.strm_queue.specs.QueueCalls.{flags_of, messages_on}
 use Rattle.strm_queue.specs.QueuedBlocks.{QueuedBlocks}
@@ -26,6 +26,20 @@ is_awake v q n =
 -- Each queue with a next queue is awake.
 abbrev pub IsAwake : QueuedBlocks → Type 0
 IsAwake v = (q n : ℕ) → next_of v.queues.specs q ≡ Some n → IsTrue (is_awake v q n)
+
+-- ---- waiting
+
+-- A queue whose next is queue n waits for this band: its first message does not have high priority, and the band is wanted on queue n,
+-- where it has more bytes than its low water mark.
+pub record IsAwaited (v : QueuedBlocks) (n band : ℕ) : Type 0 where
+  pub ordinary : (band == high_rank) ≡ false
+  pub wanted : IsTrue (has_band (flags_of v n).wanted band)
+  pub full : lowat_of v.queues n band < band_count v.arena.store band (messages_on v n)
+
+-- Each queue that has a next queue and a message, and is not on the run list, waits for the band of its first message.
+abbrev pub AreWaiting : QueuedBlocks → Type 0
+AreWaiting v = (q n : ℕ) → next_of v.queues.specs q ≡ Some n → 0 < length (messages_on v q) → rows.has q v.queues.run ≡ false
+    → IsAwaited v n (rank_of v.arena.store (slice_index_or (messages_on v q) 0 []))
 
 -- ---- delivery
 

@@ -13,9 +13,10 @@ use Rattle.strm_queue.specs.declared.queued_info.QueuedInfo.{QueuedInfo}
 use Rattle.strm_queue.specs.QueueCalls.{next_service}
 use Rattle.strm_queue.specs.QueueLooks.{info_of_message, queued_at}
 use Rattle.strm_scheduler.specs.Needs.{are_free, can_be_free}
+use Rattle.strm_scheduler.specs.Order.{KeepsOrder}
 use Rattle.strm_scheduler.specs.Sides.{next_of}
 use Rattle.strm_scheduler.specs.Serving.{IsTaken}
-use Rattle.strm_scheduler.specs.Steps.{AreSteps, PassOne, Step, with_queue_enabled}
+use Rattle.strm_scheduler.specs.Steps.{AreSteps, PassOne, Put, Step, with_queue_enabled}
 
 -- `treats m v q n t steps k w`: the module m, with pool v, can treat the message of token t, which has left queue q and may go on to
 -- queue n, by these steps, and then be k, with pool w
@@ -25,6 +26,10 @@ Treats M = M → PoolValue → ℕ → ℕ → TokenValue → List Step → M �
 -- for each message, the module puts one message at most on the next queue, and leaves the queues unchanged otherwise
 abbrev pub PassesOne : {M : Type 0} → Treats M → Type 0
 PassesOne {M} treats = (m k : M) (v w : PoolValue) (q n : ℕ) (t : TokenValue) (steps : List Step) → treats m v q n t steps k w → PassOne n steps
+
+-- for each message, the module puts it on the next queue as it is, and makes no other step
+abbrev pub PassesEach : {M : Type 0} → Treats M → Type 0
+PassesEach {M} treats = (m k : M) (v w : PoolValue) (q n : ℕ) (t : TokenValue) (steps : List Step) → treats m v q n t steps k w → steps ≡ Put n t ∷ []
 
 -- `needs m v q first need`: for the first message of queue q, which is like this, the module m can say, with pool v, that it needs
 -- this
@@ -145,7 +150,8 @@ IsEnded needs turns m v HeldBack k w = (k ≡ m) × (w ≡ v) × (0 < length w.q
 IsEnded needs turns m v Spent k w = (k ≡ m) × (w ≡ v) × (0 < length w.queues.run) × (turns_since turns ≡ 0)
 IsEnded needs turns m v (NeverMet q) k w = IsTurned needs q false m v k w
 
--- What a run did: queues had their turns. With a budget, there were no more services, and as many if it is spent.
+-- What a run did: queues had their turns. With a budget, there were no more services, and as many if it is spent. If the module passes each
+-- message on as it is, each side has the same messages, and within each rank in the same order.
 pub record IsRunWith {M : Type 0} (needs : Needs M) (treats : Treats M) (budget : Option ℕ) (m : M) (v : PoolValue) (ended : Ended) (k : M) (w : PoolValue) : Type 0 where
   pub turns : List Bool
   pub module_left : M
@@ -154,3 +160,4 @@ pub record IsRunWith {M : Type 0} (needs : Needs M) (treats : Treats M) (budget 
   pub within : IfSome budget (λ most. services_of turns ≤ most)
   pub spent : ended ≡ Spent → budget ≡ Some (services_of turns)
   pub ends : IsEnded needs turns module_left pool_left ended k w
+  pub order : PassesEach treats → KeepsOrder v w

@@ -6,7 +6,7 @@ ghost use Rattle.strm_mblk.specs.BlockCalls as blocks;
 ghost use Rattle.strm_mblk.specs.Calls.{Frees, Joins, LeavesBlocks, Parts, Puts, Spends, TakesAny, Transfers};
 ghost use Rattle.strm_pool.specs.PoolValue.{PoolValue, arena, on_arena, on_queues, queued_blocks_of, with_arena, with_token_spent};
 ghost use Rattle.strm_queue.specs.QueueCalls as queues;
-ghost use Rattle.strm_scheduler.specs.Awake.{AreAllEmpty, AreEndsEmpty};
+ghost use Rattle.strm_scheduler.specs.Awake.{AreAllEmpty, AreEndsEmpty, AreWaiting};
 ghost use Rattle.strm_scheduler.specs.Laws.{AreKeptAwake, KeepsQueued, take};
 ghost use Rattle.strm_scheduler.specs.Sides.{SidesOpen, fault_from, fault_of_queue, next_of};
 ghost use Rattle.strm_scheduler.specs.Modules.{IsRunWith, PassesOne};
@@ -90,6 +90,15 @@ impl Sides {
     /// nothing.
     pub fn lawful(&self)
         ensures { AreKeptAwake self.now }
+    {
+        self.pool.lawful();
+    }
+
+    /// Law: each queue that has a next queue and a message, and is not on the run list, waits for the band of its first message to
+    /// drain on the next queue, where it has more bytes than its low water mark. So each call after which it has no more, such as
+    /// `take`, wakes the queue. Does nothing.
+    pub fn waiting(&self)
+        ensures { AreWaiting (queued_blocks_of self.now) }
     {
         self.pool.lawful();
     }

@@ -6,7 +6,8 @@ ghost use Rattle.strm_mblk.specs.Arena.{has, shelf_at};
 ghost use Rattle.strm_pool.specs.PoolValue.{has_queue, queued_blocks_of};
 ghost use Rattle.strm_scheduler.specs.Holding.{is_spent};
 ghost use Rattle.strm_scheduler.specs.Laws.{AreKeptAwake};
-ghost use Rattle.strm_scheduler.specs.Modules.{IsFirstTreated, IsHeldBack, IsMet, IsQueueTreated, IsRunWith, IsTreated, IsTurned, PassesOne};
+ghost use Rattle.strm_scheduler.specs.Modules.{IsFirstTreated, IsHeldBack, IsMet, IsQueueTreated, IsRunWith, IsTreated, IsTurned, PassesEach, PassesOne};
+ghost use Rattle.strm_scheduler.specs.Order.{KeepsOrder};
 ghost use Rattle.strm_scheduler.specs.Serving.{FallsBy, IsServing, KeepsAllowed, TakesTo};
 ghost use Rattle.strm_scheduler.specs.Work.{power, powers, weigh, work};
 
@@ -88,6 +89,7 @@ fn treat_first<M: Module>(pool: &mut Pool, handler: &mut M) -> Option<Held>
     ensures short { result ≡ None → length pool.new.queues.run ≤ length pool.new.queues.specs }
     ensures turned { IfSome result (λ held.
         IsTurned M.needs held.queue held.ever handler.old pool.old handler.new pool.new) }
+    ensures order { PassesEach M.treats → KeepsOrder pool.old pool.new }
     ensures specs { pool.new.queues.specs ≡ pool.old.queues.specs }
 {
     let Some((queue, next)) = begin(pool) else {
@@ -111,6 +113,7 @@ fn treat_queue<M: Module>(pool: &mut Pool, handler: &mut M, queue: u8, next: u8)
     ensures awake { AreKeptAwake pool.new }
     ensures treated { IsQueueTreated M.needs M.treats queue next handler.old pool.old handler.new pool.new }
     ensures falls { PassesOne M.treats → FallsBy queue pool.old pool.new }
+    ensures order { PassesEach M.treats → KeepsOrder pool.old pool.new }
     ensures specs { pool.new.queues.specs ≡ pool.old.queues.specs }
 {
     while treat_one(pool, handler, queue, next) {
@@ -152,6 +155,7 @@ fn treat_one<M: Module>(pool: &mut Pool, handler: &mut M, queue: u8, next: u8) -
     ensures awake { result ≡ false → AreKeptAwake pool.new }
     ensures same { result ≡ false → weigh pool.new.arena.shelves ≡ weigh pool.old.arena.shelves }
     ensures run { result ≡ false → powers pool.new.queues.run < power queue + powers pool.old.queues.run }
+    ensures order { PassesEach M.treats → KeepsOrder pool.old pool.new }
     ensures specs { pool.new.queues.specs ≡ pool.old.queues.specs }
 {
     pool.lawful();

@@ -4,6 +4,7 @@ use Rattle.std.proofs.lemmas.Bool.{false≢true}
 use Rattle.std.specs.Option.{is_some}
 use Rattle.strm_scheduler.specs.Holding.{work_left}
 use Rattle.strm_scheduler.specs.Modules.{IsTurned}
+use Rattle.strm_scheduler.proofs.Beginning.{order_more}
 use Rattle.strm_scheduler.proofs.Holding.{IsLeft, last_all, last_more, last_none, left_none, left_served, left_spent, left_within, left_without, none_long, place_past, place_within, served_left, turned_left}
 use Rattle.strm_scheduler.proofs.treating.treat_all.Goals as goal
 
@@ -13,6 +14,8 @@ loop-left-init g c = record {
   last = last_none g.M.Module.needs c.args.handler.now c.args.pool.now;
   turns = ([], (refl, refl), left_none c.args.budget, refl);
   fresh = λ spent. refl;
+  order = λ passes end rank last there. refl;
+  specs = refl;
 }
 
 pub treat_first-requires : goal.treat_first-requires
@@ -36,6 +39,7 @@ returns-then-is_spent-clause-ran g c =
       within = left_within c.args.budget c.loop-left.left before.turns.0 before.turns.2;
       spent = λ is. left_spent c.args.budget c.loop-left.left before.turns.0 spent before.turns.2;
       ends = (refl, refl, omega (arith, here), before.turns.3 ∙ before.fresh spent);
+      order = before.order;
     }
 
 -- ---- a queue was served
@@ -63,6 +67,8 @@ loop-left-preserved-in-None g c =
         refl,
       );
       fresh = λ spent. refl;
+      order = λ passes. order_more c.args.pool.now c.loop-left.pool c.treat_first.new.pool before.specs (before.order passes) (step.order passes);
+      specs = step.specs ∙ before.specs;
     }
 
 -- ---- a queue is held back
@@ -90,6 +96,8 @@ loop-left-preserved g c =
         omega (arith, before.turns.3),
       );
       fresh = λ spent. absurd (false≢true (sym (sym c.is_spent.ensures ∙ c.if-is_spent.false) ∙ spent));
+      order = λ passes. order_more c.args.pool.now c.loop-left.pool c.treat_first.new.pool before.specs (before.order passes) (step.order passes);
+      specs = step.specs ∙ before.specs;
     }
 
 -- ---- the need of a queue is never met
@@ -105,6 +113,7 @@ returns-in-Some-2-clause-ran g c =
       within = left_within c.args.budget c.loop-left.left before.turns.0 before.turns.2;
       spent = λ is. absurd (cc);
       ends = subst (λ e. IsTurned g.M.Module.needs c.in-Some.held.queue e c.loop-left.handler c.loop-left.pool c.treat_first.new.handler c.treat_first.new.pool) c.if-held.false c.in-Some.ensures.turned;
+      order = λ passes. order_more c.args.pool.now c.loop-left.pool c.treat_first.new.pool before.specs (before.order passes) (c.treat_first.ensures.order passes);
     }
 
 -- ---- all are held back, or there are none
@@ -122,6 +131,7 @@ returns-then-count-gt0-clause-ran g c =
       within = left_within c.args.budget c.loop-left.left before.turns.0 before.turns.2;
       spent = λ is. absurd (cc);
       ends = (refl, refl, omega (arith, c.if-count-gt0.true, all.1), all.0, before.turns.3 ∙ sym all.1);
+      order = before.order;
     }
 
 pub returns-else-count-gt0-clause-ran : goal.returns-else-count-gt0-clause-ran
@@ -137,4 +147,5 @@ returns-else-count-gt0-clause-ran g c =
       within = left_within c.args.budget c.loop-left.left before.turns.0 before.turns.2;
       spent = λ is. absurd (cc);
       ends = (refl, refl, none_long c.loop-left.pool.queues.run (omega (arith, long, c.if-count-gt0.false)));
+      order = before.order;
     }

@@ -3,7 +3,8 @@
 use Rattle.std.proofs.Common.{◌≡◌, Bool, true, List}
 use Rattle.strm_scheduler.specs.Holding.{AreLastHeldBack, is_spent, work_left}
 use Rattle.strm_scheduler.specs.Laws.{AreKeptAwake}
-use Rattle.strm_scheduler.specs.Modules.{AreTurns, turns_since}
+use Rattle.strm_scheduler.specs.Modules.{AreTurns, PassesEach, turns_since}
+use Rattle.strm_scheduler.specs.Order.{KeepsOrder}
 use Rattle.strm_scheduler.proofs.Holding.{IsLeft}
 use Rattle.strm_scheduler.proofs.treating.treat_all.Given as goal
 
@@ -13,6 +14,8 @@ invariant-loop-left g l = record {
   last : AreLastHeldBack g.M.Module.needs l.handler l.count l.pool;
   turns : (turns : List Bool) × AreTurns g.M.Module.needs g.M.Module.treats turns l.initial.handler l.initial.pool l.handler l.pool × IsLeft l.fn.budget l.left turns × (turns_since turns ≡ l.count);
   fresh : is_spent l.left ≡ true → l.count ≡ 0;
+  order : PassesEach g.M.Module.treats → KeepsOrder l.initial.pool l.pool;
+  specs : l.pool.queues.specs ≡ l.initial.pool.queues.specs;
 }
 
 abbrev pub decreases-loop-left : goal.decreases-loop-left

@@ -3,7 +3,10 @@ use Rattle.std.proofs.Common.{ap, arith, length, subst, sym, ◌∙◌}
 use Rattle.strm_pool.specs.PoolValue.{PoolValue}
 use Rattle.strm_scheduler.specs.Laws.{AreKeptAwake}
 use Rattle.strm_scheduler.specs.Modules.{IsMet, IsQueueTreated}
+use Rattle.strm_scheduler.specs.Order.{KeepsOrder}
+use Rattle.strm_scheduler.specs.Steps.{with_queue_enabled}
 use Rattle.strm_scheduler.proofs.Beginning.{falls_begun}
+use Rattle.strm_scheduler.proofs.Ordering.{order_alike}
 use Rattle.strm_scheduler.proofs.Holding.{enabled_specs, kept_enabled, turned}
 use Rattle.strm_scheduler.proofs.treating.treat_first.Goals as goal
 
@@ -23,6 +26,11 @@ returns-in-Some-held_back-clause-turned g c =
     turned g.M.Module.needs c.args.handler.now c.in-Some.queue c.in-Some.next c.args.pool.now c.begin.new.pool c.enable.new.pool c.in-Some-held_back.ever c.in-Some.ensures.begun
     c.in-Some-held_back.ensures.held c.enable.ensures
 
+pub returns-in-Some-held_back-clause-order : goal.returns-in-Some-held_back-clause-order
+returns-in-Some-held_back-clause-order g c =
+    let same = c.enable.ensures ∙ ap (with_queue_enabled c.in-Some.queue) c.in-Some.ensures.begun.after in
+    λ passes. order_alike c.args.pool.now c.enable.new.pool (ap (λ (p : PoolValue). p.arena.store) same) (ap (λ (p : PoolValue). p.arena.shelves) same)
+
 pub returns-in-Some-held_back-clause-specs : goal.returns-in-Some-held_back-clause-specs
 returns-in-Some-held_back-clause-specs g c =
     ap (λ (p : PoolValue). p.queues.specs) c.enable.ensures ∙ enabled_specs c.in-Some.queue c.begin.new.pool ∙ ap (λ (p : PoolValue). p.queues.specs) c.in-Some.ensures.begun.after
@@ -40,6 +48,9 @@ pub returns-clause-falls : goal.returns-clause-falls
 returns-clause-falls g c =
     λ none passes. falls_begun c.args.pool.now c.begin.new.pool c.in-Some.queue c.in-Some.next c.in-Some.ensures.begun c.treat_queue.new.pool c.treat_queue.ensures.specs c.lawful.ensures
     (c.treat_queue.ensures.falls passes)
+
+pub returns-clause-order : goal.returns-clause-order
+returns-clause-order g c = λ passes. subst (λ (p : PoolValue). KeepsOrder p c.treat_queue.new.pool) c.in-Some.ensures.begun.after (c.treat_queue.ensures.order passes)
 
 pub returns-clause-treated : goal.returns-clause-treated
 returns-clause-treated g c =

@@ -3,7 +3,7 @@ use Rattle.std.proofs.Common.{arith, ◌∙◌}
 use Rattle.strm_scheduler.proofs.Moving.{there_still}
 use Rattle.strm_scheduler.proofs.Needing.{ready}
 use Rattle.strm_scheduler.proofs.Stepping.{stepped_few, stepped_serving, stepped_specs, stepped_weighs}
-use Rattle.strm_scheduler.proofs.Treated.{awake_ended, fewer_taken, less_taken, next_there, q_apart, queue_there, run_ended, serving_taken, weigh_ended}
+use Rattle.strm_scheduler.proofs.Treated.{awake_ended, fewer_taken, less_taken, next_there, order_ended, order_passed, q_apart, queue_there, run_ended, serving_taken, weigh_ended}
 use Rattle.strm_scheduler.proofs.treating.treat_one.Goals as goal
 
 pub take_allowed-requires-clause-apart : goal.take_allowed-requires-clause-apart
@@ -23,6 +23,9 @@ returns-in_default-clause-same g c = λ none. weigh_ended c.args.queue c.args.ne
 
 pub returns-in_default-clause-run : goal.returns-in_default-clause-run
 returns-in_default-clause-run g c = λ none. run_ended c.args.queue c.args.next c.args.pool.now c.lawful.ensures c.requires.serving c.take_allowed.new.pool c.in_default.ensures.takes
+
+pub returns-in_default-clause-order : goal.returns-in_default-clause-order
+returns-in_default-clause-order g c = λ passes. order_ended c.args.queue c.args.next c.args.pool.now c.lawful.ensures c.requires.serving c.take_allowed.new.pool c.in_default.ensures.takes
 
 -- ---- one is treated
 
@@ -77,6 +80,14 @@ returns-clause-less g c =
     let one = passes c.args.handler.now c.treat.new.self x c.treat.new.pool c.args.queue c.args.next c.in-Some.token c.treat.ensures.0 c.treat.ensures.1 in
     less_taken c.args.queue c.args.next v c.lawful.ensures c.requires.serving c.in-Some.token x c.in-Some.ensures.takes _
     (stepped_weighs c.args.queue c.args.next x c.lawful-2.ensures taken c.treat.new.pool c.treat.ensures.0 c.treat.ensures.2 one)
+
+pub returns-clause-order : goal.returns-clause-order
+returns-clause-order g c =
+    let v = c.args.pool.now in
+    let x = c.take_allowed.new.pool in
+    λ passes.
+    order_passed c.args.queue c.args.next v c.lawful.ensures c.requires.serving c.in-Some.token x c.in-Some.ensures.takes c.treat.new.pool c.treat.ensures.0
+    (passes c.args.handler.now c.treat.new.self x c.treat.new.pool c.args.queue c.args.next c.in-Some.token c.treat.ensures.0 c.treat.ensures.1) c.treat.ensures.2
 
 pub returns-clause-specs : goal.returns-clause-specs
 returns-clause-specs g c =

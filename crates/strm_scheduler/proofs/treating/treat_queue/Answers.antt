@@ -4,12 +4,14 @@ use Rattle.strm_pool.specs.PoolValue.{PoolValue}
 use Rattle.strm_scheduler.specs.Laws.{AreKeptAwake}
 use Rattle.strm_scheduler.specs.Modules.{AreTreated, IsMet, PassesOne}
 use Rattle.strm_scheduler.specs.Work.{weigh}
+use Rattle.strm_scheduler.proofs.Beginning.{order_more}
+use Rattle.strm_scheduler.proofs.Ordering.{order_alike}
 use Rattle.strm_scheduler.proofs.Holding.{enabled_specs, kept_enabled, there_same}
 use Rattle.strm_scheduler.proofs.Treated.{falls_ended, moved_more}
 use Rattle.strm_scheduler.proofs.treating.treat_queue.Goals as goal
 
 pub loop-pool-init : goal.loop-pool-init
-loop-pool-init g c = record { serving = c.requires.serving; met = c.requires.met; treated = (zero, (refl, refl)); moved = inl refl; specs = refl }
+loop-pool-init g c = record { serving = c.requires.serving; met = c.requires.met; treated = (zero, (refl, refl)); moved = inl refl; order = λ passes end rank last there. refl; specs = refl }
 
 pub loop-pool-preserved : goal.loop-pool-preserved
 loop-pool-preserved g c =
@@ -20,6 +22,7 @@ loop-pool-preserved g c =
       met = c.held_back.ensures.met c.in_default.is;
       treated = (suc before.treated.0, (c.loop-pool.handler, c.loop-pool.pool, before.treated.1, step.treated refl));
       moved = inr (moved_more (PassesOne g.M.Module.treats) c.args.pool.now c.loop-pool.pool c.treat_one.new.pool before.moved (step.less refl));
+      order = λ passes. order_more c.args.pool.now c.loop-pool.pool c.treat_one.new.pool before.specs (before.order passes) (step.order passes);
       specs = step.specs ∙ before.specs;
     }
 
@@ -48,6 +51,16 @@ returns-in-Some-clause-falls g c =
     let less = moved_more (PassesOne g.M.Module.treats) c.args.pool.now c.loop-pool.pool c.treat_one.new.pool c.loop-pool.invariant.moved (c.loop-pool-test.ensures.less refl) passes in
     inl (omega (arith, less, ap (λ (p : PoolValue). weigh p.arena.shelves) c.enable.ensures))
 
+pub returns-in-Some-clause-order : goal.returns-in-Some-clause-order
+returns-in-Some-clause-order g c =
+    let before = c.loop-pool.invariant in
+    let step = c.loop-pool-test.ensures in
+    let v = c.args.pool.now in
+    let x = c.treat_one.new.pool in
+    λ passes.
+    order_more v x c.enable.new.pool (step.specs ∙ before.specs) (order_more v c.loop-pool.pool x before.specs (before.order passes) (step.order passes))
+    (order_alike x c.enable.new.pool (ap (λ (p : PoolValue). p.arena.store) c.enable.ensures) (ap (λ (p : PoolValue). p.arena.shelves) c.enable.ensures))
+
 pub returns-in-Some-clause-specs : goal.returns-in-Some-clause-specs
 returns-in-Some-clause-specs g c =
     ap (λ (p : PoolValue). p.queues.specs) c.enable.ensures ∙ enabled_specs c.args.queue c.treat_one.new.pool ∙ c.loop-pool-test.ensures.specs ∙ c.loop-pool.invariant.specs
@@ -66,6 +79,11 @@ returns-clause-treated g c =
       ends = inl (subst (λ k. IsMet g.M.Module.needs k c.args.queue c.loop-pool.pool) same before.met, step.ends refl);
       wishes = (step.rest refl).1;
     }
+
+pub returns-clause-order : goal.returns-clause-order
+returns-clause-order g c =
+    let before = c.loop-pool.invariant in
+    λ passes. order_more c.args.pool.now c.loop-pool.pool c.treat_one.new.pool before.specs (before.order passes) (c.loop-pool-test.ensures.order passes)
 
 pub returns-clause-falls : goal.returns-clause-falls
 returns-clause-falls g c =

@@ -1,7 +1,8 @@
 -- The queue is being served, and is not held back: so far messages were treated, or nothing has changed.
 use Rattle.std.proofs.Common.{◌≡◌, ℕ, length, ◌<◌, ◌⊎◌}
 use Rattle.strm_mblk.specs.Arena.{shelf_at}
-use Rattle.strm_scheduler.specs.Modules.{AreTreated, IsMet, PassesOne}
+use Rattle.strm_scheduler.specs.Modules.{AreTreated, IsMet, PassesEach, PassesOne}
+use Rattle.strm_scheduler.specs.Order.{KeepsOrder}
 use Rattle.strm_scheduler.specs.Serving.{IsServing}
 use Rattle.strm_scheduler.specs.Work.{weigh}
 use Rattle.strm_scheduler.proofs.treating.treat_queue.Given as goal
@@ -12,6 +13,7 @@ invariant-loop-pool g l = record {
   met : IsMet g.M.Module.needs l.handler l.queue l.pool;
   treated : (count : ℕ) × AreTreated g.M.Module.needs g.M.Module.treats l.queue l.next count l.initial.handler l.initial.pool l.handler l.pool;
   moved : (l.pool ≡ l.initial.pool) ⊎ (PassesOne g.M.Module.treats → weigh l.pool.arena.shelves < weigh l.initial.pool.arena.shelves);
+  order : PassesEach g.M.Module.treats → KeepsOrder l.initial.pool l.pool;
   specs : l.pool.queues.specs ≡ l.initial.pool.queues.specs;
 }
 
