@@ -1,10 +1,17 @@
 -- Serving the queues on the run list, one after another.
-use Rattle.std.specs.Prelude.{◌≡◌, ℕ, zero, suc, Option, None, Some}
+use Rattle.std.specs.Prelude.{◌≡◌, ◌<◌, ◌≤◌, ℕ, zero, suc, false, nat_eq, IsTrue, length, Option, None, Some, if◌then◌else◌}
 use Rattle.std.specs.Option.{option_map_or}
-use Rattle.strm_scheduler.specs.Handing.{all_forwarded}
+use Rattle.strm_links.specs.Rows as rows
+use Rattle.strm_mblk.specs.declared.token.TokenValue.{TokenValue}
+use Rattle.strm_mblk.specs.Arena.{has}
+use Rattle.strm_pool.specs.PoolValue.{PoolValue, queued_blocks_of, with_queued}
 use Rattle.strm_queue.specs.QueueCalls.{next_service}
 use Rattle.strm_queue.specs.QueuedBlocks.{QueuedBlocks}
+use Rattle.strm_scheduler.specs.declared.starting.Service.{Service}
+use Rattle.strm_scheduler.specs.Handing.{all_forwarded, handed_on}
+use Rattle.strm_scheduler.specs.Serving.{IsTaken}
 use Rattle.strm_scheduler.specs.Sides.{next_of}
+use Rattle.strm_scheduler.specs.Steps.{with_queue_enabled}
 
 -- queue q was served: its messages were forwarded to its next queue, as far as they may go
 abbrev pub with_queue_served : ℕ → QueuedBlocks → QueuedBlocks
@@ -27,3 +34,48 @@ with_served (suc count) v = with_first_served (with_served count v)
 -- some number of queues were served
 abbrev pub IsServed : QueuedBlocks → QueuedBlocks → Type 0
 IsServed old new = (count : ℕ) × (new ≡ with_served count old)
+
+-- ---- message by message
+
+-- The first queue of the run list was taken off it, and rests: its first message, if any, could not go on.
+pub record IsRested (v w : PoolValue) : Type 0 where
+  pub queue : ℕ
+  pub next : ℕ
+  pub first : rows.first v.queues.run ≡ Some queue
+  pub goes_on : next_of v.queues.specs queue ≡ Some next
+  pub stays : handed_on queue next (next_service (queued_blocks_of v)).1 ≡ (false, queued_blocks_of w)
+  pub wishes : w.wishes ≡ v.wishes
+
+-- how many queues are held back, by how many were on the run list before and are now: none if another queue woke
+abbrev pub still_held : ℕ → ℕ → ℕ → ℕ
+still_held held before now = if nat_eq now before then held else 0
+
+-- The first queue of the run list was taken off it. Its first message, which could go on, is held, and the queue was enabled again.
+pub record IsGiven (held : ℕ) (s : Service) (t : TokenValue) (v w : PoolValue) : Type 0 where
+  pub first : rows.first v.queues.run ≡ Some s.queue
+  pub goes_on : next_of v.queues.specs s.queue ≡ Some s.next
+  pub left : PoolValue
+  pub taken : IsTaken s.queue s.next t (with_queued v (next_service (queued_blocks_of v)).1) left
+  pub after : w ≡ with_queue_enabled s.queue left
+  pub had : IsTrue (has w.arena t)
+  pub held_is : s.held ≡ still_held held (length v.queues.run) (length w.queues.run)
+
+-- the first queue of the run list rests, or gave a message
+abbrev pub IsStarted : ℕ → PoolValue → Option (Service × TokenValue) → PoolValue → Type 0
+IsStarted held v None w = IsRested v w
+IsStarted held v (Some given) w = IsGiven held given.0 given.1 v w
+
+-- this number of queues, one after another, were the first of the run list, and rest
+abbrev pub AreRested : ℕ → PoolValue → PoolValue → Type 0
+AreRested zero v w = w ≡ v
+AreRested (suc count) v w = (x : PoolValue) × AreRested count v x × IsRested x w
+
+-- how many queues are held back once this number of others rest: as many as before, if none does
+abbrev pub held_yet : ℕ → ℕ → ℕ
+held_yet held zero = held
+held_yet held (suc count) = 0
+
+-- Some queues rest. Then only queues that are held back are left on the run list, or another one gave a message.
+abbrev pub Starts : ℕ → PoolValue → Option (Service × TokenValue) → PoolValue → Type 0
+Starts held v None w = (count : ℕ) × AreRested count v w × (length w.queues.run ≤ held_yet held count)
+Starts held v (Some given) w = (count : ℕ) × (x : PoolValue) × AreRested count v x × (held_yet held count < length x.queues.run) × IsGiven (held_yet held count) given.0 given.1 x w

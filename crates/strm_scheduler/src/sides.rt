@@ -7,16 +7,18 @@ ghost use Rattle.strm_mblk.specs.Calls.{Frees, Joins, LeavesBlocks, Parts, Puts,
 ghost use Rattle.strm_pool.specs.PoolValue.{PoolValue, arena, on_arena, on_queues, queued_blocks_of, with_arena, with_token_spent};
 ghost use Rattle.strm_queue.specs.QueueCalls as queues;
 ghost use Rattle.strm_scheduler.specs.Awake.{AreAllEmpty, AreEndsEmpty, AreWaiting};
-ghost use Rattle.strm_scheduler.specs.Laws.{AreKeptAwake, KeepsQueued, take};
+ghost use Rattle.strm_scheduler.specs.Laws.{AreKeptAwake, KeepsQueued, hold, take};
 ghost use Rattle.strm_scheduler.specs.Sides.{SidesOpen, fault_from, fault_of_queue, next_of};
 ghost use Rattle.strm_scheduler.specs.Modules.{IsRunWith, PassesOne};
 ghost use Rattle.strm_scheduler.specs.Order.{KeepsOrder};
-ghost use Rattle.strm_scheduler.specs.Running.{IsServed};
+ghost use Rattle.strm_scheduler.specs.Running.{IsServed, Starts};
 
 use crate::ended::Ended;
 use crate::module::Module;
 use crate::serving::serve_all;
 use crate::sides_fault::SidesFault;
+use crate::starting::{Service, start};
+use crate::steps::enable;
 use crate::treating::treat_all;
 use std::alloc::Global;
 use std::marker::Model;
@@ -25,8 +27,8 @@ use strm_pool::{Config, Pool, QueueSpec, Refusal, Rejected, Token};
 /// A pool whose queues form sides of streams. Each queue with a next queue has a service procedure that forwards its messages
 /// there. The last queue of a side has none: from it, the user takes messages.
 ///
-/// No wake-up is lost, whatever calls are made ([`lawful`](Sides::lawful)). So there is no call that puts a message back,
-/// takes one from the middle of a side, or switches enabling off.
+/// No wake-up is lost, whatever calls are made ([`lawful`](Sides::lawful)). So there is no call that puts a message back and does
+/// not enable the queue, that takes a message from the middle of a side that may not go on, or that switches enabling off.
 #[derive(Debug, Drop)]
 pub struct Sides {
     pool: Pool,
@@ -172,6 +174,36 @@ impl Sides {
         ensures { IsRunWith M.needs M.treats budget handler.old self.old result handler.new self.new }
     {
         treat_all(&mut self.pool, handler, budget)
+    }
+
+    /// Serves queues until one gives a message that may go on, and takes that message off; then the queue is enabled again. The
+    /// caller treats the message in calls of its own: it passes it on ([`put`](Sides::put) on `next`), replies (`put` on a queue of
+    /// the other side), frees it, keeps it for later, or puts it back ([`hold`](Sides::hold)). No queue is asleep meanwhile.
+    ///
+    /// The last `held` queues of the run list are not served: those that the caller holds back. So the caller starts with 0, and
+    /// goes on with one more than [`Service::held`] if it has only called `hold`, and otherwise with 0. If no message is returned,
+    /// no other queue is enabled.
+    pub fn serve(&mut self, held: u32) -> Option<(Service, Token)>
+        ensures { Starts held self.old result self.new }
+    {
+        start(&mut self.pool, held)
+    }
+
+    /// Puts a message back on a queue, before its equals, and enables the queue. Rejected as `NoSuchQueue`. As [`Pool::putbq`] and
+    /// [`Pool::qenable`].
+    pub fn hold(&mut self, queue: u8, token: Token) -> Result<(), Rejected>
+        requires { IsTrue (has self.old.arena token) }
+        ensures { Puts arena token (on_queues self.old (hold queue token.head (queued_blocks_of self.old)))
+            self.old self.new result }
+    {
+        self.pool.lawful();
+        match self.pool.putbq(queue, token) {
+            Ok(()) => {
+                enable(&mut self.pool, queue);
+                Ok(())
+            }
+            Err(rejected) => Err(rejected),
+        }
     }
 
     /// Lends the pool to `call`, which may make and change held messages, and record wishes, but must leave the queues and the

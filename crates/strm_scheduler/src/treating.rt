@@ -168,7 +168,7 @@ fn treat_one<M: Module>(pool: &mut Pool, handler: &mut M, queue: u8, next: u8) -
 }
 
 // Takes the first message off a queue, if it may go on to the next queue. Otherwise it is put back.
-fn take_allowed(pool: &mut Pool, queue: u8, next: u8) -> Option<Token>
+pub(crate) fn take_allowed(pool: &mut Pool, queue: u8, next: u8) -> Option<Token>
     requires apart { queue ≢ next }
     requires behind { IsTrue (has_queue pool.old queue) }
     requires ahead { IsTrue (has_queue pool.old next) }

@@ -1,15 +1,15 @@
 //! Drawn calls on sides and on plain lists, which are compared after each call.
 ghost use Rattle.std.specs.Prelude.{◌<◌};
 
-use super::making::{most_bytes, put, taken};
+use super::making::{assert_had, assert_put, most_bytes, put, taken};
 use super::modules::Way;
-use super::plain::{HIGH_RANK, Plain};
+use super::plain::{HIGH_RANK, Plain, Standing};
 use super::same::assert_same;
 use super::{MESSAGES, QUEUES, opened, queue};
 use std::alloc::Global;
 use std::process::Abort;
-use strm_pool::{QueueSpec, Refusal};
-use strm_scheduler::{Ended, Sides};
+use strm_pool::{QueueSpec, Refusal, Token};
+use strm_scheduler::{Ended, Service, Sides};
 
 // The ways in which queues are served.
 const WAYS: [Way; 5] = [Way::Forward, Way::Pass, Way::Mark, Way::Drop, Way::Borrow];
@@ -25,9 +25,10 @@ struct Drawn {
     count: u8,
     step: u8,
     draw: u32,
-    // How often a message waited after a run, how often one was held back, and how often one was taken.
+    // How often a message waited after a run, how often one was held back, one was given, and one was taken.
     waited: u32,
     held: u32,
+    given: u32,
     taken: u32,
 }
 
@@ -116,6 +117,7 @@ impl Drawn {
             draw,
             waited: 0,
             held: 0,
+            given: 0,
             taken: 0,
         }
     }
@@ -191,13 +193,58 @@ impl Drawn {
         }
     }
 
+    // Ends a service: the message is passed on, put on any queue, put back, or freed.
+    fn end_service(&mut self, rt: &impl Abort, service: Service, token: Token, message: Standing) {
+        assert_had(rt, &self.sides, &token);
+        match below(&mut self.draw, 4) {
+            0 => {
+                self.plain.hold(rt, service.queue, message);
+                let put = self.sides.hold(service.queue, token);
+                assert_put(rt, &mut self.sides, put);
+            }
+            1 => self.sides.freemsg(token),
+            way => {
+                let to = if way == 2 {
+                    service.next
+                } else {
+                    self.any_queue()
+                };
+                self.plain.putq(rt, to, message);
+                let put = self.sides.put(to, token);
+                assert_put(rt, &mut self.sides, put);
+            }
+        }
+    }
+
+    // Lets a queue give a message, if one has a message that may go on.
+    fn serve(&mut self, rt: &impl Abort) {
+        let held = below(&mut self.draw, 3);
+        let wanted = self.plain.give(rt, held);
+        match self.sides.serve(held) {
+            Some((service, token)) => {
+                let wanted = wanted.expect(rt, "no message may go on");
+                assert_eq!(rt;
+                    (service.queue, service.next, service.held),
+                    (wanted.queue, wanted.next, wanted.held)
+                );
+                assert_eq!(rt; token.head(), wanted.message.head);
+                self.end_service(rt, service, token, wanted.message);
+                self.given = self.given.wrapping_add(1);
+            }
+            None => {
+                assert!(rt; wanted.is_none());
+            }
+        }
+    }
+
     // Makes a drawn call.
     fn call(&mut self, rt: &impl Abort) {
         match below(&mut self.draw, 16) {
             0..6 => self.put(rt),
             6..9 => self.take_any(rt),
             9 => self.ask(rt),
-            10..12 => self.mark(rt),
+            10 => self.mark(rt),
+            11..13 => self.serve(rt),
             _ => {
                 let way = match below(&mut self.draw, 8) {
                     way @ 0..5 => WAYS[way as usize],
@@ -215,7 +262,7 @@ impl Drawn {
             let last = if step % 16 == 0 { u8::MAX } else { 2 };
             assert_same(rt, &self.sides, &self.plain, last);
         }
-        assert!(rt; self.waited > 0 && self.taken > 0);
+        assert!(rt; self.waited > 0 && self.given > 0 && self.taken > 0);
     }
 
     // Takes the first message of each side.

@@ -150,6 +150,21 @@ impl Found {
     }
 }
 
+// The sides have the message of this token.
+pub(super) fn assert_had(rt: &impl Abort, sides: &Sides, token: &Token)
+    ensures { IsTrue (has sides.now.arena token.now) }
+{
+    assert!(rt; sides.pool().has(token));
+}
+
+// A message was put on a queue.
+pub(super) fn assert_put(rt: &impl Abort, sides: &mut Sides, put: Result<(), Rejected>) {
+    if let Err(Rejected { why, token }) = put {
+        sides.freemsg(token);
+        panic!(rt; "{why:?}");
+    }
+}
+
 // Whether a rank is that of high priority.
 pub(super) const fn is_high(rank: u16) -> bool {
     rank == HIGH_RANK

@@ -22,6 +22,15 @@ pub(super) struct Standing {
     pub(super) first: u8,
 }
 
+// A message that a queue gave, the queue and its next one, and how many queues are held back.
+#[derive(Clone, Copy)]
+pub(super) struct Given {
+    pub(super) queue: u8,
+    pub(super) next: u8,
+    pub(super) message: Standing,
+    pub(super) held: u32,
+}
+
 // The water marks and the wanted mark of a band.
 #[derive(Clone, Copy)]
 pub(super) struct Band {
@@ -284,15 +293,21 @@ impl Plain {
         self.putq(rt, next, message);
     }
 
-    // Hands the first message of a queue on, if there is one and it may go. Says whether it went.
-    fn hand_on(&mut self, rt: &impl Abort, queue: u8, next: u8, way: Way) -> bool {
-        let Some(message) = self.getq(rt, queue) else {
-            return false;
-        };
+    // Takes the first message off a queue, if it may go on. Any other is put back.
+    fn take_allowed(&mut self, rt: &impl Abort, queue: u8, next: u8) -> Option<Standing> {
+        let message = self.getq(rt, queue)?;
         if !is_high(message.rank) && !self.bcanput(rt, next, band_of(message.rank)) {
             self.putbq(rt, queue, message);
-            return false;
+            return None;
         }
+        Some(message)
+    }
+
+    // Hands the first message of a queue on, if there is one and it may go. Says whether it went.
+    fn hand_on(&mut self, rt: &impl Abort, queue: u8, next: u8, way: Way) -> bool {
+        let Some(message) = self.take_allowed(rt, queue, next) else {
+            return false;
+        };
         if way.budget().is_some() {
             self.answer(rt, queue, next, message);
         } else if let Some(treated) = way.treated(message) {
@@ -321,12 +336,48 @@ impl Plain {
         way.is_later(first) || way.needs(first) && self.count() == MESSAGES as usize
     }
 
+    // The next queue of one that is enabled.
+    fn next_of(&mut self, rt: &impl Abort, queue: u8) -> u8 {
+        self.queue(rt, queue)
+            .next
+            .expect(rt, "no last queue is enabled")
+    }
+
+    // Serves queues, but for the last ones of the run list, until one gives a message that may go on, and is enabled again.
+    pub(super) fn give(&mut self, rt: &impl Abort, held: u32) -> Option<Given> {
+        let mut left = held;
+        for _turn in 0..SERVICES {
+            if self.run.len() <= left as usize {
+                return None;
+            }
+            let enabled = self.run.len();
+            let queue = self.run.remove(0);
+            let next = self.next_of(rt, queue);
+            if let Some(message) = self.take_allowed(rt, queue, next) {
+                self.enable(rt, queue);
+                let woken = self.run.len() > enabled;
+                return Some(Given {
+                    queue,
+                    next,
+                    message,
+                    held: if woken { 0 } else { left },
+                });
+            }
+            left = 0;
+        }
+        panic!(rt; "a queue neither gives a message nor rests");
+    }
+
+    // Puts a message back on a queue, and enables the queue.
+    pub(super) fn hold(&mut self, rt: &impl Abort, queue: u8, message: Standing) {
+        self.putbq(rt, queue, message);
+        self.enable(rt, queue);
+    }
+
     // Serves a queue: its messages are handed on, until none is left, one may not go, or one is held back. Then the queue is
     // enabled again.
     fn serve(&mut self, rt: &impl Abort, queue: u8, way: Way) {
-        let Some(next) = self.queue(rt, queue).next else {
-            panic!(rt; "a last queue is enabled");
-        };
+        let next = self.next_of(rt, queue);
         let waiting = self.queue(rt, queue).messages.len();
         for _message in 0..=waiting {
             if self.holds_back(queue, way) {

@@ -1,11 +1,11 @@
 //! Worked rows: which messages go on, and which calls are refused.
-use super::making::{BYTE, put, taken};
+use super::making::{BYTE, assert_had, assert_put as assert_put_on, made, put, taken};
 use super::modules::Way;
 use super::plain::HIGH_RANK;
 use super::{MESSAGES, opened, queue};
 use std::alloc::Global;
 use std::process::Abort;
-use strm_pool::{NewFault, QueueSpec, Refusal, Which};
+use strm_pool::{NewFault, QueueSpec, Refusal, Rejected, Token, Which};
 use strm_scheduler::{Ended, Sides, SidesFault};
 
 // Three queues in a side. Each band of the last two is full at one byte, and wakes the queue behind at none.
@@ -30,6 +30,11 @@ enum Row {
     Run(Way, Option<u8>),
     // Queues are served by a module that needs more than there is for the first message of this queue.
     RunGreedy(u8),
+    // While this number of queues are held back, this queue gives a message, which is passed on or put back. Then this number are.
+    Pass(u32, u8, u32),
+    Hold(u32, u8, u32),
+    // While this number of queues are held back, no other queue gives a message.
+    Rest(u32),
     // The queues have these numbers of messages.
     Sizes([u32; 3]),
     // The last queue gives the message with this byte.
@@ -76,6 +81,41 @@ fn assert_greedy(rt: &impl Abort, sides: &mut Sides, queue: u8) {
     assert_eq!(rt; sides.pool().run_at(0), Some(queue));
 }
 
+// While this number of queues are held back, this queue gives a message, and then this number are.
+fn served(rt: &impl Abort, sides: &mut Sides, held: u32, queue: u8, left: u32) -> Token {
+    let Some((service, token)) = sides.serve(held) else {
+        panic!(rt; "no queue gives a message")
+    };
+    assert_eq!(rt;
+        (service.queue, service.next, service.held),
+        (queue, queue.wrapping_add(1), left)
+    );
+    assert_had(rt, sides, &token);
+    token
+}
+
+// The message that this queue gives is passed on.
+fn assert_passed(rt: &impl Abort, sides: &mut Sides, held: u32, queue: u8, left: u32) {
+    let token = served(rt, sides, held, queue, left);
+    let put = sides.put(queue.wrapping_add(1), token);
+    assert_put_on(rt, sides, put);
+}
+
+// The message that this queue gives is put back.
+fn assert_held(rt: &impl Abort, sides: &mut Sides, held: u32, queue: u8, left: u32) {
+    let token = served(rt, sides, held, queue, left);
+    let put = sides.hold(queue, token);
+    assert_put_on(rt, sides, put);
+}
+
+// No queue gives a message but those that are held back.
+fn assert_rest(rt: &impl Abort, sides: &mut Sides, held: u32) {
+    if let Some((_service, token)) = sides.serve(held) {
+        sides.freemsg(token);
+        panic!(rt; "a queue gives a message");
+    }
+}
+
 // The queues have these numbers of messages.
 fn assert_sizes(rt: &impl Abort, sides: &Sides, sizes: &[u32; 3]) {
     for (number, size) in (0..3).zip(sizes.iter()) {
@@ -98,6 +138,9 @@ fn assert_row(rt: &impl Abort, sides: &mut Sides, row: &Row) {
         Row::Fill(queue) => fill(rt, sides, *queue),
         Row::Run(way, held) => assert_run(rt, sides, *way, *held),
         Row::RunGreedy(queue) => assert_greedy(rt, sides, *queue),
+        Row::Pass(held, queue, left) => assert_passed(rt, sides, *held, *queue, *left),
+        Row::Hold(held, queue, left) => assert_held(rt, sides, *held, *queue, *left),
+        Row::Rest(held) => assert_rest(rt, sides, *held),
         Row::Sizes(sizes) => assert_sizes(rt, sides, sizes),
         Row::Take(byte) => assert_taken(rt, sides, *byte),
         Row::Marks(hiwat, lowat) => { assert!(rt; sides.strqset(2, 0, *hiwat, *lowat) == Ok(())) }
@@ -257,15 +300,50 @@ fn a_need_is_never_met(rt: HostRuntime) {
     assert_rows(&rt, rt.alloc(), &wide(), &rows, 1);
 }
 
+// A caller puts messages back in turn, until all queues that are left are held back. A queue that rests, as queue 1 once it is
+// empty, ends the count.
+#[test]
+fn a_caller_holds_back(rt: HostRuntime) {
+    let rows = [
+        Row::Put(0, b'a'),
+        Row::Pass(0, 0, 0),
+        Row::Put(0, b'b'),
+        Row::Hold(0, 0, 0),
+        Row::Pass(1, 1, 1),
+        Row::Hold(0, 0, 0),
+        Row::Hold(1, 0, 0),
+        Row::Rest(1),
+        Row::Sizes([1, 0, 1]),
+        Row::Run(Way::Forward, None),
+        Row::Sizes([0, 0, 2]),
+    ];
+    assert_rows(&rt, rt.alloc(), &wide(), &rows, 2);
+}
+
 // No message can be taken off this queue.
 fn assert_kept(rt: &impl Abort, sides: &mut Sides, queue: u8) {
     assert!(rt; matches!(taken(sides, queue, &mut []), Err(Refusal::NoSuchQueue)));
+}
+
+// No message can be put back on this queue.
+fn assert_not_held(rt: &impl Abort, sides: &mut Sides, queue: u8) {
+    let Ok(token) = made(sides, 0, &[BYTE]) else {
+        panic!(rt; "no block is free")
+    };
+    match sides.hold(queue, token) {
+        Ok(()) => panic!(rt; "queue {queue} exists"),
+        Err(Rejected { why, token }) => {
+            sides.freemsg(token);
+            assert_eq!(rt; why, Refusal::NoSuchQueue);
+        }
+    }
 }
 
 // Of three queues there is no queue 3.
 fn assert_no_queue(rt: &impl Abort, sides: &mut Sides) {
     assert!(rt; matches!(put(sides, 3, 0, &[BYTE]), Err(Refusal::NoSuchQueue)));
     assert!(rt; sides.bcanput(3, 0) == Err(Refusal::NoSuchQueue));
+    assert_not_held(rt, sides, 3);
     assert!(rt; sides.strqset(3, 0, 2, 1) == Err(Refusal::NoSuchQueue));
 }
 
