@@ -1,7 +1,8 @@
 //! Flushing step by step: which messages `flushq` and `flushband` free, and in which order.
 use super::{CLASSES, chained, of_band};
 use crate::tests::bench::Bench;
-use crate::tests::{Draft, QUEUE};
+use crate::tests::{Draft, HIGH_RANK, QUEUE};
+use std::process::Abort;
 use strm_data::{ClassSpec, MsgType, Refusal};
 use strm_queue::{Flush, QueueSpec};
 
@@ -66,6 +67,112 @@ fn takes_what_a_flush_frees(rt: HostRuntime) {
     let missing = Err(Refusal::NoSuchQueue);
     bench.take_flushed(&rt, (2, None), (Flush::All, 9), missing);
     bench.take_flushed(&rt, (2, Some(0)), (Flush::All, 9), missing);
+}
+
+// Enough data blocks for all messages of a drawn run.
+const MANY: [ClassSpec; 1] = [ClassSpec {
+    size: 8,
+    count: 4096,
+}];
+
+// Types of messages, the first four of which carry data.
+const KINDS: [MsgType; 6] = [
+    MsgType::MData,
+    MsgType::MProto,
+    MsgType::MPcproto,
+    MsgType::MDelay,
+    MsgType::MCtl,
+    MsgType::MIocack,
+];
+
+const DRAWN_BANDS: [u8; 4] = [0, 0, 1, 255];
+
+// A message of a plain list.
+#[derive(Clone, Copy)]
+struct Listed {
+    head: u32,
+    rank: u16,
+    has_data: bool,
+}
+
+impl Listed {
+    // Whether a flush of a queue, or of one band, takes it.
+    fn is_taken(self, flush: Flush, band: Option<u8>) -> bool {
+        let own = if self.rank == HIGH_RANK { 0 } else { self.rank };
+        (flush == Flush::All || self.has_data) && band.is_none_or(|band| u16::from(band) == own)
+    }
+}
+
+// The next number below `limit` of a fixed sequence.
+fn below(draw: &mut u32, limit: usize) -> usize {
+    *draw = draw.wrapping_mul(1_664_525).wrapping_add(1_013_904_223);
+    (*draw >> 8) as usize % limit
+}
+
+// Puts a drawn message on queue 0 and into the list, after its equals.
+fn put_drawn(rt: &impl Abort, bench: &mut Bench, list: &mut Vec<Listed>, draw: &mut u32) {
+    let kind = below(draw, KINDS.len());
+    let how = message(KINDS[kind], DRAWN_BANDS[below(draw, DRAWN_BANDS.len())]);
+    let rank = match how.kind.is_high_priority() {
+        true => HIGH_RANK,
+        false => u16::from(how.band),
+    };
+    let head = bench.put_new(rt, 0, how);
+    let listed = Listed {
+        head,
+        rank,
+        has_data: kind < 4,
+    };
+    let place = list
+        .iter()
+        .position(|other| other.rank < rank)
+        .unwrap_or(list.len());
+    list.insert(place, listed).expect(rt, "memory");
+}
+
+// Takes what a drawn flush would free off queue 0 and out of the list.
+fn take_drawn(rt: &impl Abort, bench: &mut Bench, list: &mut Vec<Listed>, draw: &mut u32) {
+    let band = match below(draw, 2) {
+        0 => None,
+        _ => Some(DRAWN_BANDS[below(draw, DRAWN_BANDS.len())]),
+    };
+    let flush = match below(draw, 2) {
+        0 => Flush::All,
+        _ => Flush::Data,
+    };
+    let most = below(draw, 5);
+    let (mut heads, mut count, mut place) = ([0; 8], 0, 0);
+    while place < list.len() {
+        let listed = list[place];
+        if count < most && listed.is_taken(flush, band) {
+            heads[count] = listed.head;
+            count += 1;
+            list.remove(place);
+        } else {
+            place += 1;
+        }
+    }
+    bench.take_flushed(rt, (0, band), (flush, most as u32), Ok(&heads[..count]));
+}
+
+// Drawn calls of `take_flushed`, beside a plain list. At most eight messages are on the queue.
+#[test]
+fn takes_as_a_plain_list_does(rt: HostRuntime) {
+    let mut bench = Bench::opened(&rt, rt.alloc(), &MANY, &QUEUES);
+    let mut list = Vec::new(rt.alloc());
+    let mut draw = 1;
+    for _step in 0..4000 {
+        if list.len() < 8 && below(&mut draw, 4) > 0 {
+            put_drawn(&rt, &mut bench, &mut list, &mut draw);
+        } else {
+            take_drawn(&rt, &mut bench, &mut list, &mut draw);
+        }
+        let mut heads = [0; 8];
+        for (place, listed) in list.iter().enumerate() {
+            heads[place] = listed.head;
+        }
+        bench.assert_heads(&rt, 0, &heads[..list.len()]);
+    }
 }
 
 // Data that two messages reference is free once both are flushed.
