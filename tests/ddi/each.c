@@ -238,7 +238,7 @@ static void note(void *letter)
 /* A queue has what a module changed of a chain through pointers; a flush frees more messages than are taken at once; timeouts come in order. */
 static void test_queue(void)
 {
-	strhead_t *head;
+	strhead_t *head = NULL;
 	queue_t *q;
 	mblk_t *mp, *last;
 	size_t count = 0;
