@@ -25,6 +25,7 @@
 //!
 //! A message that is dropped stays held until its pool is dropped, as in C: [`Pool::leaked`] finds it. A [`Guard`] frees its message.
 //! Messages have their pool's `id`: give different ids to pools whose messages can meet.
+#![deny(unsafe_code)]
 #![no_std]
 
 extern crate alloc;
@@ -39,6 +40,7 @@ use core::mem;
 
 #[cfg(feature = "channel")]
 mod channel;
+#[allow(unsafe_code)]
 mod raw;
 
 #[cfg(feature = "channel")]

@@ -1,8 +1,7 @@
-//! The calls of strm.h, and all unsafe code of the crate but that of channels. Tested, not proved.
+//! The calls of strm.h and strm_mt.h, and all unsafe code of the crate. Tested, not proved.
 //!
 //! A `safe fn` below keeps each promise of strm.h by its types: a reference leads to one object, which nothing else writes during the call; a look
 //! takes `&Handle`, and any other call `&mut Handle`. Only `open` and `Pool::from_handle` make a handle that is not closed, and no handle is copied.
-#![allow(unsafe_code)]
 
 use alloc::{string::String, vec};
 use core::ffi::{c_char, c_int, c_void, CStr};
@@ -448,5 +447,82 @@ impl Pool {
     /// The handle was not changed since strm_open, and is used nowhere else from now on.
     pub unsafe fn from_handle(handle: Handle) -> Option<Pool> {
         (strm_is_open(&handle) == 1).then_some(Pool { handle })
+    }
+}
+
+/// What channels are over: a pool of strm_mt.h, with its lock.
+#[cfg(feature = "channel")]
+pub(crate) mod mt {
+    use core::ffi::{c_int, c_long};
+    use core::ops::Deref;
+
+    use super::{with_config, Config, Handle, Name, RawConfig};
+
+    /// `struct timespec`: seconds and nanoseconds.
+    #[repr(C)]
+    pub(crate) struct Time(pub i64, pub c_long);
+
+    /// `struct strm_mt`, whose fields are C's alone.
+    #[derive(Debug)]
+    #[repr(C)]
+    pub(crate) struct Mt {
+        _fields: [u8; 0],
+    }
+
+    /// A pool that is open until this is dropped.
+    #[derive(Debug)]
+    pub(crate) struct Open(*mut Mt);
+
+    // SAFETY: these are the declarations of strm_mt.h and time.h. An `&Mt` leads to an open pool, and strm_mt.h has any thread make the `safe` calls.
+    unsafe extern "C" {
+        fn strm_mt_open(mt: &mut *mut Mt, config: &RawConfig) -> c_int;
+        fn strm_mt_close(mt: *mut Mt) -> c_int;
+        fn strm_mt_lock(mt: &Mt) -> *mut Handle;
+        fn strm_mt_unlock(mt: &Mt);
+        pub(crate) safe fn strm_mt_alloc(mt: &Mt, size: u32, msg: &mut Name, deadline: Option<&Time>) -> c_int;
+        pub(crate) safe fn strm_mt_send(mt: &Mt, queue: u32, msg: Name, deadline: Option<&Time>) -> c_int;
+        pub(crate) safe fn strm_mt_receive(mt: &Mt, queue: u32, msg: &mut Name, deadline: Option<&Time>) -> c_int;
+        pub(crate) safe fn strm_mt_shut(mt: &Mt, queue: u32) -> c_int;
+        pub(crate) safe fn clock_gettime(clock: c_int, at: &mut Time) -> c_int;
+    }
+
+    // SAFETY: strm_mt.h lets any thread make its calls, at the same time but for closing.
+    unsafe impl Send for Open {}
+    // SAFETY: the same.
+    unsafe impl Sync for Open {}
+
+    impl Drop for Open {
+        fn drop(&mut self) {
+            // SAFETY: the pool is open, and no thread has a reference to it.
+            unsafe { strm_mt_close(self.0) };
+        }
+    }
+
+    impl Deref for Open {
+        type Target = Mt;
+
+        fn deref(&self) -> &Mt {
+            // SAFETY: only `open` makes one, of a pool that `drop` closes.
+            unsafe { &*self.0 }
+        }
+    }
+
+    pub(crate) fn open(config: &Config) -> Result<Open, c_int> {
+        let mut mt = core::ptr::null_mut();
+        // SAFETY: as in the `open` above.
+        match with_config(config, |raw| unsafe { strm_mt_open(&mut mt, raw) }) {
+            0 => Ok(Open(mt)),
+            code => Err(code),
+        }
+    }
+
+    /// Has `work` use the pool while its lock is held. It does not panic, and makes no call of strm_mt.h.
+    pub(crate) fn locked<T>(mt: &Mt, work: impl FnOnce(&mut Handle) -> T) -> T {
+        // SAFETY: between the two calls no other thread uses the pool.
+        unsafe {
+            let result = work(&mut *strm_mt_lock(mt));
+            strm_mt_unlock(mt);
+            result
+        }
     }
 }
