@@ -14,9 +14,9 @@ TOP = os.path.dirname(os.path.dirname(os.path.dirname(os.path.dirname(os.path.re
 
 
 def find() -> str | None:
-    """The program in build/ of the repository, or else the one beside this tool, or else the one on PATH, or None."""
-    beside = os.path.join(os.path.dirname(os.path.abspath(sys.argv[0])), "strm")
-    near = [path for path in (os.path.join(TOP, "build", "strm"), beside) if os.path.isfile(path) and os.access(path, os.X_OK)]
+    """The program in build/ or else release/ of the repository, or else the one beside this tool, or else the one on PATH, or None."""
+    folders = (os.path.join(TOP, "build"), os.path.join(TOP, "release"), os.path.dirname(os.path.abspath(sys.argv[0])))
+    near = [path for path in (os.path.join(folder, "strm") for folder in folders) if os.path.isfile(path) and os.access(path, os.X_OK)]
     return near[0] if near else shutil.which("strm")
 
 
