@@ -160,7 +160,8 @@ int strm_mt_waiting(struct strm_mt *mt, uint32_t queue, uint32_t *calls);
  * (STRM_MT_WRITABLE), would not wait. So it is level-triggered. Another thread may come first:
  * receive and send with a deadline of zeros, and take STRM_MT_TIMED_OUT as spurious. The band of
  * STRM_MT_READABLE is ignored. Equal arguments give the same descriptor, which stays until
- * strm_mt_close; do not read, write or close it. Each change of readiness costs a system call.
+ * strm_mt_close or execve; do not read, write or close it. Each change of readiness costs a system
+ * call.
  * Refused as STRM_BAD_ARGUMENT for another `what` or band, STRM_NO_SUCH_QUEUE, STRM_NO_MEMORY,
  * STRM_MT_NO_FD.
  */

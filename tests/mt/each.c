@@ -1,6 +1,6 @@
 /*
  * Makes each call of strm_mt.h with each of its results, in threads that wait for one another: codes, orders, deadlines, bursts, shut queues,
- * descriptors, cancelled threads, signals and system calls. The last line is 'N passed, M failed'. A call may wait for PATIENCE seconds, by
+ * descriptors, cancelled threads, signals, forks and system calls. The last line is 'N passed, M failed'. A call may wait for PATIENCE seconds, by
  * default 10. Behind the word `sanitizers` system calls are not counted.
  *
  *     each [PATIENCE [sanitizers]]
@@ -700,10 +700,78 @@ static void check_system_calls(void)
 	CHECK(is(msg, "a"));
 }
 
+/* ---- forks */
+
+/* Does some work in a child of a fork. Returns whether the child ends with no check that failed. */
+static int child_does(void (*work)(void))
+{
+	int status = -1;
+	pid_t child;
+
+	fflush(stdout);
+	child = fork();
+	if (child == 0) {
+		work();
+		status = summary();
+		fflush(stdout);
+		_exit(status);
+	}
+	return child > 0 && waitpid(child, &status, 0) == child && WIFEXITED(status) && WEXITSTATUS(status) == 0;
+}
+
+/* Uses the pool and closes it, or is ended by SIGALRM. */
+static void use_after_fork(void)
+{
+	alarm((unsigned)(4 * patience));
+	strm_mt_unlock(mt);
+	CHECK(brings(WIDE, "a"));
+	check_receiving();
+	check_sending();
+	check_descriptors();
+	close_pool();
+}
+
+/* Forks under the lock. From then on the child alone uses the pool, also by threads. */
+static void leave_to_child(void)
+{
+	open_pool();
+	send_now(WIDE, 0, "a");
+	strm_mt_lock(mt);
+	CHECK(child_does(use_after_fork));
+}
+
+static char descriptor[32];
+
+/* Executes a program that ends well if it does not have the descriptor. */
+static void execute(void)
+{
+	execl("/usr/bin/test", "test", "!", "-e", descriptor, (char *)NULL);
+	_exit(2);
+}
+
+/* The child of a process without threads may use the pool. A fork beside threads changes nothing for these, nor for descriptors. */
+static void check_forks(void)
+{
+	struct task task;
+	int fd = fd_of(WIDE, STRM_MT_READABLE, 0);
+
+	CHECK(child_does(leave_to_child));
+	snprintf(descriptor, sizeof descriptor, "/proc/self/fd/%d", fd);
+	send_now(WIDE, 0, "a");
+	receiver(&task, NARROW);
+	CHECK(child_does(execute));
+	CHECK(come_to_wait(NARROW, 1) && is_readable(fd));
+	CHECK(brings(WIDE, "a") && !is_readable(fd));
+	send_now(NARROW, 0, "b");
+	ANSWERS(code_of(&task), STRM_OK);
+	CHECK(is(task.msgs[0], "b"));
+}
+
 int main(int count, char **words)
 {
 	static void (*const checks[])(void) = { check_codes, check_deadlines, check_receiving, check_sending, check_bursts,
-		check_allocating, check_shutting, check_descriptors, check_cancelling, check_signals, check_readers, check_system_calls };
+		check_allocating, check_shutting, check_descriptors, check_cancelling, check_signals, check_readers, check_forks,
+		check_system_calls };
 	size_t at, last = sizeof checks / sizeof *checks;
 
 	if (count > 1)
