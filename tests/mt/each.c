@@ -610,6 +610,7 @@ static void check_signals(void)
 
 static pthread_barrier_t both_look;
 static volatile uint32_t changes;
+static int lookers;
 
 static void *look_together(void *given)
 {
@@ -626,17 +627,18 @@ static void *look_together(void *given)
 /* Returns null if another thread changed something between two looks under the same lock. */
 static void *look_beside_changes(void *given)
 {
-	uint32_t first, seen = 0;
+	uint32_t first;
+	int round;
 
-	while (seen < 2000) {
+	for (round = 0; round < 100; round++) {
 		strm_mt_rdlock(mt);
 		first = changes;
-		sched_yield();
+		usleep(100);
 		if (changes != first || changes % 2 != 0)
 			given = NULL;
-		seen = changes;
 		strm_mt_rdunlock(mt);
 	}
+	__atomic_fetch_sub(&lookers, 1, __ATOMIC_RELEASE);
 	return given;
 }
 
@@ -653,14 +655,16 @@ static void check_readers(void)
 	for (at = 0; at < 2; at++)
 		CHECK(pthread_join(threads[at], &result) == 0);
 	pthread_barrier_destroy(&both_look);
+	lookers = 2;
 	for (at = 0; at < 2; at++)
 		CHECK(pthread_create(&threads[at], NULL, look_beside_changes, mt) == 0);
-	while (changes < 2000) {
+	while (__atomic_load_n(&lookers, __ATOMIC_ACQUIRE) != 0) {
 		strm_mt_lock(mt);
 		changes++;
 		sched_yield();
 		changes++;
 		strm_mt_unlock(mt);
+		usleep(10);
 	}
 	for (at = 0; at < 2; at++)
 		CHECK(pthread_join(threads[at], &result) == 0 && result != NULL);
