@@ -521,7 +521,7 @@ static void check_descriptors(void)
 	CHECK(is_readable(message) && is_readable(room) && !is_readable(wide));
 }
 
-/* ---- cancelled threads, signals, readers and system calls */
+/* ---- cancelled threads, signals and readers */
 
 static void cancel(struct task *task)
 {
@@ -670,41 +670,7 @@ static void check_readers(void)
 		CHECK(pthread_join(threads[at], &result) == 0 && result != NULL);
 }
 
-/* Sends and receives a message many times, and ends the process. A system call but this last one ends it by SIGKILL. */
-static void without_system_calls(struct strm_msg msg)
-{
-	size_t count = 0;
-	int round, code = 0;
-
-	if (prctl(PR_SET_SECCOMP, SECCOMP_MODE_STRICT) != 0)
-		_exit(2);
-	for (round = 0; round < 1000; round++) {
-		code |= strm_mt_send(mt, WIDE, msg, NULL);
-		code |= strm_mt_receive_n(mt, WIDE, &msg, 1, NULL, &count);
-		code |= strm_mt_receive(mt, NARROW, &msg, &now) != STRM_MT_TIMED_OUT;
-		strm_mt_rdlock(mt);
-		strm_mt_rdunlock(mt);
-		code |= strm_freemsg(strm_mt_lock(mt), msg);
-		strm_mt_unlock(mt);
-		code |= strm_mt_alloc(mt, 1, &msg, NULL);
-	}
-	syscall(SYS_exit, code != 0);
-}
-
-/* Where nobody waits, no call makes a system call. Sanitizers make some of their own. */
-static void check_system_calls(void)
-{
-	struct strm_msg msg = made(0, "a");
-	int status = -1;
-	pid_t child = fork();
-
-	if (child == 0)
-		without_system_calls(msg);
-	CHECK(child > 0 && waitpid(child, &status, 0) == child && WIFEXITED(status) && WEXITSTATUS(status) == 0);
-	CHECK(is(msg, "a"));
-}
-
-/* ---- forks */
+/* ---- forks and system calls */
 
 /* Does some work in a child of a fork. Returns whether the child ends with no check that failed. */
 static int child_does(void (*work)(void))
@@ -769,6 +735,36 @@ static void check_forks(void)
 	send_now(NARROW, 0, "b");
 	ANSWERS(code_of(&task), STRM_OK);
 	CHECK(is(task.msgs[0], "b"));
+}
+
+/* Sends and receives a message many times, and ends the process. A system call but this last one ends it by SIGKILL. */
+static void without_system_calls(void)
+{
+	struct strm_msg msg;
+	size_t count = 0;
+	int round, code = 0;
+
+	open_pool();
+	msg = made(0, "a");
+	if (prctl(PR_SET_SECCOMP, SECCOMP_MODE_STRICT) != 0)
+		_exit(2);
+	for (round = 0; round < 1000; round++) {
+		code |= strm_mt_send(mt, WIDE, msg, NULL);
+		code |= strm_mt_receive_n(mt, WIDE, &msg, 1, NULL, &count);
+		code |= strm_mt_receive(mt, NARROW, &msg, &now) != STRM_MT_TIMED_OUT;
+		strm_mt_rdlock(mt);
+		strm_mt_rdunlock(mt);
+		code |= strm_freemsg(strm_mt_lock(mt), msg);
+		strm_mt_unlock(mt);
+		code |= strm_mt_alloc(mt, 1, &msg, NULL);
+	}
+	syscall(SYS_exit, code != 0);
+}
+
+/* Where nobody waits, no call makes a system call. Sanitizers make some of their own. */
+static void check_system_calls(void)
+{
+	CHECK(child_does(without_system_calls));
 }
 
 int main(int count, char **words)
