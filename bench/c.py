@@ -20,13 +20,14 @@ OPENING = os.path.join(TOP, "bench", "c", "open.c")
 
 class Round(NamedTuple):
     """What a round does, how many calls it makes, and the row of strm_bench with the same calls of `Pool`, if it has one, for this size. Of
-    that row another is subtracted if one is named."""
+    that row another is subtracted if one is named. `messages` are those of a call on several."""
 
     shown: str
     calls: int
     row: str = ""
     less: str = ""
     size: int = 64
+    messages: int = 1
 
 
 # Single calls. The numbers of messages and bytes are those of rounds.c.
@@ -35,13 +36,13 @@ ROUNDS = {
     "dupb": Round("`strm_dupb`, `strm_freemsg`", 2, "dupb", "allocb"),
     "write": Round("`strm_allocb`, `strm_write` 64 bytes, `strm_freemsg`", 3, "write"),
     "putq": Round("`strm_putq`, `strm_getq`, the queue's only message", 2, "putq"),
-    "allocb_8": Round("`strm_allocb_n`, `strm_freemsg_n`, 8 messages", 2),
-    "allocb_32": Round("the same, 32", 2),
-    "allocb_256": Round("the same, 256", 2),
-    "putq_8": Round("`strm_putq_n`, `strm_getq_n`, 8 messages", 2),
-    "putq_32": Round("the same, 32", 2),
-    "putq_256": Round("the same, 256", 2),
-    "bands_32": Round("the same, 32 messages in 8 bands", 2),
+    "allocb_8": Round("`strm_allocb_n`, `strm_freemsg_n`, 8 messages", 2, messages=8),
+    "allocb_32": Round("the same, 32", 2, messages=32),
+    "allocb_256": Round("the same, 256", 2, messages=256),
+    "putq_8": Round("`strm_putq_n`, `strm_getq_n`, 8 messages", 2, messages=8),
+    "putq_32": Round("the same, 32", 2, messages=32),
+    "putq_256": Round("the same, 256", 2, messages=256),
+    "bands_32": Round("the same, 32 messages in 8 bands", 2, messages=32),
     "transfer": Round("`strm_transfer` of 64 bytes to another pool, and back", 2, "transfer"),
     "read": Round("`strm_read` 64 bytes", 1, "read_all"),
     "bytes": Round("`strm_bytes`", 1, "bytes"),
@@ -98,13 +99,15 @@ def has(program, over, name):
 
 def nanoseconds(program, over, name, rounds):
     """The nanoseconds of a round, as the median of some runs."""
-    runs = [float(subprocess.run([program, over, name, str(TIMED)], check=True, capture_output=True, text=True).stdout) for _ in range(rounds)]
-    return statistics.median(runs) / TIMED
+    count = TIMED // ROUNDS[name].messages
+    runs = [float(subprocess.run([program, over, name, str(count)], check=True, capture_output=True, text=True).stdout) for _ in range(rounds)]
+    return statistics.median(runs) / count
 
 
 def instructions(program, over, name):
     """The instructions of a round: how many more twice the rounds take, per round."""
-    return (counted(program, over, name, 2 * COUNTED) - counted(program, over, name, COUNTED)) / COUNTED
+    count = COUNTED // ROUNDS[name].messages
+    return (counted(program, over, name, 2 * count) - counted(program, over, name, count)) / count
 
 
 def counted(program, over, name, count):
