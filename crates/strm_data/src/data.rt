@@ -84,7 +84,9 @@ impl Class {
     fn note(&mut self, free: u32)
         ensures { self.new ≡ record self.old { least = min self.old.least free } }
     {
-        self.least = self.least.min(free);
+        if free < self.least {
+            self.least = free;
+        }
     }
 }
 
@@ -308,8 +310,9 @@ impl Data {
         ensures kept { IsKept self.new }
     {
         let class = self.class_for(size)?;
-        let number = self.free.pop_front(class).unwrap();
-        self.classes[class as usize].note(self.free.len(class));
+        let left = self.free.len(class) - 1;
+        self.classes[class as usize].note(left);
+        let number = self.free.take_front(class);
         let block = &mut self.blocks[number as usize];
         block.kind = MsgType::MData;
         block.references = 1;

@@ -1,5 +1,5 @@
 -- How `Stacks` stores the rows that a contract sees, and what a push and a pop leave of them.
-use Rattle.std.proofs.Common.{◌≡◌, ◌≢◌, ℕ, zero, suc, ◌+◌, ◌-◌, ◌<◌, ◌≤◌, ◌^◌, true, false, List, [], ◌∷◌, map, length, get_or, set, drop, replicate, Option, Some, None, refl, sym, ap, ◌∙◌, subst, inl, inr, arith, get_or-set_same, get_or-set_other, length-append, length-set}
+use Rattle.std.proofs.Common.{◌≡◌, ◌≢◌, ℕ, zero, suc, ◌+◌, ◌-◌, ◌<◌, ◌≤◌, ◌^◌, true, false, List, [], ◌∷◌, map, length, get_or, set, drop, replicate, Option, Some, None, IsSome, refl, sym, ap, ◌∙◌, subst, inl, inr, arith, get_or-set_same, get_or-set_other, length-append, length-set}
 use Rattle.std.proofs.lemmas.Bool.{cases_eq, cond-true, cond-false, eq-eqb, ne_eqb, false≢true}
 use Rattle.std.proofs.lemmas.Bool.Decides.{nat_tests}
 use Rattle.std.proofs.lemmas.List.{length-map, get_or-map, get_or_default, same_lists, get_or_read, get_or-replicate, length-replicate}
@@ -67,6 +67,11 @@ IsSound-rows behind tops rows view sound = subst (IsSound behind tops) view soun
 pub IsSound-stored : (behind : List (Option ℕ)) (tops : List Top) (rows : Rows) → IsSound behind tops rows → IsSound behind tops (stacked_rows behind tops)
 IsSound-stored behind tops rows sound = subst (IsSound behind tops) (sym (stacked_rows_is behind tops rows sound)) sound
 
+-- a list that is not empty has a first node
+first_there : (xs : List ℕ) → 0 < length xs → IsSome (first xs)
+first_there [] some = absurd (omega (arith, some))
+first_there (x ∷ xs) some = refl
+
 -- ---- what sound stacks say
 
 module _ (behind : List (Option ℕ)) (tops : List Top) (rows : Rows) (sound : IsSound behind tops rows) where
@@ -94,6 +99,10 @@ module _ (behind : List (Option ℕ)) (tops : List Top) (rows : Rows) (sound : I
     -- the front is a node
     pub front_within : (n : ℕ) → t.front ≡ Some n → n < rows.nodes
     front_within n is = All-listed (λ k. k < rows.nodes) n l rows.lists parts.within (first_has (list_at l rows) n (is_some_of-same n (first (list_at l rows)) (sym here.front ∙ is)))
+
+    -- a stack that is not empty has a front
+    pub front_there : 0 < length (list_at l rows) → IsSome t.front
+    front_there some = subst IsSome (sym here.front) (first_there (list_at l rows) some)
 
     -- ---- stack l is replaced by `ys`, whose nodes are in no other stack
     module _ (ys : List ℕ) (once : (k : ℕ) → times k (concat (set rows.lists l ys)) ≤ 1) (low : (k : ℕ) → 0 < times k (concat (set rows.lists l ys)) → k < rows.nodes)
@@ -211,8 +220,8 @@ module _ (behind : List (Option ℕ)) (tops : List Top) (rows : Rows) (sound : I
       pop_freed = ap (holder n) without_front ∙ holder-remove rows apart n n ∙ cond-true _ _ _ (eq-eqb n n refl)
 
       -- every other node is held as before
-      pub pop_others : (k : ℕ) → Some n ≢ Some k → holder k (record rows { lists = set rows.lists l rest }) ≡ holder k rows
-      pop_others k other = ap (holder k) without_front ∙ holder-remove rows apart n k ∙ cond-false _ _ _ (ne_eqb n k (λ same. other (ap Some same)))
+      pub pop_others : (k : ℕ) → k ≢ n → holder k (record rows { lists = set rows.lists l rest }) ≡ holder k rows
+      pop_others k other = ap (holder k) without_front ∙ holder-remove rows apart n k ∙ cond-false _ _ _ (ne_eqb n k (λ same. other (sym same)))
 
 -- ---- empty stacks
 

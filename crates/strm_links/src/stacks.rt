@@ -128,13 +128,33 @@ impl Stacks {
         ensures others { (k : ℕ) → result ≢ Some k → holder k self.new ≡ holder k self.old }
         ensures parting { IsParting self.new }
     {
+        self.tops[list as usize].front.get()?;
+        Some(self.take_front(list))
+    }
+
+    /// Removes the node at the front of stack `list`, which is not empty, and returns it, without a test. All other stacks
+    /// stay unchanged.
+    #[inline(always)]
+    pub fn take_front(&mut self, list: u32) -> u32
+        requires list { list < length self.old.lists }
+        requires some { 0 < length (list_at list self.old) }
+        ensures value { first (list_at list self.old) ≡ Some result }
+        ensures lists { self.new ≡ record self.old {
+          lists = slice_set self.old.lists list (drop 1 (list_at list self.old));
+        } }
+        ensures member { holder result self.old ≡ Some list }
+        ensures in_range { result < self.old.nodes }
+        ensures freed { holder result self.new ≡ None }
+        ensures others { (k : ℕ) → k ≢ result → holder k self.new ≡ holder k self.old }
+        ensures parting { IsParting self.new }
+    {
         let top = self.tops[list as usize];
-        let node = top.front.get()?;
+        let node = top.front.number();
         self.tops[list as usize] = Top {
             len: top.len - 1,
             front: self.behind[node as usize],
         };
-        Some(node)
+        node
     }
 
     /// Law: all stacks together have each node at most once, and no other numbers. Every call that changes stacks ensures this too.

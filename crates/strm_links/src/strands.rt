@@ -138,6 +138,7 @@ fn chain_up(nodes: &mut Vec<Node>, head: u32, last: u32, len: u32)
 }
 
 // The node that is `steps` links after `from`.
+#[inline(always)]
 fn node_behind(nodes: &[Node], from: u32, steps: u32) -> u32
     requires from { from < length nodes.now }
     requires within { (k j : ℕ) → next_at nodes.now k ≡ Some j → j < length nodes.now }
@@ -293,6 +294,7 @@ impl Strands {
 
     /// Makes the first `count` free nodes one chain, in their order, and returns its head. The count is from 1 to the number of
     /// free nodes. All other chains and free nodes stay unchanged. Takes a step for each node.
+    #[inline(always)]
     pub fn begin_all(&mut self, count: u32) -> u32
         requires some { 0 < count }
         requires enough { count ≤ length self.old.free }

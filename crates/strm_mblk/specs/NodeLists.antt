@@ -1,5 +1,5 @@
 -- Message blocks as numbers only: the free ones, and the messages of the others. No public clause cites this module.
-use Rattle.std.specs.Prelude.{◌≡◌, ℕ, ◌+◌, ◌<◌, ◌≤◌, min, nat_lt, List, [], ◌∷◌, ◌++◌, length, map, replicate, reverse, take, drop, Option, None, Some, IfSome, slice_get, slice_index_or, slice_set, if◌then◌else◌}
+use Rattle.std.specs.Prelude.{◌≡◌, ℕ, ◌+◌, ◌<◌, ◌≤◌, min, nat_lt, List, [], ◌++◌, length, map, replicate, reverse, take, drop, Option, None, Some, IfSome, slice_get, slice_index_or, slice_set, if◌then◌else◌}
 use Rattle.std.specs.List.{All, position, range_with_len}
 use Rattle.strm_links.specs.Rows.{first, has}
 use Rattle.strm_data.specs.DataStore.{times}
@@ -57,11 +57,6 @@ opening_nodes nodes shelves = record { free = range_with_len 0 nodes; held = rep
 -- the lists after others than these were taken from the free numbers
 abbrev pub with_free_left : List ℕ → NodeLists → NodeLists
 with_free_left ns v = record v { free = ns; least = min v.least (length ns) }
-
--- the first free number, if any, becomes a held message
-abbrev pub after_begin : NodeLists → List ℕ → NodeLists
-after_begin v [] = v
-after_begin v (n ∷ ns) = record (with_free_left ns v) { held = slice_set v.held n (Some (n ∷ [])) }
 
 -- of the message held at h, which has numbers ns, `count` numbers after the first are freed, the last to the front; the others stay
 abbrev pub after_behind_freed : ℕ → ℕ → List ℕ → NodeLists → NodeLists

@@ -4,7 +4,7 @@ ghost use Rattle.std.specs.List.{All};
 ghost use Rattle.strm_data.specs.Classes.{are_lawful, fits_a_class};
 ghost use Rattle.strm_data.specs.DataStore.{class_infos, class_region};
 ghost use Rattle.strm_data.specs.CountedStore.{IsKept};
-ghost use Rattle.strm_mblk.specs.Arena.{IsLeastFree, IsParted, IsWithin, blocks_in, census_of, counted_in, has, held_at, opening_arena, token_of, with_least_reset};
+ghost use Rattle.strm_mblk.specs.Arena.{IsLeastFree, IsParted, IsWithin, blocks_in, census_of, counted_in, has, held_at, message_at, opening_arena, token_of, with_least_reset};
 ghost use Rattle.strm_mblk.specs.Calls.{Gives, itself};
 ghost use Rattle.strm_mblk.specs.NodeLists.{nodes_at};
 ghost use Rattle.strm_mblk.specs.Given.{answer_of};
@@ -246,10 +246,18 @@ impl Blocks {
         requires { IsTrue (is_some (held_at self.now head)) }
         ensures { result ≡ token_of self.now head }
     {
+        self.token_of(head, self.chains.len(head))
+    }
+
+    // Makes the token of a held message with this number of blocks.
+    fn token_of(&self, head: u32, blocks: u32) -> Token
+        requires { blocks ≡ length (message_at self.now head) }
+        ensures { result ≡ token_of self.now head }
+    {
         Token::of(TokenValue {
             pool: self.id,
             head,
-            blocks: self.chains.len(head),
+            blocks,
         })
     }
 
@@ -258,6 +266,7 @@ impl Blocks {
     ///
     /// Refused as `TooLarge` if the size is above the largest class, then as `NoMblk` if no message block is free, then as `NoData`
     /// if no data block that fits is free. On an error nothing changes. Takes at most two steps for each class.
+    #[inline(always)]
     pub fn allocb(&mut self, size: u32) -> Result<Token, Refusal>
         ensures { Gives itself None (model.allocb size self.old) self.old self.new result }
     {
@@ -268,9 +277,9 @@ impl Blocks {
             return Err(Refusal::TooLarge);
         }
         let data_number = self.data.take(size)?;
-        let head = self.chains.begin().unwrap();
+        let head = self.chains.begin_all(1);
         self.blocks[head as usize] = Fields::over(data_number);
-        Ok(self.token(head))
+        Ok(self.token_of(head, 1))
     }
 
     /// Says whether `allocb` would succeed for this size now. Changes nothing. Takes at most two steps for each class.

@@ -5,7 +5,7 @@ ghost use Rattle.std.specs.Option.{ForSome};
 ghost use Rattle.strm_links.specs.Rows.{IsParting, after, before, first, has, holder, last, list_at, put_in};
 ghost use Rattle.strm_links.specs.StrandLists.{strand_at};
 ghost use Rattle.strm_mblk.specs.Messages.{chain_divided, held_in, chains_joined, put_before_head, shelf_in, with_head, without_head, without_place};
-ghost use Rattle.strm_mblk.specs.NodeLists.{IsNodesParted, IsReached, after_begin, after_behind_freed, head_node, heads_on, nodes_at, opening_nodes, shelf_with, shelved_nodes, with_free_left};
+ghost use Rattle.strm_mblk.specs.NodeLists.{IsNodesParted, IsReached, after_behind_freed, head_node, heads_on, nodes_at, opening_nodes, shelf_with, shelved_nodes, with_free_left};
 
 use std::alloc::{AllocError, Global};
 use std::marker::Model;
@@ -35,12 +35,14 @@ impl Model for Chains {
     ghost invariant = { IsSound };
 }
 
-// The fewest that were free, once `least` was that and these are free.
+// Notes that this many message blocks are free, of which `least` were the fewest before.
 #[inline(always)]
-fn fewest(least: u32, strands: &Strands) -> u32
-    ensures { result ≡ min least (length strands.now.free) }
+fn note(least: &mut u32, free: u32)
+    ensures { least.new ≡ min least.old free }
 {
-    least.min(strands.free_len())
+    if free < *least {
+        *least = free;
+    }
 }
 
 impl Chains {
@@ -130,19 +132,6 @@ impl Chains {
         self.strands.next(node).unwrap_or(u32::MAX)
     }
 
-    // Makes the first free message block, if any, a held message.
-    #[inline(always)]
-    pub(crate) fn begin(&mut self) -> Option<u32>
-        ensures answer { result ≡ first self.old.free }
-        ensures after { self.new ≡ after_begin self.old self.old.free }
-        ensures in_range { IfSome result (λ node. node < length self.old.held) }
-        ensures parted { IsNodesParted self.new }
-    {
-        let begun = self.strands.begin();
-        self.least = fewest(self.least, &self.strands);
-        begun
-    }
-
     // Appends the held message `tail` to another held message.
     #[inline(always)]
     pub(crate) fn join(&mut self, head: u32, tail: u32)
@@ -156,6 +145,7 @@ impl Chains {
     }
 
     // Makes the first `count` free message blocks one held message, in their order, and returns its head.
+    #[inline(always)]
     pub(crate) fn begin_all(&mut self, count: u32) -> u32
         requires some { 0 < count }
         requires enough { count ≤ length self.old.free }
@@ -165,9 +155,9 @@ impl Chains {
         } }
         ensures parted { IsNodesParted self.new }
     {
-        let begun = self.strands.begin_all(count);
-        self.least = fewest(self.least, &self.strands);
-        begun
+        let left = self.strands.free_len() - count;
+        note(&mut self.least, left);
+        self.strands.begin_all(count)
     }
 
     // Makes the blocks after the first of a held message, if any, a held message of their own, and returns its head.

@@ -1,8 +1,8 @@
 -- A data block that is altered in memory: what a contract sees then, and that all is laid out as before.
-use Rattle.std.proofs.Common.{◌≡◌, ◌≢◌, ℕ, ◌+◌, ◌-◌, ◌<◌, ◌≤◌, min, List, [], ◌∷◌, length, get_or, set, map, Ok, Some, drop, refl, sym, ap, ◌∙◌, subst, arith, length-set, get_or-set_same}
+use Rattle.std.proofs.Common.{◌≡◌, ◌≢◌, ℕ, ◌+◌, ◌-◌, ◌<◌, ◌≤◌, min, List, [], ◌∷◌, length, get_or, set, map, Ok, Some, drop, refl, sym, ap, ◌∙◌, subst, arith, length-set}
 use Rattle.std.specs.Vec.{with_item}
 use Rattle.std.proofs.lemmas.Bool.{cond-true, cond-false, eq-eqb, ne_eqb}
-use Rattle.std.proofs.lemmas.List.{get_or_default, length-map, set-get_or}
+use Rattle.std.proofs.lemmas.List.{get_or_default, length-drop, length-map, set-get_or}
 use Rattle.strm_links.specs.Rows.{Rows, first, list_at}
 use Rattle.strm_data.specs.declared.data.Class.{Class}
 use Rattle.strm_data.specs.declared.data.Data.TheInside.{Inside}
@@ -69,6 +69,10 @@ module _ (a : Inside) (v : CountedStore) (view : store_of a ≡ v) (laid : IsSou
       let one = cond-true _ (with_data_freed d v.store) v.store (eq-eqb (count_of v d) 1 (sym references ∙ last)) in
       cc (recounted (record b { references = b.references - 1 }) refl lists refl, view, references, class_of_is a v view d there b read, pushed, one)
 
+-- a class from which a size takes has a free data block
+pub free_there : (a : Inside) (v : CountedStore) (size c : ℕ) → store_of a ≡ v → IsTakenFrom size v.store c → 0 < length (list_at c a.free)
+free_there a v size c view found = subst (λ (s : CountedStore). 0 < length (free_of s.store c)) (sym view) found.some
+
 -- data block n is the first free one of class c, from which the size takes
 module _ (a : Inside) (v : CountedStore) (view : store_of a ≡ v) (laid : IsSound a) (size c n : ℕ) (found : IsTakenFrom size v.store c) (is : first (list_at c a.free) ≡ Some n) where
   first_is : first (free_of v.store c) ≡ Some n
@@ -102,7 +106,7 @@ module _ (a : Inside) (v : CountedStore) (view : store_of a ≡ v) (laid : IsSou
 
   -- it has left its list, of which m are left, is of type M_DATA, and has one name
   module _ (b : DataBlock) (read : b ≡ get_or a.blocks.items n b) (lists : List (List ℕ)) (popped : lists ≡ set a.free.lists c (drop 1 (get_or a.free.lists c [])))
-      (k : Class) (read_class : k ≡ get_or a.classes.items c k) (m : ℕ) (left : m ≡ length (get_or lists c [])) (noted : Class) (noted_is : noted ≡ record k { least = min k.least m }) where
+      (k : Class) (read_class : k ≡ get_or a.classes.items c k) (m : ℕ) (left : m ≡ length (get_or a.free.lists c []) - 1) (noted : Class) (noted_is : noted ≡ record k { least = min k.least m }) where
     abbrev regions_now : List (List ℕ)
     regions_now = map (λ r. r.items) a.regions.items
 
@@ -115,13 +119,8 @@ module _ (a : Inside) (v : CountedStore) (view : store_of a ≡ v) (laid : IsSou
     class_is : k ≡ class_at a.classes.items c
     class_is = read_class ∙ get_or_default a.classes.items c k no_class found_within
 
-    listed : c < length a.free.lists
-    listed = omega (arith, found_within, laid.kept.lists, length-map a.classes.items (λ (x : Class). x.spec))
-
     left_is : m ≡ length (drop 1 (free_of v.store c))
-    left_is =
-        left ∙ ap (λ ls. length (get_or ls c [])) popped ∙ ap length (get_or-set_same a.free.lists c (drop 1 (get_or a.free.lists c [])) [] listed)
-        ∙ ap (λ (s : CountedStore). length (drop 1 (free_of s.store c))) view
+    left_is = left ∙ ap (λ (s : CountedStore). length (free_of s.store c) - 1) view ∙ sym (length-drop 1 (free_of v.store c))
 
     least_now : map (λ x. x.least) classes_now ≡ set v.store.least c (min (least_of v.store c) (length (drop 1 (free_of v.store c))))
     least_now =

@@ -97,7 +97,8 @@ impl Twin {
     fn drain(&mut self, rt: &impl Abort, list: u32) {
         assert!(rt; list < self.lists);
         for _ in 0..self.stacks.len(list) {
-            let _ = self.pop_front(rt, list);
+            let node = self.stacks.take_front(list);
+            assert!(rt; self.plain.pop(rt, list) == Some(node));
         }
         self.compare(rt, list);
     }

@@ -8,18 +8,18 @@ use Rattle.std.specs.List.{position, position_or_len, All, concat, flat_map}
 use Rattle.std.specs.Option.{option_map_or}
 use Rattle.std.proofs.lemmas.List.Concat.{flat_map-append}
 use Rattle.std.proofs.lemmas.List.Folds.{flat_map-map}
-use Rattle.std.proofs.Math.Nat.{min-eq_left, min-le_right}
+use Rattle.std.proofs.Math.Nat.{min-le_right}
 use Rattle.std.proofs.lemmas.Bool.{false≢true}
 use Rattle.strm_links.specs.Rows.{Rows, has, first, after, before, list_at, holder, next_in, previous_in, IsApart, linked_nodes}
 use Rattle.strm_links.specs.Chains.{items_of, chains_joined, chain_divided, item_taken_out}
-use Rattle.strm_links.specs.StrandLists.{StrandLists, strand_at, IsParted, with_behind_freed, with_first_begun}
+use Rattle.strm_links.specs.StrandLists.{StrandLists, strand_at, IsParted, with_behind_freed}
 use Rattle.strm_links.proofs.lists.OneList.{has_head, has_tail, some_of, All-has, differ, absent_both}
 use Rattle.strm_links.proofs.lists.AllLists.{has-holder}
 use Rattle.strm_data.specs.DataStore.{times}
 use Rattle.strm_links.proofs.lists.Counting.{times-append}
 use Rattle.strm_mblk.specs.ChainLayout.{IsChained, nodes_of, held_of, shelves_of, strands_but}
 use Rattle.strm_mblk.specs.Messages.{shelf_in, blocks_of, blocks_on, blocks_held, held_in}
-use Rattle.strm_mblk.specs.NodeLists.{NodeLists, head_node, heads_on, nodes_at, shelf_with, shelved_nodes, IsNodesParted, after_begin, after_behind_freed, with_free_left}
+use Rattle.strm_mblk.specs.NodeLists.{NodeLists, head_node, heads_on, nodes_at, shelf_with, shelved_nodes, IsNodesParted, after_behind_freed, with_free_left}
 use Rattle.strm_mblk.proofs.Lists.{at_first, count_adds, flat_map-set_adds, nonempty, times_at}
 use Rattle.strm_mblk.proofs.chaining.Seen.{held_off, held_on, length-held, length-shelves, off_shelf, shelf-get, free_unheld, not_begun, not_head, but_set, map_members, unlinked}
 use Rattle.std.proofs.lemmas.Grind.{common_steps}
@@ -304,19 +304,6 @@ module _ {least : ℕ} (v : StrandLists) (heads : Rows) (laid : IsChained v head
       one_laid new ns h o off noted (subst (λ (u : StrandLists). noted ≤ length u.free) now (min-le_right least (length new.free))) now parted,
     )
 
-    -- the first free one is a message
-    pub begun : new ≡ with_first_begun v.free v → IsNoted (after_begin w w.free)
-    begun now = subst (λ ns. IsNoted (after_begin w ns)) free_is (by_case v.free refl now)
-      where
-        by_case : (ns : List ℕ) → v.free ≡ ns → new ≡ with_first_begun ns v → IsNoted (after_begin w ns)
-        by_case [] none same =
-            let as_before : least ≡ noted = sym (min-eq_left (subst (λ (u : StrandLists). least ≤ length u.free) (sym same) laid.fewest)) in
-            subst (λ n. (nodes_of new heads n ≡ w) × IsChained new heads n) as_before
-            (ap (λ u. nodes_of u heads least) same ∙ is, subst (λ u. IsChained u heads least) (sym same) laid)
-        by_case (n ∷ ns) free same =
-            let off = free_off n (subst (λ fs. 0 < times n fs) (sym free) (times_at n (n ∷ ns) 0 refl)) in
-            notes ns n (Some (n ∷ [])) off same
-
     -- the first of them are one
     pub begun_all : (count h : ℕ) → first v.free ≡ Some h → new ≡ record v { free = drop count v.free; chains = set v.chains h (Some (take count v.free)) }
         → IsNoted (record (with_free_left (drop count w.free) w) { held = set w.held h (Some (take count w.free)) })
@@ -388,7 +375,3 @@ module _ {least : ℕ} (v : StrandLists) (heads : Rows) (laid : IsChained v head
 -- the numbers once the first k free ones are a message, held at h
 abbrev pub after_begin_all : NodeLists → ℕ → ℕ → NodeLists
 after_begin_all v h k = record (with_free_left (drop k v.free) v) { held = set v.held h (Some (take k v.free)) }
-
--- the first free block is a message
-pub begun_first : (v : NodeLists) (h : ℕ) → first v.free ≡ Some h → after_begin v v.free ≡ after_begin_all v h 1
-begun_first v h begun = grind (arith, common_steps, none-some, same_Some)

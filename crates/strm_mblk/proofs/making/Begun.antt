@@ -16,11 +16,11 @@ use Rattle.strm_mblk.specs.Block.{Block, Message, head_of, uses_data, new_block}
 use Rattle.strm_mblk.specs.BlockCalls.{held_under, blocks_renumbered, allocb}
 use Rattle.strm_mblk.specs.BlocksLayout.{IsFilled, IsPlaced, arena_of, block_of, fields_at, fields_of, message_of, no_fields, with_fields}
 use Rattle.strm_mblk.specs.Messages.{blocks_held, blocks_on, blocks_of}
-use Rattle.strm_mblk.specs.NodeLists.{IsNodesParted, NodeLists, after_begin}
+use Rattle.strm_mblk.specs.NodeLists.{IsNodesParted, NodeLists}
 use Rattle.strm_mblk.proofs.layout.Shown.{AreAlike, alike_each, held-alike, held_at-seen, shelves-alike}
 use Rattle.strm_mblk.proofs.Lists.{first_rest, count_adds, count_one}
 use Rattle.strm_mblk.proofs.chaining.Seen.{free_room, free_unheld, one_of_all}
-use Rattle.strm_mblk.proofs.chaining.Parted.{after_begin_all, begun_first}
+use Rattle.strm_mblk.proofs.chaining.Parted.{after_begin_all}
 use Rattle.strm_mblk.proofs.arena.Counts.{held_moves}
 use Rattle.strm_mblk.proofs.layout.Rooms.{HasRooms, placed-over, placed-set, count_of-set, rooms-taken}
 use Rattle.std.proofs.lemmas.Grind.{common_steps}
@@ -205,7 +205,7 @@ pub record IsAllocated (a : Arena) (t : CountedStore) (fields : List Fields) (w 
   pub done : allocb size a ≡ Ok (n, arena_of id t.store fields w)
 
 module _ (id : ℕ) (s : CountedStore) (fields : List Fields) (v : NodeLists) (filled : IsFilled s fields v (arena_of id s.store fields v)) (n : ℕ) (begun : first v.free ≡ Some n)
-    (d : ℕ) (t : CountedStore) (w : NodeLists) (x : Fields) (fresh : IsUnused s d) (kept : IsKept t) (t_is : t ≡ after_take s (Ok d)) (w_is : w ≡ after_begin v v.free) (parted : IsNodesParted w)
+    (d : ℕ) (t : CountedStore) (w : NodeLists) (x : Fields) (fresh : IsUnused s d) (kept : IsKept t) (t_is : t ≡ after_take s (Ok d)) (w_is : w ≡ after_begin_all v n 1) (parted : IsNodesParted w)
     (x_is : x ≡ record { data_number = d; offset = 0; len = 0; band = 0 }) where
   rooms : HasRooms s.store t.store
   rooms = subst (HasRooms s.store) (sym (ap (λ (c : CountedStore). c.store) t_is)) (rooms-taken s.store d)
@@ -226,7 +226,7 @@ module _ (id : ℕ) (s : CountedStore) (fields : List Fields) (v : NodeLists) (f
   begins_new : IsBegunAll (arena_of id s.store fields v) t (set fields n x) w id n (new_block n d ∷ [])
   begins_new =
       subst (λ fs. IsBegunAll (arena_of id s.store fields v) t fs w id n (new_block n d ∷ [])) said
-      (begins_all id s fields v filled n begun (new_block n d ∷ []) (omega arith) (omega (arith, ap length free_is)) t w kept (w_is ∙ begun_first v n begun) parted rooms placed named)
+      (begins_all id s fields v filled n begun (new_block n d ∷ []) (omega arith) (omega (arith, ap length free_is)) t w kept w_is parted rooms placed named)
 
   pub allocates : (size : ℕ) → fits_a_class size s.store.classes ≡ true → take_data size s.store ≡ Ok d → IsAllocated (arena_of id s.store fields v) t (set fields n x) w id size n d
   allocates size fits some = grind (arith, common_steps, begins_new, allocb_done, free_is)

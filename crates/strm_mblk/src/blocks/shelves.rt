@@ -102,8 +102,9 @@ impl Blocks {
         ensures { Takes itself (Ok (head, model.unshelve shelf head self.old)) self.old self.new (Ok result) }
     {
         self.chains.unshelve(u32::from(shelf), head);
-        self.queued -= self.chains.len(head);
-        self.token(head)
+        let blocks = self.chains.len(head);
+        self.queued -= blocks;
+        self.token_of(head, blocks)
     }
 
     /// Returns the type of the first block of a message on a shelf. Changes nothing.

@@ -1,13 +1,16 @@
 use Rattle.std.proofs.Common.{Ok, [], ◌∷◌, ◌≡◌, ap, refl, subst, sym, true, ◌∙◌, arith, length}
 use Rattle.std.specs.Prelude.{is_some}
+use Rattle.std.proofs.lemmas.List.{length-map}
 use Rattle.strm_links.specs.Rows.{has}
 use Rattle.strm_mblk.specs.declared.token.TokenValue.{TokenValue}
 use Rattle.strm_mblk.specs.Arena as arena
 use Rattle.strm_mblk.specs.Arena.{Arena, shelved_blocks}
-use Rattle.strm_mblk.specs.BlocksLayout.{arena_in, arena_of}
+use Rattle.strm_mblk.specs.BlocksLayout.{arena_in, arena_of, block_at}
+use Rattle.strm_mblk.specs.NodeLists.{nodes_at}
 use Rattle.strm_mblk.specs.Frame.{LeavesOthers}
 use Rattle.strm_mblk.specs.Shelves.{heads_at, unshelve}
 use Rattle.strm_mblk.proofs.layout.Places.{held_nodes}
+use Rattle.strm_mblk.proofs.layout.Shown.{message_at-seen}
 use Rattle.strm_mblk.proofs.shelving.Shelving.{IsUnshelved, heads_at-seen, unshelves}
 use Rattle.strm_mblk.proofs.arena.Counts.{token_had}
 use Rattle.strm_mblk.proofs.arena.Frame.{others_one}
@@ -31,26 +34,28 @@ is_unshelved c =
     (omega (arith, c.requires.shelf, c.from.ensures, ap (λ (a : Arena). length a.shelves) c.self.view_is)) ((λ i. has c.args.head (heads_at (c.self.view_is i) (c.from.ensures i))) ∙ c.requires.there)
     c.unshelve.new.self c.unshelve.ensures.after c.unshelve.ensures.parted))
 
-pub len-requires : goal.len-requires
-len-requires c =
-    let is = is_unshelved (goal.at.len-requires c).After-unshelve in
+pub len-blocks-requires : goal.len-blocks-requires
+len-blocks-requires c =
+    let is = is_unshelved (goal.at.len-blocks-requires c).After-unshelve in
     ap is_some (held_nodes c.self.inside.id c.self.inside.data.store c.self.inside.blocks.items c.unshelve.new.self c.args.head is.message is.held).1.held
 
 pub overflow_sub-self : goal.overflow_sub-self
 overflow_sub-self c =
     let is = is_unshelved (goal.at.overflow_sub-self c).After-unshelve in
-    omega (arith, c.len.ensures, c.self.invariant.queued, ap (λ a. length (shelved_blocks a)) c.self.view_is, is.queued)
+    omega (arith, c.len-blocks.ensures, c.self.invariant.queued, ap (λ a. length (shelved_blocks a)) c.self.view_is, is.queued)
 
 pub invariant_of-self : goal.invariant_of-self
 invariant_of-self c =
     let is = is_unshelved (goal.at.invariant_of-self c).After-unshelve in
     record {
       filled = is.filled;
-      queued = omega (arith, c.len.ensures, c.self.invariant.queued, ap (λ a. length (shelved_blocks a)) c.self.view_is, is.queued);
+      queued = omega (arith, c.len-blocks.ensures, c.self.invariant.queued, ap (λ a. length (shelved_blocks a)) c.self.view_is, is.queued);
     }
 
-pub token-requires : goal.token-requires
-token-requires c = ap is_some (is_unshelved (goal.at.token-requires c).After-unshelve).held
+pub token_of-requires : goal.token_of-requires
+token_of-requires c =
+    let ns = nodes_at c.unshelve.new.self c.args.head in
+    c.len-blocks.ensures ∙ sym (ap length (message_at-seen c.self.inside.id c.self.inside.data.store c.self.inside.blocks.items c.unshelve.new.self c.args.head) ∙ length-map ns (block_at c.self.inside.blocks.items))
 
 pub returns : goal.returns
 returns c =
@@ -58,10 +63,10 @@ returns c =
     let now = arena_of c.self.inside.id c.self.inside.data.store c.self.inside.blocks.items c.unshelve.new.self in
     record {
       after = is.after;
-      token = ap (λ (t : TokenValue). Ok t) c.token.ensures;
-      had = ap (arena.has now) c.token.ensures ∙ token_had now c.args.head is.message is.held;
-      unheld = ap (λ (t : TokenValue). arena.held_at c.args.self.now t.head) c.token.ensures ∙ is.unheld;
+      token = ap (λ (t : TokenValue). Ok t) c.token_of.ensures;
+      had = ap (arena.has now) c.token_of.ensures ∙ token_had now c.args.head is.message is.held;
+      unheld = ap (λ (t : TokenValue). arena.held_at c.args.self.now t.head) c.token_of.ensures ∙ is.unheld;
       others =
-          subst (λ (t : TokenValue). LeavesOthers (t.head ∷ []) c.args.self.now now) (sym c.token.ensures)
+          subst (λ (t : TokenValue). LeavesOthers (t.head ∷ []) c.args.self.now now) (sym c.token_of.ensures)
           (subst (LeavesOthers (c.args.head ∷ []) c.args.self.now) (sym is.after) (others_one c.args.self.now (unshelve c.args.shelf c.args.head c.args.self.now) c.args.head _ refl refl));
     }
