@@ -284,8 +284,8 @@ impl Data {
         ensures found { IfOk result (IsTakenFrom size self.now.store) }
         ensures none { IfErr result (λ why. take_data size self.now.store ≡ Err why) }
     {
-        for (number, class) in self.classes.iter().enumerate() {
-            let number = number as u32;
+        for number in 0..self.classes.len() as u32 {
+            let class = &self.classes[number as usize];
             if class.spec.size >= size && self.free.len(number) > 0 {
                 return Ok(number);
             }
