@@ -28,8 +28,9 @@ pub(crate) struct Placed {
 #[derive(Debug, Drop)]
 pub(crate) struct Tally {
     len: u32,
-    bytes: u32,
     counts: [u32; BANDS],
+    // It is not beside `len`: otherwise the compiler adds to both as one vector, in more instructions.
+    bytes: u32,
     full: BandSet,
     firsts: [Slot; RANKS],
     lasts: [Slot; RANKS],
@@ -54,8 +55,8 @@ impl Tally {
     {
         Tally {
             len: 0,
-            bytes: 0,
             counts: [0; BANDS],
+            bytes: 0,
             full: BandSet::new(),
             firsts: [Slot::none(); RANKS],
             lasts: [Slot::none(); RANKS],

@@ -21,6 +21,7 @@ impl Queues {
     /// Refused as `NoSuchQueue`; then nothing changes. Takes a step for each block of the message. To settle takes a step
     /// for each wanted band. If a band loses its mark, the search for the queue to enable takes at most 120 more: for each
     /// queue behind, it looks at all queues of lower number.
+    #[inline(always)]
     #[tactic(auto, using(strm_mblk::proofs::arena::Calls::takes_any_none))]
     pub fn getq(&mut self, blocks: &mut Blocks, queue: u8) -> Result<Option<Token>, Refusal>
         requires { Agrees self.old blocks.old }

@@ -14,6 +14,7 @@ ghost use Rattle.strm_queue.specs.Rank.{is_ordered, rank_of};
 
 use super::Queues;
 use super::places::{fits_before, head_at, held_rank, is_at};
+use crate::limits::HIGH_RANK;
 use strm_data::Refusal;
 use strm_mblk::{BlockNo, Blocks, Rejected, Token};
 
@@ -50,6 +51,36 @@ impl Queues {
         self.enable_where(enables, queue);
     }
 
+    // Puts a message of this rank on a queue that exists, as `putq` does.
+    #[inline(always)]
+    fn put_ranked(&mut self, blocks: &mut Blocks, queue: u8, rank: u16, token: Token)
+        requires queue { queue < length self.old.state.specs }
+        requires agrees { Agrees self.old blocks.old }
+        requires had { IsTrue (has blocks.old token) }
+        requires rank { IsRank blocks.old token rank }
+        ensures does { Puts arena token (model.putq queue token.head (queued_blocks self.old blocks.old))
+            (queued_blocks self.old blocks.old) (queued_blocks self.new blocks.new) (Ok tt) }
+        ensures agrees { Agrees self.new blocks.new }
+    {
+        let before = self.place_behind(blocks, queue, rank).get();
+        let enables = self.enables_put(queue, rank);
+        self.put(blocks, queue, before, rank, token, enables);
+    }
+
+    // Does what `put_ranked` does. It is not inlined, so that `putq` is shorter where no message has high priority.
+    #[inline(never)]
+    fn put_high(&mut self, blocks: &mut Blocks, queue: u8, rank: u16, token: Token)
+        requires queue { queue < length self.old.state.specs }
+        requires agrees { Agrees self.old blocks.old }
+        requires had { IsTrue (has blocks.old token) }
+        requires rank { IsRank blocks.old token rank }
+        ensures does { Puts arena token (model.putq queue token.head (queued_blocks self.old blocks.old))
+            (queued_blocks self.old blocks.old) (queued_blocks self.new blocks.new) (Ok tt) }
+        ensures agrees { Agrees self.new blocks.new }
+    {
+        self.put_ranked(blocks, queue, rank, token);
+    }
+
     /// Puts a message on a queue, after the last message whose rank is at least its own. A high priority message
     /// ranks above all bands, and its first block gets band 0.
     ///
@@ -58,6 +89,7 @@ impl Queues {
     ///
     /// Rejected as `NoSuchQueue`; then nothing changes, and the token comes back. Takes a step for each block of the
     /// message.
+    #[inline(always)]
     #[tactic(auto, using(strm_mblk::proofs::arena::Calls::puts_none))]
     pub fn putq(&mut self, blocks: &mut Blocks, queue: u8, token: Token) -> Result<(), Rejected>
         requires agrees { Agrees self.old blocks.old }
@@ -71,9 +103,11 @@ impl Queues {
             return Err(Rejected { why, token });
         }
         let rank = held_rank(blocks, &token);
-        let before = self.place_behind(blocks, queue, rank).get();
-        let enables = self.enables_put(queue, rank);
-        self.put(blocks, queue, before, rank, token, enables);
+        if rank == HIGH_RANK {
+            self.put_high(blocks, queue, rank, token);
+        } else {
+            self.put_ranked(blocks, queue, rank, token);
+        }
         Ok(())
     }
 

@@ -69,11 +69,13 @@ impl Queues {
         ensures state { self.new.state ≡ self.old.state }
         ensures in_order { AreInOrder self.new blocks.new }
     {
-        // Most messages are first. Each call is inlined, and the first one is then shorter.
+        // Most messages are first, and of a band. Each call is inlined, and the first one is then shorter.
         let ahead = blocks.before(head);
         match ahead {
-            None => self.unshelve_behind(blocks, queue, None, head),
-            Some(_) => self.unshelve_behind(blocks, queue, ahead, head),
+            None if queued_rank(blocks, head) < HIGH_RANK => self.unshelve_behind(
+                blocks, queue, None, head,
+            ),
+            _ => self.unshelve_behind(blocks, queue, ahead, head),
         }
     }
 

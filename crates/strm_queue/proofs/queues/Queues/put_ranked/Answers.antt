@@ -1,14 +1,15 @@
-use Rattle.std.proofs.Common.{arith, ◌≡◌, ap, sym, ◌∙◌}
-use Rattle.std.proofs.lemmas.Grind.{common_steps}
+use Rattle.std.proofs.Common.{◌≡◌, ap, sym, ◌∙◌}
+use Rattle.std.proofs.lemmas.Bool.{cond-true, lt-ltb}
 use Rattle.strm_mblk.specs.Arena.{message_at, shelf_at}
 use Rattle.strm_mblk.specs.Block.{Message, head_of}
+use Rattle.strm_mblk.specs.Given.{answer_of, or_rejected}
 use Rattle.strm_mblk.specs.Messages.{put_before_head}
 use Rattle.strm_queue.specs.Flow.{enables_put, flags_at}
 use Rattle.strm_queue.specs.Rank.{as_queued, is_ordered, put_behind, rank_of}
 use Rattle.strm_queue.proofs.order.Order.{ordered_put_behind, rank_of-queued}
 use Rattle.strm_queue.proofs.moving.Puts.{putq_after}
-use Rattle.strm_queue.proofs.queues.Queues.putq.Goals as goal
-use Rattle.strm_queue.proofs.queues.Queues.putq.Goals.{After-get-before}
+use Rattle.strm_queue.proofs.queues.Queues.put_ranked.Goals as goal
+use Rattle.strm_queue.proofs.queues.Queues.put_ranked.Goals.{After-get-before}
 
 -- the message, as the queue has it
 abbrev m : After-get-before → Message
@@ -18,7 +19,7 @@ m c = as_queued c.args.blocks.now.store (message_at c.args.blocks.now c.args.tok
 place : (c : After-get-before) → put_before_head head_of c.get-before.result (m c) (shelf_at c.args.blocks.now c.args.queue) ≡ put_behind (rank_of c.args.blocks.now.store) (m c) (shelf_at c.args.blocks.now c.args.queue)
 place c =
     ap (λ o. put_before_head head_of o (m c) (shelf_at c.args.blocks.now c.args.queue)) c.get-before.ensures
-    ∙ c.place_behind.ensures.place (m c) (rank_of-queued c.args.blocks.now.store (message_at c.args.blocks.now c.args.token.head) ∙ sym c.held_rank-rank.ensures.value)
+    ∙ c.place_behind.ensures.place (m c) (rank_of-queued c.args.blocks.now.store (message_at c.args.blocks.now c.args.token.head) ∙ sym c.requires.rank.value)
 
 pub put-requires-clause-ordered : goal.put-requires-clause-ordered
 put-requires-clause-ordered c =
@@ -31,9 +32,9 @@ returns-clause-does c =
     record {
       after =
           c.put.ensures.puts.after
-          ∙ putq_after c.args.self.now c.args.blocks.now c.args.queue c.args.token.head (sym c.has_queue.ensures ∙ c.if-not-has_queue.false) c.enables_put-enables.result _
-          (c.enables_put-enables.ensures ∙ ap (enables_put (flags_at c.args.self.now.state c.args.queue)) c.held_rank-rank.ensures.value) (place here);
-      answer = grind (arith, common_steps);
+          ∙ putq_after c.args.self.now c.args.blocks.now c.args.queue c.args.token.head (lt-ltb _ _ c.requires.queue) c.enables_put-enables.result _
+          (c.enables_put-enables.ensures ∙ ap (enables_put (flags_at c.args.self.now.state c.args.queue)) c.requires.rank.value) (place here);
+      answer = sym (ap (λ g. or_rejected c.args.token (answer_of g)) (cond-true _ _ _ (lt-ltb _ _ c.requires.queue)));
       gone = c.put.ensures.puts.gone;
       others = c.put.ensures.puts.others;
     }
