@@ -22,6 +22,7 @@ use strm_mblk::{BlockInfo, Rejected, Token};
 impl Pool {
     /// Makes a message of one block for `size` bytes. Refused as `TooLarge`, `NoMblk`, then `NoData`. As [`Blocks::allocb`]
     /// of strm_mblk.
+    #[inline(always)]
     pub fn allocb(&mut self, size: u32) -> Result<Token, Refusal>
         ensures { Gives arena None (on_arena self.old (blocks.allocb size self.old.arena)) self.old self.new result }
     {

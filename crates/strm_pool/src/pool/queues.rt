@@ -17,6 +17,7 @@ use strm_queue::{BandInfo, Flush, Marks, QueueInfo, Receiver};
 impl Pool {
     /// Puts a message on a queue, after the last message whose rank is at least its own. Rejected as `NoSuchQueue`. As
     /// [`Queues::putq`] of strm_queue.
+    #[inline(always)]
     pub fn putq(&mut self, queue: u8, token: Token) -> Result<(), Rejected>
         requires { IsTrue (has self.old.arena token) }
         ensures { Puts arena token (on_queues self.old (queues.putq queue token.head (queued_blocks_of self.old)))
@@ -63,6 +64,7 @@ impl Pool {
 
     /// Removes the first message of a queue, if any, and returns its token. Refused as `NoSuchQueue`. As [`Queues::getq`]
     /// of strm_queue.
+    #[inline(always)]
     pub fn getq(&mut self, queue: u8) -> Result<Option<Token>, Refusal>
         ensures { TakesAny arena (on_queues self.old (queues.getq queue
             (queued_blocks_of self.old))) self.old self.new result }
