@@ -5,20 +5,19 @@ use Rattle.std.proofs.lemmas.List.{drop-drop, length-drop, set-get_or, take-appe
 use denote.RawPtr.{Ptr}
 use Rattle.strm_data.specs.declared.refusal.Refusal.{Refusal}
 use Rattle.strm_data.specs.declared.refusal.Refusal.TheVariants.{Shared}
-use Rattle.strm_data.specs.DataStore.{DataStore, bytes_overwritten, data_block_at, no_data_block, with_bytes_written}
+use Rattle.strm_data.specs.DataStore.{DataStore, bytes_overwritten, capacity_of, data_block_at, no_data_block, with_bytes_written}
 use Rattle.strm_data.specs.Lending.{Edits}
-use Rattle.strm_mblk.specs.declared.block_info.BlockInfo.{BlockInfo}
+use Rattle.strm_mblk.specs.declared.block_place.BlockPlace.{BlockPlace}
 use Rattle.strm_mblk.specs.Arena.{Arena, references_to}
 use Rattle.strm_mblk.specs.Block.{Block, bytes_of_block}
-use Rattle.strm_mblk.specs.BlockCalls as blocks
-use Rattle.strm_mblk.specs.BlockCalls.{block_found, if_unshared, info_of, own_block, with_bytes}
+use Rattle.strm_mblk.specs.BlockCalls.{block_found, if_unshared, own_block, with_bytes}
 use Rattle.strm_mblk.specs.Given.{Given, and_then, answer_map}
 use Rattle.strm_mblk.specs.InPlace as in_place
 use Rattle.strm_pool.specs.PoolValue.{PoolValue, on_arena, with_arena}
 use Rattle.strm_named.specs.declared.fault.Fault.{Fault}
 use Rattle.strm_named.specs.declared.fault.Fault.TheVariants.{Invalid, Refused}
 use Rattle.strm_named.specs.declared.name.Name.{Name}
-use Rattle.strm_named.specs.NamedCalls.{Does, LendsNamed, Outcome, answer_told, as_named_result, asked, no_message, on_name, outcome_of}
+use Rattle.strm_named.specs.NamedCalls.{Does, LendsNamed, Outcome, as_named_result, asked, on_name, outcome_of}
 use Rattle.strm_named.specs.NamedValue.{NamedValue, is_valid, with_pool}
 use Rattle.strm_c.specs.Codes.{Answer, answer_of_result, value_written}
 use Rattle.strm_c.specs.InPlace.{Finds, IsAddress, StoresAddress, number_lent}
@@ -122,26 +121,26 @@ module _ (closure : List ℕ → Ptr × ℕ → List ℕ → Type 0) (place : (b
 
 -- ---- where the room is
 
--- the room that a block's fields say
-abbrev pub room_of : Result BlockInfo Fault → ℕ
-room_of (Ok block) = block.room
+-- the room that a block's places say
+abbrev pub room_of : Result BlockPlace Fault → ℕ
+room_of (Ok p) = p.capacity - p.at - p.len
 room_of (Err fault) = 0
 
 module _ (v : NamedValue) (n : Name) (k : ℕ) where
   abbrev a : Arena
   a = v.pool.arena
 
-  by_shared : (b : Block) (shared : Bool) → IfOk (as_named_result (answer_map (in_place.bytes_behind a.store) (let o : Result Block Refusal = if shared then Err Shared else Ok b in o))) (λ lent. (info_of a b).room ≡ length lent)
+  by_shared : (b : Block) (shared : Bool) → IfOk (as_named_result (answer_map (in_place.bytes_behind a.store) (let o : Result Block Refusal = if shared then Err Shared else Ok b in o))) (λ lent. capacity_of a.store b.data_number - b.offset - b.len ≡ length lent)
   by_shared b true = tt
-  by_shared b false = sym (length-drop (b.offset + b.len) (data_block_at a.store b.data_number).bytes)
+  by_shared b false = omega (arith, length-drop (b.offset + b.len) (data_block_at a.store b.data_number).bytes)
 
   by_found : (valid : Bool) (found : Result Block Refusal) → IfOk (if valid then as_named_result (answer_map (in_place.bytes_behind a.store) (and_then (if_unshared a) found)) else Err Invalid)
-      (λ lent. room_of (answer_told no_message v (if valid then outcome_of (on_arena v.pool (answer_map (λ b. (info_of a b, a)) found)) else Err Invalid)) ≡ length lent)
+      (λ lent. room_of (if valid then as_named_result (answer_map (in_place.place_of a.store) found) else Err Invalid) ≡ length lent)
   by_found false found = tt
   by_found true (Err why) = tt
   by_found true (Ok b) = by_shared b (nat_lt 1 (references_to a b.data_number))
 
-  pub rooms : (answer : Result BlockInfo Fault) → answer ≡ answer_told no_message v (on_name v n (on_arena v.pool (blocks.block n.head k a))) → IfOk (asked v n (in_place.bytes_to_fill n.head k a)) (λ lent. room_of answer ≡ length lent)
+  pub rooms : (answer : Result BlockPlace Fault) → answer ≡ asked v n (in_place.place n.head k a) → IfOk (asked v n (in_place.bytes_to_fill n.head k a)) (λ lent. room_of answer ≡ length lent)
   rooms answer is = subst (λ o. IfOk (asked v n (in_place.bytes_to_fill n.head k a)) (λ lent. room_of o ≡ length lent)) (sym is) (by_found (is_valid v n) (block_found n.head k a))
 
 -- what a closure that finds the end of bytes returned with this count, and that it left them

@@ -34,8 +34,12 @@ fn count_of_room(named: &NamedPool, msg: Name, place: u32) -> usize
     ensures { IfOk (asked named.now msg (in_place.bytes_to_fill msg.head place named.now.pool.arena))
         (λ lent. result ≡ length lent) }
 {
-    match named.block(msg, place) {
-        Ok(block) => block.room as usize,
+    match named.place(msg, place) {
+        Ok(found) => {
+            let after = found.capacity.saturating_sub(found.at);
+            let room = after.saturating_sub(found.len);
+            room as usize
+        }
         Err(_) => 0,
     }
 }
