@@ -259,6 +259,15 @@ int strm_iov(const struct strm_pool *pool, struct strm_msg msg, uint32_t from, s
 	return strm_c_iov(&reader, msg, from, length == 0 ? &nothing.iov : into, length, count);
 }
 
+int strm_queued_iov(const struct strm_pool *pool, uint32_t head, uint32_t from, struct strm_iov *into, size_t length, size_t *count)
+{
+	struct strm_reader reader;
+
+	if (!is_reader(&reader, pool) || !is_array(into, length, sizeof *into) || !is_count(count, into, length))
+		return fault_of(pool);
+	return strm_c_queued_iov(&reader, head, from, length == 0 ? &nothing.iov : into, length, count);
+}
+
 int strm_overwrite(struct strm_pool *pool, struct strm_msg msg, uint32_t at, const void *bytes, size_t length)
 {
 	if (pool == NULL || !is_buffer(bytes, length))

@@ -46,12 +46,13 @@
  *   - wish (bufcall): a recorded request for a message block and a data block. strm_take_ready
  *     returns the wish, not the blocks.
  *   - look: a call that changes nothing in the pool. Its handle is `const`. Looks are strm_testb,
- *     strm_read, strm_size, strm_msgdsize, strm_message, strm_block, strm_blocks, strm_bytes,
- *     strm_iov, strm_place, strm_region, strm_has, strm_name_at, strm_qsize, strm_queued_at,
- *     strm_read_queued, strm_first_queued, strm_last_queued, strm_queued_after,
- *     strm_queued_before, strm_queue_of, strm_queue_spec, strm_strqget, strm_run_at, strm_wish_at,
- *     strm_census, strm_class_info, strm_least_free_blocks, strm_least_free, strm_queue_info,
- *     strm_band_info, strm_report, strm_is_open.
+ *     strm_read, strm_size, strm_msgdsize, strm_message, strm_block, strm_blocks,
+ *     strm_block_number, strm_bytes, strm_iov, strm_place, strm_region, strm_has and strm_name_at.
+ *     So are strm_qsize, strm_queued_at, strm_read_queued, strm_first_queued, strm_last_queued,
+ *     strm_queued_after, strm_queued_before, strm_queue_of, strm_queued_bytes, strm_queued_iov,
+ *     strm_queue_spec, strm_strqget, strm_run_at, strm_wish_at, strm_census, strm_class_info,
+ *     strm_least_free_blocks, strm_least_free, strm_queue_info, strm_band_info, strm_report and
+ *     strm_is_open.
  *
  *
  * Results
@@ -79,7 +80,8 @@
  *      both handles of strm_transfer are the same one.
  *   3. STRM_INVALID: a name is not valid.
  *   4. STRM_NO_SUCH_QUEUE: the call names a queue that the pool does not have.
- *   5. The refusals that the call's comment lists, in that order.
+ *   5. The refusals that the call's comment lists, in that order. STRM_NO_SUCH_PLACE also says that
+ *      no queued message has the head.
  *
  * With STRM_NONE nothing is stored through pointers, except that strm_freeb and strm_unlinkb set
  * *rest to STRM_NO_MSG. After any code but STRM_OK and STRM_NONE, the pool, names, and what
@@ -128,12 +130,12 @@
  *     it, calls that meet often end the program by SIGILL, or they damage the pool unnoticed.
  *     ThreadSanitizer seldom reports them, since the library has no instrumentation. Different
  *     pools may be used at the same time.
- *   - Nothing is written through a pointer that strm_bytes or strm_iov returns. Nothing is read
- *     through it from the beginning of the next call with that pool that is no look; a look leaves
- *     it good, and so does strm_room, strm_edit or strm_window. So a thread that shares the pool
- *     holds its lock from before the call until it has read there, without a gap; a read lock is
- *     enough. The pointer is passed to no call with the same pool, such as strm_write: copy the
- *     bytes by strm_read first. A call with another pool may get it.
+ *   - Nothing is written through a pointer that strm_bytes, strm_iov, strm_queued_bytes or
+ *     strm_queued_iov returns. Nothing is read through it from the beginning of the next call with
+ *     that pool that is neither a look nor strm_room, strm_edit or strm_window. So a thread that
+ *     shares the pool holds its lock from before the call until it has read there, without a gap; a
+ *     read lock is enough. The pointer is passed to no call with the same pool, such as strm_write:
+ *     copy the bytes by strm_read first. A call with another pool may get it.
  *   - The same is true of a pointer that strm_room, strm_edit or strm_window returns, but bytes may
  *     be written there too, as many as the call counted. They are then the bytes that the data
  *     block has. While a thread writes there, it holds the lock as for a call that is no look.
@@ -626,6 +628,14 @@ int strm_block(const struct strm_pool *pool, struct strm_msg msg, uint32_t place
 int strm_blocks(const struct strm_pool *pool, struct strm_msg msg, uint32_t from, struct strm_block_info *into, size_t length,
 	size_t *count);
 
+/*
+ * Returns the number that the block at `place` has among all message blocks of the pool, until it is
+ * freed. Since 0.5.0.
+ * Refused as STRM_NO_SUCH_BLOCK.
+ * STREAMS: b_cont; a number replaces the pointer.
+ */
+int strm_block_number(const struct strm_pool *pool, struct strm_msg msg, uint32_t place, uint32_t *number);
+
 /* Sets *yes to 1 if the name is valid, else to 0. It never returns STRM_INVALID. Not in STREAMS. */
 int strm_has(const struct strm_pool *pool, struct strm_msg msg, uint32_t *yes);
 
@@ -891,8 +901,8 @@ int strm_getq(struct strm_pool *pool, uint32_t queue, struct strm_msg *msg);
 int strm_rmvq(struct strm_pool *pool, uint32_t queue, uint32_t place, struct strm_msg *msg);
 
 /*
- * Takes the message whose first block is `head` off its queue, and settles the queue. Since 0.4.0.
- * Refused as STRM_NO_SUCH_PLACE if no message on a queue begins with that block.
+ * Takes the message with this head off its queue, and settles the queue. Since 0.4.0.
+ * Refused as STRM_NO_SUCH_PLACE.
  * STREAMS: rmvq, whose caller also passes the queue; settling differs as at strm_getq.
  */
 int strm_rmvq_msg(struct strm_pool *pool, uint32_t head, struct strm_msg *msg);
@@ -916,41 +926,55 @@ int strm_read_queued(const struct strm_pool *pool, uint32_t queue, uint32_t plac
 	size_t *count);
 
 /*
- * Returns the number of the first block of the first message on a queue, or STRM_NONE if the queue
- * is empty.
+ * Returns the head of the first message on a queue, or STRM_NONE if the queue is empty.
  * STREAMS: q_first.
  */
 int strm_first_queued(const struct strm_pool *pool, uint32_t queue, uint32_t *head);
 
 /*
- * Returns the number of the first block of the last message on a queue, or STRM_NONE if the queue
- * is empty. Since 0.4.0.
+ * Returns the head of the last message on a queue, or STRM_NONE if the queue is empty. Since 0.4.0.
  * STREAMS: q_last.
  */
 int strm_last_queued(const struct strm_pool *pool, uint32_t queue, uint32_t *head);
 
 /*
- * Returns the number of the first block of the next message on the same queue, after the message
- * whose first block is `head`; or STRM_NONE if that is the last one.
- * Refused as STRM_NO_SUCH_PLACE if no message on a queue begins with that block.
+ * Returns the head of the message after the one with the head `head`, on the same queue; or
+ * STRM_NONE if that is the last one.
+ * Refused as STRM_NO_SUCH_PLACE.
  * STREAMS: b_next.
  */
 int strm_queued_after(const struct strm_pool *pool, uint32_t head, uint32_t *after);
 
 /*
- * Returns the number of the first block of the message before the one whose first block is `head`,
- * on the same queue; or STRM_NONE if that is the first one. Since 0.4.0.
- * Refused as STRM_NO_SUCH_PLACE if no message on a queue begins with that block.
+ * Returns the head of the message before the one with the head `head`, on the same queue; or
+ * STRM_NONE if that is the first one. Since 0.4.0.
+ * Refused as STRM_NO_SUCH_PLACE.
  * STREAMS: b_prev.
  */
 int strm_queued_before(const struct strm_pool *pool, uint32_t head, uint32_t *before);
 
 /*
- * Returns the queue that has the message whose first block is `head`. Since 0.4.0.
- * Refused as STRM_NO_SUCH_PLACE if no message on a queue begins with that block.
+ * Returns the queue that has the message with this head. Since 0.4.0.
+ * Refused as STRM_NO_SUCH_PLACE.
  * Not in STREAMS.
  */
 int strm_queue_of(const struct strm_pool *pool, uint32_t head, uint32_t *queue);
+
+/*
+ * Sets *bytes and *length as strm_bytes does, for a block of the queued message with this head.
+ * Since 0.5.0.
+ * Refused as STRM_NO_SUCH_PLACE, STRM_NO_SUCH_BLOCK.
+ * STREAMS: b_rptr and b_wptr.
+ */
+int strm_queued_bytes(const struct strm_pool *pool, uint32_t head, uint32_t place, const uint8_t **bytes, size_t *length);
+
+/*
+ * Fills an array as strm_iov does, for blocks of the queued message with this head. Since 0.5.0.
+ * Refused as STRM_NO_SUCH_PLACE.
+ * Not in STREAMS.
+ */
+int strm_queued_iov(const struct strm_pool *pool, uint32_t head, uint32_t from, struct strm_iov *into, size_t length,
+	size_t *count);
 
 /*
  * Frees messages of a queue, front to back: all, or those with data (STRM_FLUSHALL,

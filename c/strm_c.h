@@ -76,6 +76,8 @@ struct strm_reader {
 	LOOK(message, (POOL, struct strm_msg msg, struct strm_queued *info), (&reader, msg, info), info != NULL) \
 	LOOK(block, (POOL, struct strm_msg msg, uint32_t place, struct strm_block_info *block), \
 		(&reader, msg, place, block), block != NULL) \
+	LOOK(block_number, (POOL, struct strm_msg msg, uint32_t place, uint32_t *number), \
+		(&reader, msg, place, number), number != NULL) \
 	LOOK(has, (POOL, struct strm_msg msg, uint32_t *yes), (&reader, msg, yes), yes != NULL) \
 	LOOK(name_at, (POOL, uint32_t head, struct strm_msg *msg), (&reader, head, msg), msg != NULL) \
 	LOOK(bytes, (POOL, struct strm_msg msg, uint32_t place, const uint8_t **bytes, size_t *length), \
@@ -93,6 +95,8 @@ struct strm_reader {
 	LOOK(queued_after, (POOL, uint32_t head, uint32_t *after), (&reader, head, after), after != NULL) \
 	LOOK(queued_before, (POOL, uint32_t head, uint32_t *before), (&reader, head, before), before != NULL) \
 	LOOK(queue_of, (POOL, uint32_t head, uint32_t *queue), (&reader, head, queue), queue != NULL) \
+	LOOK(queued_bytes, (POOL, uint32_t head, uint32_t place, const uint8_t **bytes, size_t *length), \
+		(&reader, head, place, bytes, length), bytes != NULL && length != NULL && (void *)bytes != (void *)length) \
 	LOOK(strqget, (POOL, uint32_t queue, uint32_t band, struct strm_marks *marks), \
 		(&reader, queue, band, marks), marks != NULL) \
 	LOOK(run_at, (POOL, uint32_t place, uint32_t *queue), (&reader, place, queue), queue != NULL) \
@@ -127,6 +131,8 @@ int32_t strm_c_read(struct strm_reader *pool, struct strm_msg msg, uint32_t at, 
 int32_t strm_c_blocks(struct strm_reader *pool, struct strm_msg msg, uint32_t from, struct strm_block_info *into, size_t length,
 	size_t *count);
 int32_t strm_c_iov(struct strm_reader *pool, struct strm_msg msg, uint32_t from, struct strm_iov *into, size_t length,
+	size_t *count);
+int32_t strm_c_queued_iov(struct strm_reader *pool, uint32_t head, uint32_t from, struct strm_iov *into, size_t length,
 	size_t *count);
 int32_t strm_c_overwrite(struct strm_pool *pool, struct strm_msg msg, uint32_t at, const uint8_t *bytes, size_t length);
 int32_t strm_c_prepend(struct strm_pool *pool, struct strm_msg msg, const uint8_t *bytes, size_t length);

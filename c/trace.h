@@ -20,6 +20,8 @@
 		(pool, msg, from, into, length, count), 1) \
 	CALL(iov, (POOL, struct strm_msg msg, uint32_t from, struct strm_iov *into, size_t length, size_t *count), \
 		(pool, msg, from, into, length, count), 1) \
+	CALL(queued_iov, (POOL, uint32_t head, uint32_t from, struct strm_iov *into, size_t length, size_t *count), \
+		(pool, head, from, into, length, count), 1) \
 	CALL(overwrite, (struct strm_pool *pool, struct strm_msg msg, uint32_t at, const void *bytes, size_t length), \
 		(pool, msg, at, bytes, length), 1) \
 	CALL(prepend, (struct strm_pool *pool, struct strm_msg msg, const void *bytes, size_t length), (pool, msg, bytes, length), 1) \

@@ -21,8 +21,8 @@
  *
  *   - Functions that are `const` are looks. Any other runs alone on its pool: threads that share a pool hold a lock. To free a
  *     message is such a call, also where it goes out of scope or is assigned to. To move it into an empty one is no call.
- *   - Bytes in place (message::bytes, iov, blocks, room, edit, window) are good until the next call with the pool that is no look
- *     and none of the last three, whose bytes may be written.
+ *   - Bytes in place (bytes, iov, blocks, queued_bytes, queued_iov, room, edit, window) are good until the next call with the
+ *     pool that is no look and none of the last three, whose bytes may be written.
  *   - A queue is used only while its pool is there.
  */
 #ifndef STRM_HPP
@@ -186,6 +186,13 @@ template <class T, class Call, class... Args> optional<T> found(report to, Call 
     T result{};
     return to(call(args..., &result)) ? optional<T>(result) : std::nullopt;
 }
+
+/* The bytes that a call finds in place. */
+template <class Byte, class Call, class... Args> span<Byte> in_place(report to, Call call, Args... args) {
+    std::conditional_t<std::is_const_v<Byte>, const uint8_t, uint8_t>* first;
+    size_t length;
+    return to(call(args..., &first, &length)) ? span<Byte>(reinterpret_cast<Byte*>(first), length) : span<Byte>();
+}
 }  // namespace detail
 
 /* ---- messages; clang too inlines what programs call for each packet */
@@ -202,11 +209,7 @@ public:
     explicit operator bool() const noexcept { return at_ != nullptr; }
     strm_msg name() const noexcept { return at_ ? at_.get_deleter().name : strm_msg(); }
     /* Gives the name away: the message is not freed when this goes out of scope. pool::adopt takes the name back. */
-    strm_msg release() noexcept {
-        const strm_msg given = name();
-        forget();
-        return given;
-    }
+    strm_msg release() noexcept { const strm_msg given = name(); return forget(), given; }
     /* strm_same_msg */
     friend bool operator==(const message& a, const message& b) noexcept { return strm_same_msg(a.name(), b.name()) == 1; }
     friend bool operator!=(const message& a, const message& b) noexcept { return !(a == b); }
@@ -218,6 +221,7 @@ public:
     size_t read(uint32_t at, buffer into, STRM_REPORT) const { return filled(to, strm_read, at, into); }
     strm_block_info block(uint32_t place, STRM_REPORT) const { return stored<strm_block_info>(to, strm_block, place); }
     size_t blocks(uint32_t from, span<strm_block_info> into, STRM_REPORT) const { return filled(to, strm_blocks, from, into); }
+    uint32_t block_number(uint32_t place, STRM_REPORT) const { return stored<uint32_t>(to, strm_block_number, place); }
     /* All blocks with their bytes: for (auto block : msg.blocks()). Of an empty message there are none. */
     strm::blocks blocks() const noexcept;
     [[gnu::always_inline]] strm::bytes bytes(uint32_t place, STRM_REPORT) const { return in_place<const std::byte>(to, strm_bytes, place); }
@@ -250,9 +254,7 @@ public:
         if (const int code = call(strm_freeb, &rest); to(code) || code == STRM_NONE)
             become(rest);
     }
-    void linkb(message&& tail, STRM_REPORT) {
-        at_ ? tail.hand_over(to, at_.get(), strm_linkb, name()) : void(to(STRM_BAD_ARGUMENT));
-    }
+    void linkb(message&& tail, STRM_REPORT) { at_ ? tail.hand_over(to, at_.get(), strm_linkb, name()) : void(to(STRM_BAD_ARGUMENT)); }
     /* Returns the other blocks, or an empty message. */
     message unlinkb(STRM_REPORT) { return made(to, strm_unlinkb); }
     /* Returns the block. The message has the other blocks afterwards, or is empty if there are none. */
@@ -284,9 +286,7 @@ private:
         return stored<size_t>(to, call, from, into.data(), into.size());
     }
     template <class Byte, class Call> span<Byte> in_place(report to, Call call, uint32_t place) const {
-        std::conditional_t<std::is_const_v<Byte>, const uint8_t, uint8_t>* first;
-        size_t length;
-        return to(this->call(call, place, &first, &length)) ? span<Byte>(reinterpret_cast<Byte*>(first), length) : span<Byte>();
+        return detail::in_place<Byte>(to, [&](auto* first, size_t* length) { return this->call(call, place, first, length); });
     }
     template <class Call> message made(report to, Call call) {
         return at_ ? given(to, at_.get(), call, name()) : (to(STRM_BAD_ARGUMENT), message());
@@ -297,9 +297,7 @@ private:
             detail::leave(at_.release());
     }
     /* Why a pool can't be handed this message, or STRM_OK. */
-    int fault(const detail::shared* pool) const noexcept {
-        return !at_ ? STRM_BAD_ARGUMENT : at_.get() != pool ? STRM_INVALID : STRM_OK;
-    }
+    int fault(const detail::shared* pool) const noexcept { return !at_ ? STRM_BAD_ARGUMENT : at_.get() != pool ? STRM_INVALID : STRM_OK; }
     /* Hands the message to a call, which gets its name last. */
     template <class Call, class... Args> void hand_over(report to, detail::shared* pool, Call call, Args... args) {
         const int code = fault(pool);
@@ -379,8 +377,7 @@ protected:
     strm_pool* handle() const noexcept { return detail::handle_of(at_); }
     template <class T, class Call, class... Args>
     T look(report to, Call call, Args... args) const { return detail::stored<T>(to, call, handle(), number_, args...); }
-    template <class Call>
-    optional<uint32_t> head(report to, Call call) const { return detail::found<uint32_t>(to, call, handle(), number_); }
+    template <class Call> optional<uint32_t> head(report to, Call call) const { return detail::found<uint32_t>(to, call, handle(), number_); }
     detail::shared* at_;
     uint32_t number_;
 };
@@ -450,6 +447,12 @@ public:
     optional<uint32_t> queued_after(uint32_t head, STRM_REPORT) const { return found<uint32_t>(to, strm_queued_after, head); }
     optional<uint32_t> queued_before(uint32_t head, STRM_REPORT) const { return found<uint32_t>(to, strm_queued_before, head); }
     uint32_t queue_of(uint32_t head, STRM_REPORT) const { return stored<uint32_t>(to, strm_queue_of, head); }
+    bytes queued_bytes(uint32_t head, uint32_t place, STRM_REPORT) const {
+        return detail::in_place<const std::byte>(to, strm_queued_bytes, handle(), head, place);
+    }
+    size_t queued_iov(uint32_t head, uint32_t from, span<strm_iov> into, STRM_REPORT) const {
+        return stored<size_t>(to, strm_queued_iov, head, from, into.data(), into.size());
+    }
     message rmvq_msg(uint32_t head, STRM_REPORT) { return message::given(to, at_.get(), strm_rmvq_msg, head); }
     optional<uint32_t> next_service(STRM_REPORT) { return found<uint32_t>(to, strm_next_service); }
     optional<uint32_t> run_at(uint32_t place, STRM_REPORT) const { return found<uint32_t>(to, strm_run_at, place); }
@@ -461,10 +464,7 @@ public:
     optional<strm_class_info> class_info(uint32_t at, STRM_REPORT) const { return found<strm_class_info>(to, strm_class_info_, at); }
     /* The bytes of all data blocks of a size class, each of `stride` bytes. There are none without such a class. */
     bytes region(uint32_t place, size_t& stride, STRM_REPORT) const {
-        const uint8_t* base;
-        size_t size;
-        const bool is_there = to(strm_region(handle(), place, &base, &size, &stride));
-        return is_there ? bytes(reinterpret_cast<const std::byte*>(base), size) : bytes();
+        return detail::in_place<const std::byte>(to, [&](auto* base, size_t* size) { return strm_region(handle(), place, base, size, &stride); });
     }
     uint32_t least_free_blocks(STRM_REPORT) const { return stored<uint32_t>(to, strm_least_free_blocks); }
     optional<uint32_t> least_free(uint32_t place, STRM_REPORT) const { return found<uint32_t>(to, strm_least_free, place); }
@@ -474,9 +474,7 @@ public:
 
 private:
     friend class message;
-    struct closer {
-        void operator()(detail::shared* at) const noexcept { strm_close(&at->handle), detail::leave(at); }
-    };
+    struct closer { void operator()(detail::shared* at) const noexcept { strm_close(&at->handle), detail::leave(at); } };
     strm_pool* handle() const noexcept { return detail::handle_of(at_.get()); }
     template <class T, class Call, class... Args>
     T stored(strm::report to, Call call, Args... args) const { return detail::stored<T>(to, call, handle(), args...); }

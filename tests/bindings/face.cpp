@@ -133,18 +133,25 @@ reply blocks_told(const strm::message& x, const call& call, strm::report to) {
     return reply;
 }
 
-// The lengths and the first bytes of some blocks, which the range of blocks must have too.
-reply iov_told(lent& it, const strm::message& x, const call& call, strm::report to) {
-    std::array<strm_iov, MOST_ITEMS> iov;
-    const size_t count = x.iov(call.place, strm::span<strm_iov>(iov.data(), call.items), to);
+// The lengths and the first bytes of some blocks.
+reply iov_told(const std::array<strm_iov, MOST_ITEMS>& iov, size_t count) {
     reply reply = told(TOLD_IOV, static_cast<uint32_t>(count), 0);
-    size_t had = 0, place = 0, seen = 0;
+    size_t had = 0;
 
     for (size_t i = 0; i < count; i++) {
         reply.numbers[1 + i] = static_cast<uint32_t>(iov[i].length);
         for (size_t from = 0; from < iov[i].length && had < MOST_OCTETS; from++)
             reply.octets[had++] = static_cast<const uint8_t*>(iov[i].base)[from];
     }
+    return reply;
+}
+
+// The same of a message that is held, whose range of blocks must have them too.
+reply held_iov_told(lent& it, const strm::message& x, const call& call, strm::report to) {
+    std::array<strm_iov, MOST_ITEMS> iov;
+    const size_t count = x.iov(call.place, strm::span<strm_iov>(iov.data(), call.items), to);
+    size_t place = 0, seen = 0;
+
     for (const auto& block : x.blocks()) {
         if (place >= call.place && place < call.place + count) {
             it.must(block.bytes.data() == iov[place - call.place].base && block.bytes.size() == iov[place - call.place].length);
@@ -154,7 +161,12 @@ reply iov_told(lent& it, const strm::message& x, const call& call, strm::report 
         place++;
     }
     it.must(seen == count);
-    return reply;
+    return iov_told(iov, count);
+}
+
+reply queued_iov_told(const strm::pool& pool, const call& call, strm::report to) {
+    std::array<strm_iov, MOST_ITEMS> iov;
+    return iov_told(iov, pool.queued_iov(call.number, call.place, strm::span<strm_iov>(iov.data(), call.items), to));
 }
 
 reply name_told(lent& it, std::optional<strm_msg> name) {
@@ -260,6 +272,8 @@ reply apply_to_pool(lent& it, const call& call, strm::report to) {
     case QUEUED_AFTER: return number(TOLD_HEAD, pool.queued_after(call.number, to));
     case QUEUED_BEFORE: return number(TOLD_HEAD, pool.queued_before(call.number, to));
     case QUEUE_OF: return told(TOLD_QUEUE, pool.queue_of(call.number, to), 0);
+    case QUEUED_BYTES: return block_bytes_told(pool.queued_bytes(call.number, call.place, to));
+    case QUEUED_IOV: return queued_iov_told(pool, call, to);
     case QUEUE_SPEC: return told_of(TOLD_SPEC, queue.spec(to));
     case ALLOCB_N: case GETQ_N: case TAKEQ: case TAKEQ_BAND: return gave_many(it, call, to);
     default: return took_many(it, call, to);
@@ -297,7 +311,8 @@ reply apply_to_message(lent& it, lent& other, const call& call, strm::report to)
     case INSQ: return queue.insert(call.place, std::move(x), to), reply_of(DONE);
     case BLOCKS: return blocks_told(x, call, to);
     case BYTES: return block_bytes_told(x.bytes(call.place, to));
-    case IOV: return iov_told(it, x, call, to);
+    case IOV: return held_iov_told(it, x, call, to);
+    case BLOCK_NUMBER: return told(TOLD_HEAD, x.block_number(call.place, to), 0);
     case PLACE: return told_of(TOLD_PLACE, x.place(call.place, to));
     case OVERWRITE: return x.overwrite(call.place, octets, to), reply_of(DONE);
     case RESERVE: return x.reserve(call.place, call.number, to), reply_of(DONE);

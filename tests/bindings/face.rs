@@ -123,6 +123,16 @@ fn must(holds: bool) -> Result<(), Fault> {
     if holds { Ok(()) } else { Err(Fault::Broken) }
 }
 
+/// The lengths and the first bytes of some blocks.
+fn told_iov(iov: &[Iov]) -> Reply {
+    let numbers: Vec<u32> = std::iter::once(iov.len() as u32).chain(iov.iter().map(|iov| iov.len() as u32)).collect();
+    let mut reply = told(TOLD_IOV, &numbers);
+    for (into, byte) in reply.octets.iter_mut().zip(iov.iter().flat_map(|iov| iov.iter())) {
+        *into = *byte;
+    }
+    reply
+}
+
 fn told_bytes(bytes: &[u8]) -> Reply {
     let mut reply = told(TOLD_BYTES, &[bytes.len() as u32]);
     let had = bytes.len().min(MOST_OCTETS);
@@ -239,6 +249,12 @@ impl Face {
             "queued_after" => optional(pool.queued_after(number)?, |head| told(TOLD_HEAD, &[head])),
             "queued_before" => optional(pool.queued_before(number)?, |head| told(TOLD_HEAD, &[head])),
             "queue_of" => told(TOLD_QUEUE, &[pool.queue_of(number)?]),
+            "queued_bytes" => told_bytes(pool.queued_bytes(number, place)?),
+            "queued_iov" => {
+                let mut iov = [Iov::default(); MOST_ITEMS];
+                let count = pool.queued_iov(number, place, &mut iov[..call.items as usize])?;
+                told_iov(&iov[..count])
+            }
             "queue_spec" => {
                 let it = pool.queue_spec(queue)?;
                 told(TOLD_SPEC, &[it.hiwat, it.lowat, it.service.into(), it.next.unwrap_or(u32::MAX)])
@@ -321,16 +337,12 @@ impl Face {
                 told(TOLD_BLOCKS, &numbers)
             }
             "bytes" => told_bytes(pool.bytes(&x, place)?),
+            "block_number" => told(TOLD_HEAD, &[pool.block_number(&x, place)?]),
             "iov" => {
                 let mut iov = [Iov::default(); MOST_ITEMS];
                 let count = pool.iov(&x, place, &mut iov[..call.items as usize])?;
                 must(pool.blocks(&x).skip(place as usize).take(count).map(|(_, bytes)| bytes).eq(iov[..count].iter().map(|iov| &**iov)))?;
-                let numbers: Vec<u32> = std::iter::once(count as u32).chain(iov[..count].iter().map(|iov| iov.len() as u32)).collect();
-                let mut reply = told(TOLD_IOV, &numbers);
-                for (into, byte) in reply.octets.iter_mut().zip(iov[..count].iter().flat_map(|iov| iov.iter())) {
-                    *into = *byte;
-                }
-                reply
+                told_iov(&iov[..count])
             }
             "place" => { let it = pool.place(&x, place)?; told(TOLD_PLACE, &[it.data, it.at, it.length, it.capacity]) }
             "overwrite" => done(pool.overwrite(&x, place, octets)?),

@@ -81,6 +81,7 @@
 #define CALLS_OF_C(CALL, LOOK) \
 	LOOK(BLOCKS, blocks, "xki", (pool, a->x, c->place, TO(struct strm_block_info), a->length, a->done), 2, IS(TOLD_BLOCKS) | IS(EMPTY)) \
 	LOOK(MESSAGE, message, "x", (pool, a->x, TO(struct strm_queued)), 2, IS(TOLD_QUEUED) | IS(EMPTY)) \
+	LOOK(BLOCK_NUMBER, block_number, "xk", (pool, a->x, c->place, TO(uint32_t)), 3, IS(TOLD_HEAD) | IS(EMPTY) | NOT(STRM_NO_SUCH_BLOCK)) \
 	LOOK(HAS, has, "v", (pool, a->x, TO(uint32_t)), 1, IS(YES) | IS(NO)) \
 	LOOK(NAME_AT, name_at, "m", (pool, c->number, a->y), 2, IS(TOLD_NAME) | IS(NOTHING)) \
 	LOOK(BYTES, bytes, "xk", (pool, a->x, c->place, TO(const uint8_t *), a->done), 3, IS(TOLD_BYTES) | IS(EMPTY) | NOT(STRM_NO_SUCH_BLOCK)) \
@@ -115,6 +116,10 @@
 	LOOK(QUEUED_AFTER, queued_after, "e", (pool, c->number, TO(uint32_t)), 3, IS(TOLD_HEAD) | IS(NOTHING) | NOT(STRM_NO_SUCH_PLACE)) \
 	LOOK(QUEUED_BEFORE, queued_before, "e", (pool, c->number, TO(uint32_t)), 3, IS(TOLD_HEAD) | IS(NOTHING) | NOT(STRM_NO_SUCH_PLACE)) \
 	LOOK(QUEUE_OF, queue_of, "e", (pool, c->number, TO(uint32_t)), 2, IS(TOLD_QUEUE) | NOT(STRM_NO_SUCH_PLACE)) \
+	LOOK(QUEUED_BYTES, queued_bytes, "ek", (pool, c->number, c->place, TO(const uint8_t *), a->done), 4, \
+		IS(TOLD_BYTES) | NOT(STRM_NO_SUCH_PLACE) | NOT(STRM_NO_SUCH_BLOCK)) \
+	LOOK(QUEUED_IOV, queued_iov, "eki", (pool, c->number, c->place, TO(struct strm_iov), a->length, a->done), 4, \
+		IS(TOLD_IOV) | NOT(STRM_NO_SUCH_PLACE)) \
 	CALL(INSQ_AT, insq_at, "qeX", (pool, c->queue, c->number, a->x), 6, \
 		IS(DONE) | IS(EMPTY) | NOT(STRM_NO_SUCH_QUEUE) | NOT(STRM_NO_SUCH_PLACE) | NOT(STRM_BAD_ORDER)) \
 	CALL(RMVQ_MSG, rmvq_msg, "ey", (pool, c->number, a->y), 3, IS(DONE) | NOT(STRM_NO_SUCH_PLACE)) \

@@ -69,6 +69,7 @@ void open_scene(struct scene *scene, struct strm_pool *pool, struct strm_pool *o
 	scene->z = message(pool, "tail");
 	ANSWERS(strm_putq(pool, 0, message(pool, "nil")), STRM_OK);
 	scene->queued = message(pool, "one");
+	ANSWERS(strm_linkb(pool, scene->queued, message(pool, "1")), STRM_OK);
 	ANSWERS(strm_putq(pool, 0, scene->queued), STRM_OK);
 	ANSWERS(strm_putq(pool, 0, message(pool, "two")), STRM_OK);
 	ANSWERS(strm_putq(pool, 1, message(pool, "0123456789")), STRM_OK);

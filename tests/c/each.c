@@ -627,6 +627,7 @@ static void test_place(void)
 	struct strm_pool pool = opened(6);
 	struct strm_msg a = message(&pool, "abc"), large, copy;
 	struct strm_block_place where, kept;
+	uint32_t number = 99;
 
 	ANSWERS(strm_place(&pool, a, 0, &where), STRM_OK);
 	CHECK(where.data == 0 && where.at == 0 && where.length == 3 && where.capacity == 16);
@@ -643,6 +644,14 @@ static void test_place(void)
 	ANSWERS(strm_place(&pool, large, 2, &where), STRM_NO_SUCH_BLOCK);
 	ANSWERS(strm_place(&pool, large, 0xFFFFFFFFu, &where), STRM_NO_SUCH_BLOCK);
 	CHECK(memcmp(&where, &kept, sizeof kept) == 0);
+	ANSWERS(strm_block_number(&pool, large, 0, &number), STRM_OK);
+	CHECK(number == large.head);
+	ANSWERS(strm_block_number(&pool, large, 1, &number), STRM_OK);
+	CHECK(number == copy.head);
+	ANSWERS(strm_block_number(&pool, large, 2, &number), STRM_NO_SUCH_BLOCK);
+	ANSWERS(strm_block_number(&pool, large, 0xFFFFFFFFu, &number), STRM_NO_SUCH_BLOCK);
+	ANSWERS(strm_block_number(&pool, copy, 0, &number), STRM_INVALID);
+	CHECK(number == copy.head);
 	ANSWERS(strm_close(&pool), STRM_OK);
 }
 
@@ -1295,6 +1304,47 @@ static void test_report(void)
 	ANSWERS(strm_close(&pool), STRM_OK);
 }
 
+/* The bytes of a, which has one block, and of b, which has two, where they are on a queue. */
+static void test_queued_in_place(struct strm_pool *pool, struct strm_msg a, struct strm_msg b, uint32_t tail)
+{
+	struct strm_iov iov[3], unused;
+	const uint8_t *bytes = NULL, *kept;
+	size_t length = 9, count = 9;
+
+	memset(iov, 0xA5, sizeof iov);
+	unused = iov[2];
+	ANSWERS(strm_queued_iov(pool, b.head, 0, iov, 3, &count), STRM_OK);
+	CHECK(count == 2 && iov[0].length == 2 && memcmp(iov[0].base, "de", 2) == 0 && iov[1].length == 3 && memcmp(iov[1].base, "ghi", 3) == 0);
+	CHECK(iov[2].base == unused.base && iov[2].length == unused.length);
+	ANSWERS(strm_queued_bytes(pool, b.head, 1, &bytes, &length), STRM_OK);
+	CHECK(bytes == iov[1].base && length == 3);
+	ANSWERS(strm_queued_bytes(pool, a.head, 0, &bytes, &length), STRM_OK);
+	CHECK(length == 3 && memcmp(bytes, "abc", 3) == 0);
+	ANSWERS(strm_queued_iov(pool, b.head, 1, iov, 1, &count), STRM_OK);
+	CHECK(count == 1 && iov[0].length == 3 && iov[0].base == iov[1].base);
+	ANSWERS(strm_queued_iov(pool, a.head, 1, iov, 3, &count), STRM_OK);
+	CHECK(count == 0 && iov[0].length == 3);
+	count = 9;
+	ANSWERS(strm_queued_iov(pool, a.head, 0xFFFFFFFFu, iov, 3, &count), STRM_OK);
+	CHECK(count == 0);
+	count = 9;
+	ANSWERS(strm_queued_iov(pool, a.head, 0, NULL, 0, &count), STRM_OK);
+	CHECK(count == 0);
+	/* no such block, behind the first block, free, and not there */
+	kept = bytes;
+	length = count = 9;
+	ANSWERS(strm_queued_bytes(pool, a.head, 1, &bytes, &length), STRM_NO_SUCH_BLOCK);
+	ANSWERS(strm_queued_bytes(pool, a.head, 0xFFFFFFFFu, &bytes, &length), STRM_NO_SUCH_BLOCK);
+	ANSWERS(strm_queued_bytes(pool, tail, 0, &bytes, &length), STRM_NO_SUCH_PLACE);
+	ANSWERS(strm_queued_bytes(pool, 7, 9, &bytes, &length), STRM_NO_SUCH_PLACE);
+	ANSWERS(strm_queued_bytes(pool, 0xFFFFFFFFu, 0, &bytes, &length), STRM_NO_SUCH_PLACE);
+	ANSWERS(strm_queued_iov(pool, tail, 0, iov, 3, &count), STRM_NO_SUCH_PLACE);
+	ANSWERS(strm_queued_iov(pool, 7, 0, NULL, 0, &count), STRM_NO_SUCH_PLACE);
+	ANSWERS(strm_queued_iov(pool, 8, 0, iov, 3, &count), STRM_NO_SUCH_PLACE);
+	ANSWERS(strm_queued_iov(pool, 0xFFFFFFFFu, 0, iov, 3, &count), STRM_NO_SUCH_PLACE);
+	CHECK(bytes == kept && length == 9 && count == 9 && iov[0].length == 3);
+}
+
 /* A message of high priority, one of two blocks in band 2, and one in band 0, from front to back of queue 2. */
 static void test_looks_at_queues(void)
 {
@@ -1350,6 +1400,7 @@ static void test_looks_at_queues(void)
 	ANSWERS(strm_queue_of(&pool, held.head, &queue), STRM_NO_SUCH_PLACE);
 	ANSWERS(strm_queue_of(&pool, 0xFFFFFFFFu, &queue), STRM_NO_SUCH_PLACE);
 	CHECK(head == a.head && queue == 2);
+	test_queued_in_place(&pool, a, b, tail.head);
 	ANSWERS(strm_queued_at(&pool, 2, 0, &queued), STRM_OK);
 	CHECK(queued.head == c.head && queued.type == STRM_M_PCPROTO && queued.band == 0 && queued.bytes == 1 && queued.blocks == 1);
 	ANSWERS(strm_queued_at(&pool, 2, 1, &queued), STRM_OK);

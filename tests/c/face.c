@@ -124,17 +124,19 @@ static struct reply bytes_told(const struct call *call, size_t count, const stru
 	return reply;
 }
 
-/* The lengths and the first bytes of some blocks, each of which strm_bytes must have at the same place. */
+/* The lengths and the first bytes of some blocks, each of which the call for one block must have at the same place. */
 static struct reply iov_told(struct face *face, const struct call *call, size_t count, const struct results *results)
 {
 	struct reply reply = told(TOLD_IOV, (uint32_t)count, 0);
 	const struct strm_iov *iov = results->out.iov;
 	const uint8_t *bytes;
 	size_t length, i, had = 0, from;
+	int code;
 
 	for (i = 0; i < count; i++) {
-		if (strm_bytes(&face->pool, face->registers[call->x], call->place + (uint32_t)i, &bytes, &length) != STRM_OK
-		    || bytes != iov[i].base || length != iov[i].length)
+		code = call->verb == IOV ? strm_bytes(&face->pool, face->registers[call->x], call->place + (uint32_t)i, &bytes, &length)
+			: strm_queued_bytes(&face->pool, call->number, call->place + (uint32_t)i, &bytes, &length);
+		if (code != STRM_OK || bytes != iov[i].base || length != iov[i].length)
 			face->broken = 1;
 		reply.numbers[1 + i] = (uint32_t)iov[i].length;
 		for (from = 0; from < iov[i].length && had < MOST_OCTETS; from++)

@@ -442,6 +442,7 @@ static void try_arrays(struct scene *scene)
 
 	try_length(scene, BLOCKS, most / sizeof(struct strm_block_info) + 1);
 	try_length(scene, IOV, most / sizeof(struct strm_iov) + 1);
+	try_length(scene, QUEUED_IOV, most / sizeof(struct strm_iov) + 1);
 	try_length(scene, SHAPE_ALL, most / sizeof(struct strm_block_shape) + 1);
 	try_length(scene, ALLOCB_N, most / sizeof(struct strm_msg) + 1);
 	try_length(scene, FREEMSG_N, most / sizeof(struct strm_msg) + 1);

@@ -929,10 +929,10 @@ static struct reply blocks_told(const struct model *v, const struct call *call)
 	return reply;
 }
 
-/* The bytes of one block; of more than MOST_OCTETS bytes a reply has the first. */
-static struct reply bytes_of_block_told(const struct model *v, const struct call *call)
+/* The bytes of one block of a message; of more than MOST_OCTETS bytes a reply has the first. */
+static struct reply bytes_of_block_told(struct cell *m, const struct call *call)
 {
-	const struct cell *cell = cell_at(v->registers[call->x], call->place);
+	const struct cell *cell = cell_at(m, call->place);
 	struct reply reply = reply_of(TOLD_BYTES);
 	uint32_t i;
 
@@ -944,10 +944,10 @@ static struct reply bytes_of_block_told(const struct model *v, const struct call
 	return reply;
 }
 
-/* The lengths of some blocks, and the first of their bytes. */
-static struct reply iov_told(const struct model *v, const struct call *call)
+/* The lengths of some blocks of a message, and the first of their bytes. */
+static struct reply iov_told(struct cell *m, const struct call *call)
 {
-	const struct cell *cell = cell_at(v->registers[call->x], call->place);
+	const struct cell *cell = cell_at(m, call->place);
 	struct reply reply = reply_of(TOLD_IOV);
 	uint32_t count = 0, had = 0, i;
 
@@ -958,6 +958,13 @@ static struct reply iov_told(const struct model *v, const struct call *call)
 	}
 	reply.numbers[0] = count;
 	return reply;
+}
+
+static struct reply number_told(struct cell *m, const struct call *call)
+{
+	const struct cell *cell = cell_at(m, call->place);
+
+	return cell != NULL ? told(TOLD_HEAD, cell->number, 0) : refused(STRM_NO_SUCH_BLOCK);
 }
 
 static struct reply place_told(const struct model *v, const struct call *call)
@@ -1035,9 +1042,11 @@ static struct reply act_on_messages(struct model *v, const struct call *call)
 	case BLOCKS:
 		return blocks_told(v, call);
 	case BYTES:
-		return bytes_of_block_told(v, call);
+		return bytes_of_block_told(m, call);
 	case IOV:
-		return iov_told(v, call);
+		return iov_told(m, call);
+	case BLOCK_NUMBER:
+		return number_told(m, call);
 	case PLACE:
 		return place_told(v, call);
 	case OVERWRITE:
@@ -1383,8 +1392,23 @@ static struct reply name_told(const struct model *v, uint32_t head)
 	return reply_of(NOTHING);
 }
 
-/* The message after or before the queued one whose first block has this number, or its queue. */
-static struct reply neighbour_told(const struct model *v, const struct call *call)
+/* What is asked of a message on a queue, given the one before it there, if any. */
+static struct reply queued_item_told(const struct item *item, const struct item *before, uint32_t q, const struct call *call)
+{
+	switch (call->verb) {
+	case QUEUE_OF:
+		return told(TOLD_QUEUE, q, 0);
+	case QUEUED_AFTER: case QUEUED_BEFORE:
+		return head_told(call->verb == QUEUED_AFTER ? item->next : before);
+	case QUEUED_BYTES:
+		return bytes_of_block_told(item->message, call);
+	default:
+		return iov_told(item->message, call);
+	}
+}
+
+/* What is asked of the queued message whose first block has this number. */
+static struct reply queued_head_told(const struct model *v, const struct call *call)
 {
 	const struct item *item, *before;
 	uint32_t q;
@@ -1392,7 +1416,7 @@ static struct reply neighbour_told(const struct model *v, const struct call *cal
 	for (q = 0; q < v->queue_count; q++)
 		for (item = v->queues[q].items, before = NULL; item != NULL; before = item, item = item->next)
 			if (item->message->number == call->number)
-				return call->verb == QUEUE_OF ? told(TOLD_QUEUE, q, 0) : head_told(call->verb == QUEUED_AFTER ? item->next : before);
+				return queued_item_told(item, before, q, call);
 	return refused(STRM_NO_SUCH_PLACE);
 }
 
@@ -1452,8 +1476,8 @@ static struct reply act_on_pool(struct model *v, const struct call *call)
 		return wish_taken(v, call);
 	case NAME_AT:
 		return name_told(v, call->number);
-	case QUEUED_AFTER: case QUEUED_BEFORE: case QUEUE_OF:
-		return neighbour_told(v, call);
+	case QUEUED_AFTER: case QUEUED_BEFORE: case QUEUE_OF: case QUEUED_BYTES: case QUEUED_IOV:
+		return queued_head_told(v, call);
 	case RMVQ_MSG:
 		return got_by_head(v, call);
 	default:

@@ -58,7 +58,7 @@ struct sight {
 	int codes[2][VERBS];
 	struct results results[2][VERBS];
 	int open;
-	char in_place[4];
+	char in_place[4], queued[4];
 };
 
 /* The scene, and what all looks answer. A thread that reads them has the read lock. */
@@ -84,6 +84,8 @@ static void see(struct sight *sight)
 			memcpy(&sight->results[is_spoilt][verb], &scene.results, sizeof scene.results);
 			if (verb == IOV && sight->codes[is_spoilt][verb] == STRM_OK)
 				memcpy(sight->in_place, scene.results.out.iov[1].base, scene.results.out.iov[1].length);
+			if (verb == QUEUED_BYTES && sight->codes[is_spoilt][verb] == STRM_OK)
+				memcpy(sight->queued, scene.results.out.bytes, scene.results.done);
 		}
 }
 
@@ -172,7 +174,7 @@ int main(void)
 	CHECK(used > 10000);
 	ANSWERS(mprotect(pages, ROOM, PROT_READ), 0);
 	look_together(0);
-	CHECK(memcmp(shared.sight.in_place, "too", 3) == 0);
+	CHECK(memcmp(shared.sight.in_place, "too", 3) == 0 && shared.sight.queued[0] == '1');
 	check_codes(1);
 	ANSWERS(mprotect(pages, ROOM, PROT_READ | PROT_WRITE), 0);
 	look_together(CHANGES);

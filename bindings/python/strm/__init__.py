@@ -116,14 +116,8 @@ QueueInfo = NamedTuple("QueueInfo", [("msgs", int), ("bytes", int), ("read", int
 BandInfo = NamedTuple("BandInfo", [("bytes", int), ("full", int), ("wanted", int)])
 Marks = NamedTuple("Marks", [("hiwat", int), ("lowat", int)])
 Wish = NamedTuple("Wish", [("id", int), ("size", int)])
-
-
-class Name(NamedTuple):
-    """The name of a message, which may be kept. `Pool.adopt` makes a message of it."""
-
-    pool: int
-    head: int
-    stamp: int
+# The name of a message, which may be kept. `Pool.adopt` makes a message of it.
+Name = NamedTuple("Name", [("pool", int), ("head", int), ("stamp", int)])
 
 
 class _Handle(ctypes.Structure):
@@ -152,16 +146,17 @@ class _Config(ctypes.Structure):
 CALLS: Dict[str, str] = {
     "open": "P*", "memory": "**", "close": "P", "is_open": "p", "allocb": "Pu*", "testb": "pu*", "dupb": "Pm*", "dupmsg": "Pm*", "copyb": "Pm*",
     "copymsg": "Pm*", "freeb": "Pm*", "freemsg": "Pm", "write": "Pmubz", "read": "pmu*z*", "settype": "Pmuu", "setband": "Pmu", "size": "pm*",
-    "msgdsize": "pm*", "message": "pm*", "block": "pmu*", "blocks": "pmu*z*", "has": "pm*", "name_at": "pu*", "bytes": "pmu**", "iov": "pmu*z*",
-    "place": "pmu*", "region": "pu***", "room": "Pmu**", "edit": "Pmu**", "window": "Pmu**", "shape": "Pmuuu", "overwrite": "Pmubz",
-    "reserve": "Pmuu", "prepend": "Pmbz", "advance": "Pmuu", "same_msg": "mm", "is_no_msg": "m", "linkb": "Pmm", "unlinkb": "Pm*", "rmvb": "Pmu**",
-    "adjmsg": "Pmi", "pullupmsg": "Pmi", "transfer": "PPm*", "putq": "Pum", "putbq": "Pum", "insq": "Puum", "insq_at": "Puum", "getq": "Pu*",
-    "rmvq": "Puu*", "rmvq_msg": "Pu*", "qsize": "pu*", "queued_at": "puu*", "read_queued": "puuu*z*", "first_queued": "pu*", "last_queued": "pu*",
-    "queued_after": "pu*", "queued_before": "pu*", "queue_of": "pu*", "flushq": "Puu", "flushband": "Puuu", "allocb_n": "Pu*z*", "freemsg_n": "P*z*",
-    "putq_n": "Pu*z*", "getq_n": "Pu*z*", "takeq": "Puu*z*", "takeq_band": "Puuu*z*", "bcanput": "Puu*", "strqset": "Puuuu", "strqget": "puu*",
-    "qenable": "Pu", "noenable": "Pu", "enableok": "Pu", "next_service": "P*", "run_at": "pu*", "bufcall": "Pu*", "unbufcall": "Pu",
-    "take_ready": "P*", "wish_at": "pu*", "queue_spec": "pu*", "census": "p*", "class_info": "pu*", "least_free_blocks": "p*", "least_free": "pu*",
-    "reset_least": "P", "queue_info": "pu*", "band_info": "puu*", "shape_all": "Pm*z",
+    "msgdsize": "pm*", "message": "pm*", "block": "pmu*", "blocks": "pmu*z*", "block_number": "pmu*", "has": "pm*", "name_at": "pu*",
+    "bytes": "pmu**", "iov": "pmu*z*", "place": "pmu*", "region": "pu***", "room": "Pmu**", "edit": "Pmu**", "window": "Pmu**", "shape": "Pmuuu",
+    "overwrite": "Pmubz", "reserve": "Pmuu", "prepend": "Pmbz", "advance": "Pmuu", "same_msg": "mm", "is_no_msg": "m", "linkb": "Pmm",
+    "unlinkb": "Pm*", "rmvb": "Pmu**", "adjmsg": "Pmi", "pullupmsg": "Pmi", "transfer": "PPm*", "putq": "Pum", "putbq": "Pum", "insq": "Puum",
+    "insq_at": "Puum", "getq": "Pu*", "rmvq": "Puu*", "rmvq_msg": "Pu*", "qsize": "pu*", "queued_at": "puu*", "read_queued": "puuu*z*",
+    "first_queued": "pu*", "last_queued": "pu*", "queued_after": "pu*", "queued_before": "pu*", "queue_of": "pu*", "queued_bytes": "puu**",
+    "queued_iov": "puu*z*", "flushq": "Puu", "flushband": "Puuu", "allocb_n": "Pu*z*", "freemsg_n": "P*z*", "putq_n": "Pu*z*", "getq_n": "Pu*z*",
+    "takeq": "Puu*z*", "takeq_band": "Puuu*z*", "bcanput": "Puu*", "strqset": "Puuuu", "strqget": "puu*", "qenable": "Pu", "noenable": "Pu",
+    "enableok": "Pu", "next_service": "P*", "run_at": "pu*", "bufcall": "Pu*", "unbufcall": "Pu", "take_ready": "P*", "wish_at": "pu*",
+    "queue_spec": "pu*", "census": "p*", "class_info": "pu*", "least_free_blocks": "p*", "least_free": "pu*", "reset_least": "P",
+    "queue_info": "pu*", "band_info": "puu*", "shape_all": "Pm*z",
 }
 _KINDS: Dict[str, Any] = {
     **dict.fromkeys("Pp*", ctypes.c_void_p), "m": _Msg, "u": ctypes.c_uint32, "i": ctypes.c_int32, "z": ctypes.c_size_t, "b": ctypes.c_char_p,
@@ -257,7 +252,6 @@ class Pool:
     @staticmethod
     def memory(mblks: int, classes: Sequence[Tuple[int, int]], queues: Sequence[QueueSpec], bufcalls: int = 0, first_id: int = 1,
                id: int = 1) -> int:
-        """strm_memory"""
         bytes = ctypes.c_size_t()
         _call("memory", ctypes.byref(_with_config(id, mblks, classes, queues, bufcalls, first_id)), ctypes.byref(bytes))
         return bytes.value
@@ -303,6 +297,12 @@ class Pool:
 
     def queue_of(self, head: int) -> Queue:
         return self.queues[self._number("queue_of", head)]
+
+    def queued_bytes(self, head: int, place: int) -> memoryview:
+        return self._in_place("queued_bytes", head, place)
+
+    def queued_iov(self, head: int, start: int = 0, length: int = 32) -> List[memoryview]:
+        return self._in_places("queued_iov", length, head, start)
 
     def rmvq_msg(self, head: int) -> Message:
         return self._made("rmvq_msg", head)
@@ -400,6 +400,21 @@ class Pool:
         count = self._counted(name, room, length, *args)
         return room.raw[:count]
 
+    def _in_place(self, name: str, *args: Any) -> memoryview:
+        """Bytes in place, which may be written unless the call is a look. It ends no others."""
+        first, length = ctypes.c_void_p(), ctypes.c_size_t()
+        self._look(name, *args, ctypes.byref(first), ctypes.byref(length))
+        return self._lend(first.value, length.value, CALLS[name].startswith("P"))
+
+    def _in_places(self, name: str, length: int, *args: Any) -> List[memoryview]:
+        room = (_Iov * length)()
+        return [self._lend(each.base, each.length) for each in room[: self._counted(name, room, length, *args)]]
+
+    def _lend(self, address: Optional[int], length: int, is_writable: bool = False) -> memoryview:
+        view = memoryview((ctypes.c_ubyte * length).from_address(address or 0)).cast("B") if length else memoryview(bytearray())
+        self._lent.append(view if is_writable else view.toreadonly())
+        return self._lent[-1]
+
     def _several(self, name: str, count: int, *args: Any) -> List[Message]:
         names = (_Msg * count)()
         return [Message(self, _Msg.from_buffer_copy(names[k])) for k in range(self._counted(name, names, count, *args))]
@@ -465,35 +480,35 @@ class Message:
         return self.pool._told(BlockInfo, "block", self._msg, place)
 
     def blocks(self, start: int = 0, length: int = 32) -> List[BlockInfo]:
-        width = len(BlockInfo._fields)
-        room = (ctypes.c_uint32 * (width * length))()
+        room = (ctypes.c_uint32 * len(BlockInfo._fields) * length)()
         count = self.pool._counted("blocks", room, length, self._msg, start)
-        return [BlockInfo._make(room[width * k : width * (k + 1)]) for k in range(count)]
+        return [BlockInfo._make(each) for each in room[:count]]
+
+    def block_number(self, place: int) -> int:
+        return self.pool._number("block_number", self._msg, place)
 
     def bytes(self, place: int) -> memoryview:
         """The bytes of a block in place."""
-        return self._in_place("bytes", place)
+        return self.pool._in_place("bytes", self._msg, place)
 
     def iov(self, start: int = 0, length: int = 32) -> List[memoryview]:
         """The bytes of blocks in place, as os.writev takes them."""
-        room = (_Iov * length)()
-        count = self.pool._counted("iov", room, length, self._msg, start)
-        return [self._lend(each.base, each.length) for each in room[:count]]
+        return self.pool._in_places("iov", length, self._msg, start)
 
     def place(self, place: int) -> BlockPlace:
         return self.pool._told(BlockPlace, "place", self._msg, place)
 
     def room(self, place: int) -> memoryview:
         """The room of a block in place, to write there before `advance`."""
-        return self._in_place("room", place)
+        return self.pool._in_place("room", self._msg, place)
 
     def edit(self, place: int) -> memoryview:
         """The bytes of a block in place, to change them there."""
-        return self._in_place("edit", place)
+        return self.pool._in_place("edit", self._msg, place)
 
     def window(self, place: int) -> memoryview:
         """The whole data block of a block in place, to write there before `shape`."""
-        return self._in_place("window", place)
+        return self.pool._in_place("window", self._msg, place)
 
     def write(self, place: int, data: Buffer) -> None:
         self._put("write", data, place)
@@ -580,23 +595,12 @@ class Message:
         self.pool._change(name, *args, self._msg)
         self._msg = _NO_MSG
 
-    def _in_place(self, name: str, place: int) -> memoryview:
-        """Bytes in place, which may be written unless the call is a look. It ends no others."""
-        first, length = ctypes.c_void_p(), ctypes.c_size_t()
-        self.pool._look(name, self._msg, place, ctypes.byref(first), ctypes.byref(length))
-        return self._lend(first.value, length.value, CALLS[name].startswith("P"))
-
-    def _lend(self, address: Optional[int], length: int, is_writable: bool = False) -> memoryview:
-        view = memoryview((ctypes.c_ubyte * length).from_address(address or 0)).cast("B") if length else memoryview(bytearray())
-        self.pool._lent.append(view if is_writable else view.toreadonly())
-        return self.pool._lent[-1]
-
 
 # ---- queues
 
 
 class Queue:
-    """A queue of a pool."""
+    """A queue of a pool. Its `size` is strm_qsize, `spec` strm_queue_spec, `info` strm_queue_info, and `band` strm_band_info."""
 
     def __init__(self, pool: Pool, number: int) -> None:
         self.pool, self.number = pool, number
@@ -611,7 +615,6 @@ class Queue:
         return (self.queued_at(place) for place in range(self.size()))
 
     def size(self) -> int:
-        """strm_qsize"""
         return self.pool._number("qsize", self.number)
 
     def queued_at(self, place: int) -> Queued:
@@ -630,15 +633,12 @@ class Queue:
         return self.pool._told(Marks, "strqget", self.number, band)
 
     def spec(self) -> QueueSpec:
-        """strm_queue_spec"""
         return self.pool._told(QueueSpec, "queue_spec", self.number)
 
     def info(self) -> QueueInfo:
-        """strm_queue_info"""
         return self.pool._told(QueueInfo, "queue_info", self.number)
 
     def band(self, band: int) -> BandInfo:
-        """strm_band_info"""
         return self.pool._told(BandInfo, "band_info", self.number, band)
 
     def put(self, msg: Message) -> None:

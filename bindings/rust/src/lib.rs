@@ -546,6 +546,12 @@ impl Pool {
         stored(|count| raw::blocks(&self.handle, msg.0, from, into, count))
     }
 
+    /// The number of a block, among all message blocks of the pool.
+    #[inline]
+    pub fn block_number(&self, msg: &Message, place: u32) -> Result<u32, Refusal> {
+        stored(|number| raw::strm_block_number(&self.handle, msg.0, place, number))
+    }
+
     /// Whether the pool has the message.
     #[inline]
     pub fn has(&self, msg: &Message) -> Result<bool, Refusal> {
@@ -774,6 +780,18 @@ impl Pool {
     #[inline]
     pub fn queue_of(&self, head: u32) -> Result<u32, Refusal> {
         stored(|queue| raw::strm_queue_of(&self.handle, head, queue))
+    }
+
+    /// The bytes of a block of the queued message whose first block is `head`, in place.
+    #[inline]
+    pub fn queued_bytes(&self, head: u32, place: u32) -> Result<&[u8], Refusal> {
+        raw::queued_bytes(&self.handle, head, place).map_err(refused)
+    }
+
+    /// The bytes of its blocks from `from` on, in place. Returns their number.
+    #[inline]
+    pub fn queued_iov<'pool>(&'pool self, head: u32, from: u32, into: &mut [Iov<'pool>]) -> Result<usize, Refusal> {
+        stored(|count| raw::queued_iov(&self.handle, head, from, into, count))
     }
 
     /// Frees messages of a queue.

@@ -55,7 +55,7 @@ impl Deref for Iov<'_> {
     type Target = [u8];
 
     fn deref(&self) -> &[u8] {
-        // SAFETY: only `default` and `strm_iov` make one. The bytes stay until a call by `&mut Pool`, which `'pool` excludes.
+        // SAFETY: only `default`, `strm_iov` and `strm_queued_iov` make one. The bytes stay until a call by `&mut Pool`, which `'pool` excludes.
         unsafe { slice::from_raw_parts(self.base, self.length) }
     }
 }
@@ -135,6 +135,7 @@ unsafe extern "C" {
     pub(crate) safe fn strm_message(pool: &Handle, msg: Name, info: &mut Queued) -> c_int;
     pub(crate) safe fn strm_block(pool: &Handle, msg: Name, place: u32, block: &mut BlockInfo) -> c_int;
     fn strm_blocks(pool: &Handle, msg: Name, from: u32, into: *mut BlockInfo, length: usize, count: &mut usize) -> c_int;
+    pub(crate) safe fn strm_block_number(pool: &Handle, msg: Name, place: u32, number: &mut u32) -> c_int;
     pub(crate) safe fn strm_has(pool: &Handle, msg: Name, yes: &mut u32) -> c_int;
     pub(crate) safe fn strm_name_at(pool: &Handle, head: u32, msg: &mut Name) -> c_int;
     fn strm_bytes(pool: &Handle, msg: Name, place: u32, bytes: &mut *const u8, length: &mut usize) -> c_int;
@@ -173,6 +174,8 @@ unsafe extern "C" {
     pub(crate) safe fn strm_queued_after(pool: &Handle, head: u32, after: &mut u32) -> c_int;
     pub(crate) safe fn strm_queued_before(pool: &Handle, head: u32, before: &mut u32) -> c_int;
     pub(crate) safe fn strm_queue_of(pool: &Handle, head: u32, queue: &mut u32) -> c_int;
+    fn strm_queued_bytes(pool: &Handle, head: u32, place: u32, bytes: &mut *const u8, length: &mut usize) -> c_int;
+    fn strm_queued_iov(pool: &Handle, head: u32, from: u32, into: *mut Iov<'_>, length: usize, count: &mut usize) -> c_int;
     pub(crate) safe fn strm_flushq(pool: &mut Handle, queue: u32, flush: u32) -> c_int;
     pub(crate) safe fn strm_flushband(pool: &mut Handle, queue: u32, band: u32, flush: u32) -> c_int;
     fn strm_takeq(pool: &mut Handle, queue: u32, flush: u32, msgs: *mut Message, length: usize, count: &mut usize) -> c_int;
@@ -283,16 +286,33 @@ pub(crate) fn iov<'pool>(pool: &'pool Handle, msg: Name, from: u32, into: &mut [
     unsafe { strm_iov(pool, msg, from, into.as_mut_ptr(), into.len(), count) }
 }
 
-/// The bytes of a block in place. They are the pool's until the next call by `&mut Handle`, as strm.h says.
 #[inline]
-pub(crate) fn bytes(pool: &Handle, msg: Name, place: u32) -> Result<&[u8], c_int> {
+pub(crate) fn queued_iov<'pool>(pool: &'pool Handle, head: u32, from: u32, into: &mut [Iov<'pool>], count: &mut usize) -> c_int {
+    // SAFETY: as in `iov`.
+    unsafe { strm_queued_iov(pool, head, from, into.as_mut_ptr(), into.len(), count) }
+}
+
+/// The bytes that a look finds in place. They are the pool's until the next call by `&mut Handle`, as strm.h says.
+#[inline]
+fn readable(pool: &Handle, look: impl FnOnce(&Handle, &mut *const u8, &mut usize) -> c_int) -> Result<&[u8], c_int> {
     let (mut first, mut length) = (core::ptr::null(), 0);
-    // SAFETY: both places are variables.
-    match unsafe { strm_bytes(pool, msg, place, &mut first, &mut length) } {
-        // SAFETY: the call was done, so the pointer is not null and leads to that many bytes, which no look changes.
+    match look(pool, &mut first, &mut length) {
+        // SAFETY: the look was done, so the pointer is not null and leads to that many bytes, which no look changes.
         0 => Ok(unsafe { slice::from_raw_parts(first, length) }),
         code => Err(code),
     }
+}
+
+#[inline]
+pub(crate) fn bytes(pool: &Handle, msg: Name, place: u32) -> Result<&[u8], c_int> {
+    // SAFETY: both places are variables.
+    readable(pool, |pool, first, length| unsafe { strm_bytes(pool, msg, place, first, length) })
+}
+
+#[inline]
+pub(crate) fn queued_bytes(pool: &Handle, head: u32, place: u32) -> Result<&[u8], c_int> {
+    // SAFETY: as in `bytes`.
+    readable(pool, |pool, first, length| unsafe { strm_queued_bytes(pool, head, place, first, length) })
 }
 
 /// What `strm_room` and the like find: bytes of the pool that are this slice's until the next call by `&Handle` or `&mut Handle`.
@@ -324,13 +344,13 @@ pub(crate) fn window(pool: &mut Handle, msg: Name, place: u32) -> Result<&mut [u
     writable(pool, |pool, first, length| unsafe { strm_window(pool, msg, place, first, length) })
 }
 
-/// The data blocks of a size class. They are lent as by `bytes`.
+/// The data blocks of a size class. They are lent as by `readable`.
 pub(crate) fn region<'pool>(pool: &'pool Handle, place: u32, at: &mut (&'pool [u8], usize)) -> c_int {
     let (mut base, mut size) = (core::ptr::null(), 0);
     // SAFETY: all places are variables.
     let code = unsafe { strm_region(pool, place, &mut base, &mut size, &mut at.1) };
     if code == 0 {
-        // SAFETY: as in `bytes`.
+        // SAFETY: as in `readable`.
         at.0 = unsafe { slice::from_raw_parts(base, size) };
     }
     code

@@ -1,35 +1,41 @@
 -- Arrays with an item for each block of a message.
-use Rattle.std.proofs.Common.{◌≡◌, ℕ, zero, suc, ◌+◌, ◌-◌, ◌<◌, ◌≤◌, true, false, List, [], ◌∷◌, ◌++◌, length, map, set, take, drop, Option, Some, None, Result, Ok, Err, refl, sym, ap, ◌∙◌, subst, arith, append_assoc}
-use Rattle.std.specs.Prelude.{min, ok_or, option_map, slice_get}
-use Rattle.std.specs.List.{All}
+use Rattle.std.proofs.Common.{◌≡◌, ℕ, zero, suc, ◌+◌, ◌-◌, ◌<◌, ◌≤◌, Bool, true, false, List, [], ◌∷◌, ◌++◌, length, map, set, take, drop, Option, Some, None, Result, Ok, Err, refl, sym, ap, ◌∙◌, subst, arith, append_assoc}
+use Rattle.std.specs.Prelude.{◌==◌, filter, if◌then◌else◌, is_some, min, ok_or, option_map, slice_get}
+use Rattle.std.specs.Result.{result_ok}
+use Rattle.std.specs.List.{All, flat_map}
 use Rattle.std.proofs.lemmas.Bool.{cond-false, cond-true}
-use Rattle.std.proofs.lemmas.Grind.{drop_more_same}
+use Rattle.std.proofs.lemmas.Grind.{drop_more_same, flat_map-append}
 use Rattle.std.proofs.lemmas.List.{drop-drop, drop-map, drop-set-lt, drop_at, length-append, length-drop, length-map, length-take-le, map-set, take-map, take_all, take_at, take_more_set}
 use Rattle.std.proofs.lemmas.List.Elements.{All-nil, All-push}
 use Rattle.std.proofs.lemmas.Option.{none-some, slice_get-map}
 use borrow.Rule.Slice.PartMut.{post_of, put_mid}
 use Rattle.strm_data.specs.declared.refusal.Refusal.{Refusal}
-use Rattle.strm_data.specs.declared.refusal.Refusal.TheVariants.{NoSuchBlock}
+use Rattle.strm_data.specs.declared.refusal.Refusal.TheVariants.{NoSuchBlock, NoSuchPlace}
 use Rattle.strm_data.specs.DataStore.{DataStore}
 use Rattle.strm_links.specs.Chains.{chain_in, items_in, items_of}
 use Rattle.strm_mblk.specs.Arena.{Arena, message_at}
-use Rattle.strm_mblk.specs.Block.{Block, Message, bytes_of_block}
+use Rattle.strm_mblk.specs.Block.{Block, Message, bytes_of_block, head_of}
 use Rattle.strm_mblk.specs.BlockCalls.{info_of}
-use Rattle.strm_mblk.specs.Given.{answer_map}
+use Rattle.strm_mblk.specs.Given.{and_then, answer_map}
 use Rattle.strm_mblk.specs.InPlace.{bytes, infos_from}
+use Rattle.strm_mblk.specs.Messages.{blocks_of, blocks_on}
+use Rattle.strm_mblk.specs.Shelves.{shelf_of, shelved_message}
 use Rattle.strm_mblk.proofs.Lists.{filled_more, got_behind, put_rest}
 use Rattle.strm_pool.specs.Lawful.{IsLawful}
-use Rattle.strm_pool.specs.PoolValue.{PoolValue}
+use Rattle.strm_pool.specs.PoolValue.{PoolValue, queued_blocks_of}
+use Rattle.strm_queue.specs.QueueLooks.{queued_bytes}
 use Rattle.strm_named.specs.declared.fault.Fault.{Fault}
 use Rattle.strm_named.specs.declared.fault.Fault.TheVariants.{Invalid}
 use Rattle.strm_named.specs.declared.name.Name.{Name}
-use Rattle.strm_named.specs.NamedCalls.{as_named_result, asked, if_valid}
+use Rattle.strm_named.specs.NamedCalls.{as_named_result, asked, if_valid, result_map}
 use Rattle.strm_named.specs.NamedValue.{NamedValue, is_valid}
+use Rattle.strm_c.specs.declared.arrays.Lent.{Lent}
+use Rattle.strm_c.specs.declared.arrays.Lent.TheVariants as lents
 use Rattle.strm_c.specs.declared.layout.StrmIov.{StrmIov}
 use Rattle.strm_c.specs.Exports.{array_with}
 use Rattle.strm_c.specs.InC.{block_in_c}
 use Rattle.strm_c.specs.declared.layout.StrmBlockInfo.{StrmBlockInfo}
-use Rattle.strm_c.specs.InPlace.{AreLent, IsAddress, infos_asked, infos_stored, lengths_asked, lengths_from, lengths_of}
+use Rattle.strm_c.specs.InPlace.{AreLent, IsAddress, blocks_lent, infos_asked, infos_stored, lengths_asked, lengths_in, lengths_lent, lengths_of, lengths_queued}
 
 -- ---- the blocks of a message
 
@@ -42,14 +48,45 @@ items_few (suc h) (m ∷ chains) = omega (arith, length-append (items_of m) (ite
 pub few_blocks : (p : PoolValue) → IsLawful p → (h : ℕ) → length (message_at p.arena h) ≤ 16383
 few_blocks p law h = omega (arith, items_few h p.arena.held, law.whole, law.few)
 
+first_few : (p : Message → Bool) (ms : List Message) → length (blocks_of (slice_get (filter p ms) 0)) ≤ length (flat_map (λ m. m) ms)
+first_few p [] = omega arith
+first_few p (m ∷ ms) = by_choice (p m) (first_few p ms)
+  where
+    by_choice : (is : Bool) → length (blocks_of (slice_get (filter p ms) 0)) ≤ length (flat_map (λ m. m) ms) → length (blocks_of (slice_get (if is then m ∷ filter p ms else filter p ms) 0)) ≤ length (m ++ flat_map (λ m. m) ms)
+    by_choice true few = omega (arith, length-append m (flat_map (λ m. m) ms))
+    by_choice false few = omega (arith, length-append m (flat_map (λ m. m) ms), few)
+
+on_all : (shelves : List (List Message)) → length (flat_map (λ m. m) (flat_map (λ ms. ms) shelves)) ≡ length (blocks_on shelves)
+on_all [] = refl
+on_all (ms ∷ shelves) =
+    omega (
+      arith,
+      ap length (flat_map-append (λ m. m) ms (flat_map (λ ms. ms) shelves)),
+      length-append (flat_map (λ m. m) ms) (flat_map (λ m. m) (flat_map (λ ms. ms) shelves)),
+      length-append (flat_map (λ m. m) ms) (blocks_on shelves),
+      on_all shelves,
+    )
+
+-- nor has one that is lent
+pub few_lent : (v : NamedValue) → IsLawful v.pool → (lent : Lent) → length (blocks_lent v lent) ≤ 16383
+few_lent v law (lents.Held n) = by_valid (is_valid v n)
+  where
+    by_valid : (valid : Bool) → length (if valid then message_at v.pool.arena n.head else []) ≤ 16383
+    by_valid true = few_blocks v.pool law n.head
+    by_valid false = omega arith
+few_lent v law (lents.Queued h) = by_shelf (is_some (shelf_of v.pool.arena h))
+  where
+    by_shelf : (some : Bool) → length (if some then shelved_message v.pool.arena h else []) ≤ 16383
+    by_shelf true = omega (arith, first_few (λ m. head_of m == h) (flat_map (λ ms. ms) v.pool.arena.shelves), on_all v.pool.arena.shelves, law.whole, law.few)
+    by_shelf false = omega arith
+
 past : {X : Type 0} (xs : List X) (k : ℕ) → slice_get xs k ≡ None → length xs ≤ k
 past [] k is = omega arith
 past (x ∷ xs) zero is = absurd (none-some x (sym is))
 past (x ∷ xs) (suc k) is = omega (arith, past xs k is)
 
-pub length-lengths_from : (v : NamedValue) (n : Name) (from : ℕ) → length (lengths_from v n from) ≡ length (message_at v.pool.arena n.head) - from
-length-lengths_from v n from =
-    length-map (drop from (message_at v.pool.arena n.head)) (λ (b : Block). length (bytes_of_block v.pool.arena.store b)) ∙ length-drop from (message_at v.pool.arena n.head)
+pub length-lengths_in : (s : DataStore) (m : Message) (from : ℕ) → length (lengths_in s m from) ≡ length m - from
+length-lengths_in s m from = length-map (drop from m) (λ (b : Block). length (bytes_of_block s b)) ∙ length-drop from m
 
 pub length-infos_from : (h from : ℕ) (a : Arena) → length (map block_in_c (infos_from h from a)) ≡ length (message_at a h) - from
 length-infos_from h from a =
@@ -95,40 +132,65 @@ infos_behind h from d a =
 
 -- ---- bytes that are lent
 
-asked_valid : {X : Type 0} (v : NamedValue) (n : Name) (answer : Result X Refusal) → is_valid v n ≡ true → asked v n answer ≡ as_named_result answer
-asked_valid v n answer valid = cond-true (is_valid v n) (as_named_result answer) (Err Invalid) valid
-
 -- the answer to a question about a message
 pub told_valid : {X : Type 0} (v : NamedValue) (n : Name) (x y : X) → is_valid v n ≡ true → Ok x ≡ if_valid v n y → x ≡ y
 told_valid {X} v n x y valid is =
     let told : Result X Fault = Ok y in
     let same : Ok x ≡ told = is ∙ cond-true (is_valid v n) told (Err Invalid) valid in cc
 
-found : (s : DataStore) (o : Option Block) (bs : List ℕ) → as_named_result (answer_map (bytes_of_block s) (ok_or o NoSuchBlock)) ≡ Ok bs
-    → option_map (λ b. length (bytes_of_block s b)) o ≡ Some (length bs)
-found s None bs is = cc
-found s (Some b) bs is = cc
+-- the bytes of a block, by the answer of a call that lends them
+module _ {R : Type 0} (shown : R → List ℕ) (s : DataStore) (k : ℕ) where
+  by_block : (o : Option Block) (answer : Result R Refusal) → answer_map shown answer ≡ answer_map (bytes_of_block s) (ok_or o NoSuchBlock) → option_map shown (result_ok answer) ≡ option_map (bytes_of_block s) o
+  by_block None (Ok r) is = absurd cc
+  by_block None (Err e) is = refl
+  by_block (Some b) (Ok r) is = cc
+  by_block (Some b) (Err e) is = absurd cc
 
-missing : (s : DataStore) (o : Option Block) (fault : Fault) → as_named_result (answer_map (bytes_of_block s) (ok_or o NoSuchBlock)) ≡ Err fault → o ≡ None
-missing s None fault is = refl
-missing s (Some b) fault is = cc
+  by_shelf : (shelf : Option ℕ) (m : Message) (answer : Result R Refusal) → answer_map shown answer ≡ and_then (λ q. answer_map (bytes_of_block s) (ok_or (slice_get m k) NoSuchBlock)) (ok_or shelf NoSuchPlace)
+      → option_map shown (result_ok answer) ≡ option_map (bytes_of_block s) (slice_get (if is_some shelf then m else []) k)
+  by_shelf None m (Ok r) is = absurd cc
+  by_shelf None m (Err e) is = refl
+  by_shelf (Some q) m answer is = by_block (slice_get m k) answer is
 
-module _ (v : NamedValue) (n : Name) (valid : is_valid v n ≡ true) (from d place : ℕ) (at : place ≡ from + d) where
-  abbrev m : Message
-  m = message_at v.pool.arena n.head
+  by_named : (o : Option Block) (answer : Result R Fault) → result_map shown answer ≡ as_named_result (answer_map (bytes_of_block s) (ok_or o NoSuchBlock)) → option_map shown (result_ok answer) ≡ option_map (bytes_of_block s) o
+  by_named None (Ok r) is = absurd cc
+  by_named None (Err e) is = refl
+  by_named (Some b) (Ok r) is = cc
+  by_named (Some b) (Err e) is = absurd cc
 
+  by_valid : (valid : Bool) (m : Message) (answer : Result R Fault) → result_map shown answer ≡ (if valid then as_named_result (answer_map (bytes_of_block s) (ok_or (slice_get m k) NoSuchBlock)) else Err Invalid)
+      → option_map shown (result_ok answer) ≡ option_map (bytes_of_block s) (slice_get (if valid then m else []) k)
+  by_valid false m (Ok r) is = absurd cc
+  by_valid false m (Err e) is = refl
+  by_valid true m answer is = by_named (slice_get m k) answer is
+
+pub held_ok : {R : Type 0} (shown : R → List ℕ) (v : NamedValue) (n : Name) (k : ℕ) (answer : Result R Fault) → result_map shown answer ≡ asked v n (bytes n.head k v.pool.arena)
+    → option_map shown (result_ok answer) ≡ option_map (bytes_of_block v.pool.arena.store) (slice_get (blocks_lent v (lents.Held n)) k)
+held_ok shown v n k answer is = by_valid shown v.pool.arena.store k (is_valid v n) (message_at v.pool.arena n.head) answer is
+
+pub queued_ok : {R : Type 0} (shown : R → List ℕ) (v : NamedValue) (h k : ℕ) (answer : Result R Refusal) → answer_map shown answer ≡ queued_bytes h k (queued_blocks_of v.pool)
+    → option_map shown (result_ok answer) ≡ option_map (bytes_of_block v.pool.arena.store) (slice_get (blocks_lent v (lents.Queued h)) k)
+queued_ok shown v h k answer is = by_shelf shown v.pool.arena.store k (shelf_of v.pool.arena h) (shelved_message v.pool.arena h) answer is
+
+module _ (s : DataStore) (m : Message) (from d place : ℕ) (at : place ≡ from + d) where
   abbrev size : Block → ℕ
-  size b = length (bytes_of_block v.pool.arena.store b)
+  size b = length (bytes_of_block s b)
+
+  sized : (o : Option Block) (bs : List ℕ) → Some bs ≡ option_map (bytes_of_block s) o → option_map size o ≡ Some (length bs)
+  sized None bs is = absurd cc
+  sized (Some b) bs is = cc
 
   -- the block at this place is lent: its length
-  pub lent_at : (bs : List ℕ) → Ok bs ≡ asked v n (bytes n.head place v.pool.arena) → slice_get (lengths_from v n from) d ≡ Some (length bs)
-  lent_at bs is =
-      slice_get-map size (drop from m) d ∙ ap (option_map size) (got_behind m from d ∙ ap (slice_get m) (sym at))
-      ∙ found v.pool.arena.store (slice_get m place) bs (sym (is ∙ asked_valid v n (bytes n.head place v.pool.arena) valid))
+  pub lent_at : (bs : List ℕ) → Some bs ≡ option_map (bytes_of_block s) (slice_get m place) → slice_get (lengths_in s m from) d ≡ Some (length bs)
+  lent_at bs is = slice_get-map size (drop from m) d ∙ ap (option_map size) (got_behind m from d ∙ ap (slice_get m) (sym at)) ∙ sized (slice_get m place) bs is
+
+  missing : (o : Option Block) → None ≡ option_map (bytes_of_block s) o → o ≡ None
+  missing None is = refl
+  missing (Some b) is = absurd cc
 
   -- no block is at this place
-  pub none_at : (fault : Fault) → Err fault ≡ asked v n (bytes n.head place v.pool.arena) → length m ≤ place
-  none_at fault is = past m place (missing v.pool.arena.store (slice_get m place) fault (sym (is ∙ asked_valid v n (bytes n.head place v.pool.arena) valid)))
+  pub none_at : None ≡ option_map (bytes_of_block s) (slice_get m place) → length m ≤ place
+  none_at is = past m place (missing (slice_get m place) is)
 
 abbrev IsAddressed : StrmIov → Type 0
 IsAddressed i = IsAddress i.base
@@ -173,12 +235,21 @@ module _ (v : NamedValue) (n : Name) (from : ℕ) where
   pub infos_invalid : (old : List StrmBlockInfo) → is_valid v n ≡ false → infos_asked (Some v) n from old ≡ old
   infos_invalid old not = cond-false (is_valid v n) (infos_stored v n from old) old not
 
-  pub lent_valid : (old new : List StrmIov) → is_valid v n ≡ true → AreLent (lengths_from v n from) old new → AreLent (lengths_asked (Some v) n from) old new
-  lent_valid old new valid are = subst (λ (sizes : List ℕ). AreLent sizes old new) (sym (cond-true (is_valid v n) (lengths_from v n from) [] valid)) are
+drop_nil : {X : Type 0} (n : ℕ) → drop n (let none : List X = [] in none) ≡ []
+drop_nil zero = refl
+drop_nil (suc n) = refl
+
+-- what is lent of a message that is not there: nothing
+sized_if : (s : DataStore) (there : Bool) (m : Message) (from : ℕ) → lengths_in s (if there then m else []) from ≡ (if there then lengths_in s m from else [])
+sized_if s true m from = refl
+sized_if s false m from = ap (map (λ (b : Block). length (bytes_of_block s b))) (drop_nil from)
+
+pub lent_held : (v : NamedValue) (n : Name) (from : ℕ) (old new : List StrmIov) → AreLent (lengths_lent v (lents.Held n) from) old new → AreLent (lengths_asked (Some v) n from) old new
+lent_held v n from old new are = subst (λ (sizes : List ℕ). AreLent sizes old new) (sized_if v.pool.arena.store (is_valid v n) (message_at v.pool.arena n.head) from) are
+
+pub lent_queued : (v : NamedValue) (h from : ℕ) (old new : List StrmIov) → AreLent (lengths_lent v (lents.Queued h) from) old new → AreLent (lengths_queued (Some v) h from) old new
+lent_queued v h from old new are = subst (λ (sizes : List ℕ). AreLent sizes old new) (sized_if v.pool.arena.store (is_some (shelf_of v.pool.arena h)) (shelved_message v.pool.arena h) from) are
 
 -- nothing is lent
 pub lent_nothing : (old : List StrmIov) → AreLent [] old old
 lent_nothing old = lent_all [] old old 0 (lent_none [] old) (let none : 0 ≡ min (length old) 0 = omega arith in none)
-
-pub lent_invalid : (v : NamedValue) (n : Name) (from : ℕ) (old : List StrmIov) → is_valid v n ≡ false → AreLent (lengths_asked (Some v) n from) old old
-lent_invalid v n from old not = subst (λ (sizes : List ℕ). AreLent sizes old old) (sym (cond-false (is_valid v n) (lengths_from v n from) [] not)) (lent_nothing old)

@@ -1,16 +1,21 @@
 -- Bytes that C reads where they are, and arrays with an item for each block of a message.
-use Rattle.std.specs.Prelude.{◌≡◌, ℕ, ◌-◌, min, List, [], drop, length, map, take, None, Some, Result, Ok, Err, IfOk, if◌then◌else◌}
+use Rattle.std.specs.Prelude.{◌≡◌, ℕ, ◌-◌, min, List, [], drop, length, map, take, None, Some, Result, Ok, Err, IfOk, is_some, if◌then◌else◌}
 use Rattle.std.specs.List.{All}
 use denote.RawPtr.{InBlock, Ptr}
+use Rattle.strm_data.specs.declared.refusal.Refusal.{Refusal}
+use Rattle.strm_data.specs.DataStore.{DataStore}
 use Rattle.strm_mblk.specs.Arena.{message_at}
 use Rattle.strm_mblk.specs.Block.{Message, bytes_of_block}
 use Rattle.strm_mblk.specs.InPlace.{infos_from}
+use Rattle.strm_mblk.specs.Shelves.{shelf_of, shelved_message}
 use Rattle.strm_named.specs.declared.fault.Fault.{Fault}
 use Rattle.strm_named.specs.declared.name.Name.{Name}
 use Rattle.strm_named.specs.NamedValue.{NamedValue, is_valid}
+use Rattle.strm_c.specs.declared.arrays.Lent.{Lent}
+use Rattle.strm_c.specs.declared.arrays.Lent.TheVariants as lents
 use Rattle.strm_c.specs.declared.layout.StrmBlockInfo.{StrmBlockInfo}
 use Rattle.strm_c.specs.declared.layout.StrmIov.{StrmIov}
-use Rattle.strm_c.specs.Codes.{Answer, answer_of_result}
+use Rattle.strm_c.specs.Codes.{Answer, answer_of_refusable, answer_of_result}
 use Rattle.strm_c.specs.Exports.{Held, array_with}
 use Rattle.strm_c.specs.InC.{block_in_c}
 
@@ -23,6 +28,10 @@ IsAddress p = InBlock p
 -- the number of bytes that are lent, or why none are
 abbrev pub number_lent : Result (List ℕ) Fault → Answer ℕ
 number_lent lent = answer_of_result (λ bytes. Ok (length bytes)) lent
+
+-- the same of a queued message
+abbrev pub number_queued : Result (List ℕ) Refusal → Answer ℕ
+number_queued lent = answer_of_refusable (λ bytes. Ok (length bytes)) lent
 
 -- a pointer before and after an answer: the answer comes with an address, or the pointer stays
 abbrev pub StoresAddress : {Z : Type 0} → Answer Z → Ptr → Ptr → Type 0
@@ -60,9 +69,22 @@ abbrev pub infos_asked : Held → Name → ℕ → List StrmBlockInfo → List S
 infos_asked None msg from into = into
 infos_asked (Some v) msg from into = if is_valid v msg then infos_stored v msg from into else into
 
--- the number of bytes of each block of a message, from block `from` on
+-- the number of bytes of each block of message m, from block `from` on
+abbrev pub lengths_in : DataStore → Message → ℕ → List ℕ
+lengths_in s m from = map (λ b. length (bytes_of_block s b)) (drop from m)
+
+-- the same of a held message
 abbrev pub lengths_from : NamedValue → Name → ℕ → List ℕ
-lengths_from v msg from = map (λ b. length (bytes_of_block v.pool.arena.store b)) (drop from (message_at v.pool.arena msg.head))
+lengths_from v msg from = lengths_in v.pool.arena.store (message_at v.pool.arena msg.head) from
+
+-- the blocks of a message whose bytes are asked for, none if there is no such message
+abbrev pub blocks_lent : NamedValue → Lent → Message
+blocks_lent v (lents.Held msg) = if is_valid v msg then message_at v.pool.arena msg.head else []
+blocks_lent v (lents.Queued head) = if is_some (shelf_of v.pool.arena head) then shelved_message v.pool.arena head else []
+
+-- the number of bytes of each, from block `from` on
+abbrev pub lengths_lent : NamedValue → Lent → ℕ → List ℕ
+lengths_lent v lent from = lengths_in v.pool.arena.store (blocks_lent v lent) from
 
 -- the lengths of items
 abbrev pub lengths_of : List StrmIov → List ℕ
@@ -79,3 +101,8 @@ pub record AreLent (sizes : List ℕ) (old new : List StrmIov) : Type 0 where
 abbrev pub lengths_asked : Held → Name → ℕ → List ℕ
 lengths_asked None msg from = []
 lengths_asked (Some v) msg from = if is_valid v msg then lengths_from v msg from else []
+
+-- the same of a queued message: none if the handle is not open or no message on a queue has this head
+abbrev pub lengths_queued : Held → ℕ → ℕ → List ℕ
+lengths_queued None head from = []
+lengths_queued (Some v) head from = if is_some (shelf_of v.pool.arena head) then lengths_in v.pool.arena.store (shelved_message v.pool.arena head) from else []

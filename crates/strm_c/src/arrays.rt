@@ -1,20 +1,25 @@
 //! Calls that store an item for each block of a message in an array.
-ghost use Rattle.std.specs.Prelude.{◌≡◌, ◌≤◌, IsTrue, Ok, length, map, min};
+ghost use Rattle.std.specs.Prelude.{◌≡◌, ◌≤◌, IsTrue, Ok, length, map, min, option_map, slice_get};
 ghost use Rattle.strm_mblk.specs.Arena.{message_at};
+ghost use Rattle.strm_mblk.specs.Block.{bytes_of_block};
+ghost use Rattle.strm_mblk.specs.Given.{answer_map};
 ghost use Rattle.strm_mblk.specs.InPlace.{infos_from};
+ghost use Rattle.strm_mblk.specs.Shelves.{shelved_message};
+ghost use Rattle.strm_queue.specs.QueueLooks as looks;
+ghost use Rattle.strm_pool.specs.PoolValue.{queued_blocks_of};
 ghost use Rattle.strm_named.specs.NamedCalls.{if_valid};
 ghost use Rattle.strm_named.specs.NamedValue.{is_valid};
-ghost use Rattle.strm_c.specs.Codes.{answer_of_result};
+ghost use Rattle.strm_c.specs.Codes.{answer_of_refusable, answer_of_result};
 ghost use Rattle.strm_c.specs.Exports.{Asks, array_with};
 ghost use Rattle.strm_c.specs.InC.{block_in_c};
-ghost use Rattle.strm_c.specs.InPlace.{AreLent, count_from, infos_asked, infos_stored, lengths_asked, lengths_from, most_together};
+ghost use Rattle.strm_c.specs.InPlace.{AreLent, blocks_lent, count_from, infos_asked, infos_stored, lengths_asked, lengths_lent, lengths_queued, most_together};
 
 use crate::address::address_of;
 use crate::code::Code;
 use crate::layout::{StrmBlockInfo, StrmIov};
 use crate::reader::StrmReader;
 use strm_named::{Name, NamedPool};
-use strm_pool::{BlockInfo, MsgType};
+use strm_pool::{BlockInfo, MsgType, Refusal};
 
 // The most blocks that are looked at together.
 const TOGETHER: usize = 32;
@@ -76,17 +81,36 @@ fn store_all(named: &NamedPool, msg: Name, from: u32, into: &mut [StrmBlockInfo]
     done
 }
 
+// A message whose bytes are lent: a held one, by its name, or one on a queue, by its first block.
+#[derive(Clone, Copy)]
+enum Lent {
+    Held(Name),
+    Queued(u32),
+}
+
+// The bytes of a block of a message, if there is such a block.
+#[inline(always)]
+fn lent_bytes(named: &NamedPool, lent: Lent, place: u32) -> Option<&[u8]>
+    ensures { option_map (λ bytes. bytes.now) result
+        ≡ option_map (bytes_of_block named.now.pool.arena.store) (slice_get (blocks_lent named.now lent) place) }
+{
+    match lent {
+        Lent::Held(name) => named.bytes(name, place).ok(),
+        Lent::Queued(head) => named.pool().queued_bytes(head, place).ok(),
+    }
+}
+
 // Stores the address and the number of the bytes of blocks of a message, from block `from` on, in an array, as many as there
 // are and as fit. Returns their number.
-fn lend_all(named: &NamedPool, msg: Name, from: u32, into: &mut [StrmIov]) -> usize
-    requires { IsTrue (is_valid named.now msg) }
-    ensures count { result ≡ count_from (length into.old) from (message_at named.now.pool.arena msg.head) }
-    ensures lent { AreLent (lengths_from named.now msg from) into.old into.new }
+#[inline(always)]
+fn lend_all(named: &NamedPool, lent: Lent, from: u32, into: &mut [StrmIov]) -> usize
+    ensures count { result ≡ count_from (length into.old) from (blocks_lent named.now lent) }
+    ensures lent { AreLent (lengths_lent named.now lent from) into.old into.new }
 {
     named.lawful();
     let mut place = from;
     for done in 0..into.len() {
-        let Ok(bytes) = named.bytes(msg, place) else {
+        let Some(bytes) = lent_bytes(named, lent, place) else {
             return done;
         };
         into[done] = StrmIov {
@@ -145,9 +169,39 @@ pub extern "C" fn strm_c_iov(
         return Code::NotOpen.number();
     };
     let named = view.named();
-    if !named.has(msg) {
+    let lent = lend_all(named, Lent::Held(msg), from, into);
+    if lent == 0 && !named.has(msg) {
         return Code::Invalid.number();
     }
-    *count = lend_all(named, msg, from, into);
+    *count = lent;
+    0
+}
+
+/// Stores the address and the number of the bytes of each block of a queued message in an array, and the number of these blocks
+/// in `count`. Of each block as [`Pool::queued_bytes`] of strm_pool. The bytes stay there as those of `strm_c_iov`.
+#[unsafe(no_mangle)]
+pub extern "C" fn strm_c_queued_iov(
+    pool: &mut StrmReader,
+    head: u32,
+    from: u32,
+    into: &mut [StrmIov],
+    count: &mut usize,
+) -> i32
+    ensures count { Asks (λ v. answer_of_refusable Ok
+        (answer_map (λ queue. count_from (length into.old) from (shelved_message v.pool.arena head))
+        (looks.queue_of head (queued_blocks_of v.pool))))
+        pool.old.at.named pool.new.at.named result count.old count.new }
+    ensures lent { AreLent (lengths_queued pool.old.at.named head from) into.old into.new }
+    ensures same { pool.new ≡ pool.old }
+{
+    let Some(view) = pool.view() else {
+        return Code::NotOpen.number();
+    };
+    let named = view.named();
+    let lent = lend_all(named, Lent::Queued(head), from, into);
+    if lent == 0 && named.pool().queue_of(head).is_err() {
+        return Code::Refused(Refusal::NoSuchPlace).number();
+    }
+    *count = lent;
     0
 }

@@ -6,6 +6,7 @@ ghost use Rattle.strm_mblk.specs.BlockCalls as blocks;
 ghost use Rattle.strm_pool.specs.PoolValue.{on_arena, with_arena};
 ghost use Rattle.strm_queue.specs.QueueLooks.{info_of_message};
 ghost use Rattle.strm_mblk.specs.Given.{given_nothing};
+ghost use Rattle.strm_mblk.specs.Looks as looks;
 ghost use Rattle.strm_named.specs.NamedCalls.{answer_told, asked, if_valid, on_name, no_message};
 ghost use Rattle.strm_named.specs.NamedValue.{is_valid, name_at};
 ghost use Rattle.strm_c.specs.Codes.{answer_of_result, any_or_nothing};
@@ -152,6 +153,25 @@ pub extern "C" fn strm_c_block(
     };
     let answer = view.named().block(msg, place);
     put(coded(answer).map(StrmBlockInfo::of), block)
+}
+
+/// Stores the number of a block in `number`. As [`NamedPool::number`] of strm_named.
+#[unsafe(no_mangle)]
+pub extern "C" fn strm_c_block_number(
+    pool: &mut StrmReader,
+    msg: Name,
+    place: u32,
+    number: &mut u32,
+) -> i32
+    ensures answer { Asks (λ v. answer_of_result Ok (asked v msg (looks.number msg.head place v.pool.arena)))
+        pool.old.at.named pool.new.at.named result number.old number.new }
+    ensures same { pool.new ≡ pool.old }
+{
+    let Some(view) = pool.view() else {
+        return Code::NotOpen.number();
+    };
+    let answer = view.named().number(msg, place);
+    put(coded(answer), number)
 }
 
 /// Stores 1 in `yes` if a name is valid, otherwise 0. As [`NamedPool::has`] of strm_named.

@@ -4,12 +4,13 @@ ghost use Rattle.std.specs.List.{list_all};
 ghost use Rattle.std.specs.Option.{option_map_or};
 ghost use Rattle.strm_data.specs.DataStore.{class_region};
 ghost use Rattle.strm_mblk.specs.InPlace as in_place;
-ghost use Rattle.strm_pool.specs.PoolValue.{on_arena};
+ghost use Rattle.strm_queue.specs.QueueLooks as looks;
+ghost use Rattle.strm_pool.specs.PoolValue.{on_arena, queued_blocks_of};
 ghost use Rattle.strm_named.specs.NamedCalls.{asked, no_message, on_name};
 ghost use Rattle.strm_c.specs.Codes.{answer_of_result, any_or_nothing};
 ghost use Rattle.strm_c.specs.Exports.{Asks, CallsNamed, Ranged};
 ghost use Rattle.strm_c.specs.InC.{capped_number, is_shape, place_in_c, shapes_of, stride_of};
-ghost use Rattle.strm_c.specs.InPlace.{AsksAddress, number_lent};
+ghost use Rattle.strm_c.specs.InPlace.{AsksAddress, number_lent, number_queued};
 
 use crate::address::address_of;
 use crate::answer::{coded, number, put};
@@ -94,6 +95,35 @@ pub extern "C" fn strm_c_region(
             0
         }
         None => Code::Nothing.number(),
+    }
+}
+
+/// Stores the address of the bytes of a block of a queued message in `bytes`, and their number in `length`. As
+/// [`Pool::queued_bytes`] of strm_pool. The bytes stay there as those of `strm_c_bytes`.
+#[unsafe(no_mangle)]
+pub extern "C" fn strm_c_queued_bytes(
+    pool: &mut StrmReader,
+    head: u32,
+    place: u32,
+    bytes: &mut *const u8,
+    length: &mut usize,
+) -> i32
+    ensures length { Asks (λ v. number_queued (looks.queued_bytes head place (queued_blocks_of v.pool)))
+        pool.old.at.named pool.new.at.named result length.old length.new }
+    ensures bytes { AsksAddress (λ v. number_queued (looks.queued_bytes head place (queued_blocks_of v.pool)))
+        pool.old.at.named bytes.old bytes.new }
+    ensures same { pool.new ≡ pool.old }
+{
+    let Some(view) = pool.view() else {
+        return Code::NotOpen.number();
+    };
+    match view.named().pool().queued_bytes(head, place) {
+        Ok(lent) => {
+            *bytes = address_of(lent);
+            *length = lent.len();
+            0
+        }
+        Err(why) => Code::Refused(why).number(),
     }
 }
 
