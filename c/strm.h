@@ -200,8 +200,8 @@ extern "C" {
 #endif
 
 /* The version of this header, as a text and as a number. */
-#define STRM_VERSION "0.5.0"
-#define STRM_VERSION_NUMBER 5000
+#define STRM_VERSION "0.6.0"
+#define STRM_VERSION_NUMBER 6000
 
 enum {
 	STRM_OK = 0,			/* done */
@@ -630,7 +630,7 @@ int strm_blocks(const struct strm_pool *pool, struct strm_msg msg, uint32_t from
 
 /*
  * Returns the number that the block at `place` has among all message blocks of the pool, until it is
- * freed. Since 0.5.0.
+ * freed. Since 0.6.0.
  * Refused as STRM_NO_SUCH_BLOCK.
  * STREAMS: b_cont; a number replaces the pointer.
  */
@@ -962,14 +962,14 @@ int strm_queue_of(const struct strm_pool *pool, uint32_t head, uint32_t *queue);
 
 /*
  * Sets *bytes and *length as strm_bytes does, for a block of the queued message with this head.
- * Since 0.5.0.
+ * Since 0.6.0.
  * Refused as STRM_NO_SUCH_PLACE, STRM_NO_SUCH_BLOCK.
  * STREAMS: b_rptr and b_wptr.
  */
 int strm_queued_bytes(const struct strm_pool *pool, uint32_t head, uint32_t place, const uint8_t **bytes, size_t *length);
 
 /*
- * Fills an array as strm_iov does, for blocks of the queued message with this head. Since 0.5.0.
+ * Fills an array as strm_iov does, for blocks of the queued message with this head. Since 0.6.0.
  * Refused as STRM_NO_SUCH_PLACE.
  * Not in STREAMS.
  */
