@@ -6,18 +6,15 @@ import os
 import re
 from typing import Protocol
 
-from strm_tools import limits
-from strm_tools.faults import AFTER, FORMS, MOST, PATTERNS
 from strm_tools.labels import Labels, labels_of
-from strm_tools.model import CARRY_DATA, HIGH_PRIORITY, ORDINARY, REFERENCES
+from strm_tools.model import ORDINARY
 from strm_tools.rules import RULES
 from strm_tools.script import Wrong
 from strm_tools.view.chunks import Chunks, compact
 from strm_tools.view.film import KINDS, Film
-from strm_tools.words import MEANINGS, WORDS
+from strm_tools.words import WORDS
 
 FOLDER = os.path.dirname(os.path.abspath(__file__))
-REPOSITORY = os.path.dirname(os.path.dirname(os.path.dirname(FOLDER)))
 # The page's program, in the order of its parts.
 PROGRAM = ["run", "pool", "marks", "changes", "pieces", "panels", "picture", "block", "list", "chart", "find", "controls"]
 MOST_BYTES = 250_000_000
@@ -110,57 +107,6 @@ def write_page(file: Output, title: str, script: str, text: str | None = None) -
     write(f'<script id="run" type="application/json">{run}</script>\n')
     write(filled(rest, program=program_of(PROGRAM)))
     return film
-
-
-# The parts of a page's program that draw a pool, in their order.
-DRAWING = ["pool", "marks", "changes", "pieces", "panels", "picture", "block"]
-# The sections of the tutorial that its exercises begin with, and the script of each.
-BEFORE_EXAMPLES = ("# ", "A stream", "How to run")
-EXERCISE = re.compile(r"^\d\. ([^:]+): (.*(?:\n   .*)*)", re.MULTILINE)
-
-
-def repository(*path: str) -> str:
-    """A text of the repository."""
-    with open(os.path.join(REPOSITORY, *path), encoding="utf-8") as file:
-        return file.read()
-
-
-def play_scripts() -> list[list[str]]:
-    """What can be chosen on docs/play.html: the name, the script and the task of each example and exercise."""
-    page = repository("docs", "TUTORIAL.md")
-    *sections, exercises, _, _ = page.split("\n## ")
-    named = {text.split("\n")[0]: re.findall(r"examples/(\w+\.strm)", text) for text in sections if not text.startswith(BEFORE_EXAMPLES)}
-    paths = list(dict.fromkeys(names[0] for names in named.values() if names))
-    for folder in ("flow", "lost"):
-        paths += [f"{folder}/{name}" for name in sorted(os.listdir(os.path.join(REPOSITORY, "examples", folder))) if name.endswith(".strm")]
-    scripts = [[name, repository("examples", name), ""] for name in paths]
-    for number, (head, task) in enumerate(EXERCISE.findall(exercises), 1):
-        names = next(names for section, names in named.items() if section.startswith(head))
-        scripts.append([f"exercise {number}: {head}", repository("examples", names[0]), " ".join((task[0].upper() + task[1:]).split())])
-    return scripts
-
-
-def play_page() -> str:
-    """docs/play.html, on which scripts are tried: one file, made of the drawing of pages, a simulator, and the tables of these tools."""
-    facts = {
-        "forms": FORMS,
-        "after": AFTER,
-        "most": MOST,
-        "patterns": PATTERNS,
-        "limits": {name: number for name, number in vars(limits).items() if name.isupper()},
-        "references": REFERENCES,
-        "kinds": KINDS,
-        "ordinary": len(ORDINARY),
-        "high": HIGH_PRIORITY,
-        "carry": CARRY_DATA,
-        "rules": {name: rule[:2] for name, rule in RULES.items()},
-        "words": {name: [word.form, word.does] for name, word in WORDS.items()},
-        "queueWords": [word for word, entry in WORDS.items() if entry.form.startswith("Q")],
-        "meanings": MEANINGS,
-        "examples": play_scripts(),
-    }
-    parts = {name: program_of(names) for name, names in (("drawing", DRAWING), ("model", ["model"]), ("play", ["play"]))}
-    return filled(source("play.html"), style=source("page.css"), facts=compact(facts).replace("<", "\\u003c"), **panels(), **parts)
 
 
 def filled(text: str, **parts: str) -> str:
