@@ -194,11 +194,6 @@ fn found<T: Default>(call: impl FnOnce(&mut T) -> c_int) -> Result<Option<T>, Re
     }
 }
 
-#[inline]
-fn asked(call: impl FnOnce(&mut u32) -> c_int) -> Result<bool, Refusal> {
-    stored(call).map(|yes: u32| yes == 1)
-}
-
 /// What a call that a message was handed to gives, or the message with the reason.
 #[inline]
 fn handed<T>(message: Message, result: Result<T, Refusal>) -> Result<T, Rejected> {
@@ -427,42 +422,6 @@ fn all(from: &mut Vec<Message>, call: impl FnOnce(&[Message], &mut usize) -> c_i
 
 /// Messages, made and freed.
 impl Pool {
-    /// Allocates a message of one block with a data block of `size` bytes or more.
-    #[inline]
-    pub fn allocb(&mut self, size: u32) -> Result<Message, Refusal> {
-        stored(|name| raw::strm_allocb(&mut self.handle, size, name)).map(Message)
-    }
-
-    /// Whether `allocb` of this size would succeed now.
-    #[inline]
-    pub fn testb(&self, size: u32) -> Result<bool, Refusal> {
-        asked(|yes| raw::strm_testb(&self.handle, size, yes))
-    }
-
-    /// Duplicates the first block.
-    #[inline]
-    pub fn dupb(&mut self, msg: &Message) -> Result<Message, Refusal> {
-        stored(|name| raw::strm_dupb(&mut self.handle, msg.0, name)).map(Message)
-    }
-
-    /// Duplicates all blocks.
-    #[inline]
-    pub fn dupmsg(&mut self, msg: &Message) -> Result<Message, Refusal> {
-        stored(|name| raw::strm_dupmsg(&mut self.handle, msg.0, name)).map(Message)
-    }
-
-    /// Copies the first block.
-    #[inline]
-    pub fn copyb(&mut self, msg: &Message) -> Result<Message, Refusal> {
-        stored(|name| raw::strm_copyb(&mut self.handle, msg.0, name)).map(Message)
-    }
-
-    /// Copies all blocks.
-    #[inline]
-    pub fn copymsg(&mut self, msg: &Message) -> Result<Message, Refusal> {
-        stored(|name| raw::strm_copymsg(&mut self.handle, msg.0, name)).map(Message)
-    }
-
     /// Frees the first block, and returns the others as a message.
     #[inline]
     pub fn freeb(&mut self, msg: Message) -> Result<Option<Message>, Rejected> {
@@ -504,64 +463,10 @@ impl Pool {
         stored(|count| raw::read(&self.handle, msg.0, at, into, count))
     }
 
-    /// Sets the type of a block.
-    #[inline]
-    pub fn settype(&mut self, msg: &Message, place: u32, r#type: MsgType) -> Result<(), Refusal> {
-        done(raw::strm_settype(&mut self.handle, msg.0, place, r#type.0))
-    }
-
-    /// Sets the band of a message.
-    #[inline]
-    pub fn setband(&mut self, msg: &Message, band: u32) -> Result<(), Refusal> {
-        done(raw::strm_setband(&mut self.handle, msg.0, band))
-    }
-
-    /// Counts the bytes of a message.
-    #[inline]
-    pub fn size(&self, msg: &Message) -> Result<u32, Refusal> {
-        stored(|bytes| raw::strm_size(&self.handle, msg.0, bytes))
-    }
-
-    /// Counts the bytes in blocks of type `DATA`.
-    #[inline]
-    pub fn msgdsize(&self, msg: &Message) -> Result<u32, Refusal> {
-        stored(|bytes| raw::strm_msgdsize(&self.handle, msg.0, bytes))
-    }
-
-    /// What a message is like.
-    #[inline]
-    pub fn message(&self, msg: &Message) -> Result<Queued, Refusal> {
-        stored(|info| raw::strm_message(&self.handle, msg.0, info))
-    }
-
-    /// The fields of a block.
-    #[inline]
-    pub fn block(&self, msg: &Message, place: u32) -> Result<BlockInfo, Refusal> {
-        stored(|block| raw::strm_block(&self.handle, msg.0, place, block))
-    }
-
     /// The fields of blocks from `from` on. Returns their number.
     #[inline]
     pub fn block_infos(&self, msg: &Message, from: u32, into: &mut [BlockInfo]) -> Result<usize, Refusal> {
         stored(|count| raw::blocks(&self.handle, msg.0, from, into, count))
-    }
-
-    /// The number of a block, among all message blocks of the pool.
-    #[inline]
-    pub fn block_number(&self, msg: &Message, place: u32) -> Result<u32, Refusal> {
-        stored(|number| raw::strm_block_number(&self.handle, msg.0, place, number))
-    }
-
-    /// Whether the pool has the message.
-    #[inline]
-    pub fn has(&self, msg: &Message) -> Result<bool, Refusal> {
-        asked(|yes| raw::strm_has(&self.handle, msg.0, yes))
-    }
-
-    /// The name of the held message whose first block has the number `head`.
-    #[inline]
-    pub fn name_at(&self, head: u32) -> Result<Option<Name>, Refusal> {
-        found(|name| raw::strm_name_at(&self.handle, head, name))
     }
 
     /// The bytes of a block, in place.
@@ -574,12 +479,6 @@ impl Pool {
     #[inline]
     pub fn iov<'pool>(&'pool self, msg: &Message, from: u32, into: &mut [Iov<'pool>]) -> Result<usize, Refusal> {
         stored(|count| raw::iov(&self.handle, msg.0, from, into, count))
-    }
-
-    /// The data block of a block, and where its bytes are.
-    #[inline]
-    pub fn place(&self, msg: &Message, place: u32) -> Result<BlockPlace, Refusal> {
-        stored(|at| raw::strm_place(&self.handle, msg.0, place, at))
     }
 
     /// The room of a block in place, to write there before `advance`.
@@ -612,28 +511,10 @@ impl Pool {
         done(raw::overwrite(&mut self.handle, msg.0, at, bytes))
     }
 
-    /// Makes headroom in a block without bytes.
-    #[inline]
-    pub fn reserve(&mut self, msg: &Message, place: u32, count: u32) -> Result<(), Refusal> {
-        done(raw::strm_reserve(&mut self.handle, msg.0, place, count))
-    }
-
     /// Puts bytes before those of the first block.
     #[inline]
     pub fn prepend(&mut self, msg: &Message, bytes: &[u8]) -> Result<(), Refusal> {
         done(raw::prepend(&mut self.handle, msg.0, bytes))
-    }
-
-    /// Moves the write place of a block past bytes that its data block has.
-    #[inline]
-    pub fn advance(&mut self, msg: &Message, place: u32, count: u32) -> Result<(), Refusal> {
-        done(raw::strm_advance(&mut self.handle, msg.0, place, count))
-    }
-
-    /// Makes `length` bytes of a block's data block, from `at` on, those of the block.
-    #[inline]
-    pub fn shape(&mut self, msg: &Message, place: u32, at: u32, length: u32) -> Result<(), Refusal> {
-        done(raw::strm_shape(&mut self.handle, msg.0, place, at, length))
     }
 
     /// Gives the first blocks their places, types and bands, one shape each: all or none.
@@ -652,30 +533,12 @@ impl Pool {
         handed(tail, result)
     }
 
-    /// Leaves only the first block in a message, and returns the others.
-    #[inline]
-    pub fn unlinkb(&mut self, msg: &Message) -> Result<Option<Message>, Refusal> {
-        found(|rest| raw::strm_unlinkb(&mut self.handle, msg.0, rest)).map(|rest| rest.map(Message))
-    }
-
     /// Takes a block out of a message. Returns that block and the others.
     #[inline]
     pub fn rmvb(&mut self, msg: Message, place: u32) -> Result<(Message, Option<Message>), Rejected> {
         let mut rest = NO_MSG;
         let block = stored(|block| raw::strm_rmvb(&mut self.handle, msg.0, place, block, &mut rest));
         handed(msg, block.map(|block| (Message(block), some_message(rest))))
-    }
-
-    /// Trims bytes from the head of a message, or if `count` is negative from its tail.
-    #[inline]
-    pub fn adjmsg(&mut self, msg: &Message, count: i32) -> Result<(), Refusal> {
-        done(raw::strm_adjmsg(&mut self.handle, msg.0, count))
-    }
-
-    /// Gathers the first `count` bytes in the first block; -1 means all of one type.
-    #[inline]
-    pub fn pullupmsg(&mut self, msg: &Message, count: i32) -> Result<(), Refusal> {
-        done(raw::strm_pullupmsg(&mut self.handle, msg.0, count))
     }
 
     /// Makes the message anew in another pool, and frees it here.
@@ -716,70 +579,10 @@ impl Pool {
         handed(msg, result)
     }
 
-    /// Takes the first message off a queue.
-    #[inline]
-    pub fn getq(&mut self, queue: u32) -> Result<Option<Message>, Refusal> {
-        found(|name| raw::strm_getq(&mut self.handle, queue, name)).map(|name| name.map(Message))
-    }
-
-    /// Takes the message at a place off a queue.
-    #[inline]
-    pub fn rmvq(&mut self, queue: u32, place: u32) -> Result<Message, Refusal> {
-        stored(|name| raw::strm_rmvq(&mut self.handle, queue, place, name)).map(Message)
-    }
-
-    /// Takes the message whose first block is `head` off its queue.
-    #[inline]
-    pub fn rmvq_msg(&mut self, head: u32) -> Result<Message, Refusal> {
-        stored(|name| raw::strm_rmvq_msg(&mut self.handle, head, name)).map(Message)
-    }
-
-    /// Counts the messages on a queue.
-    #[inline]
-    pub fn qsize(&self, queue: u32) -> Result<u32, Refusal> {
-        stored(|msgs| raw::strm_qsize(&self.handle, queue, msgs))
-    }
-
-    /// What the message at a place of a queue is like.
-    #[inline]
-    pub fn queued_at(&self, queue: u32, place: u32) -> Result<Queued, Refusal> {
-        stored(|queued| raw::strm_queued_at(&self.handle, queue, place, queued))
-    }
-
     /// Copies bytes of the message at a place of a queue. Returns their number.
     #[inline]
     pub fn read_queued(&self, queue: u32, place: u32, at: u32, into: &mut [u8]) -> Result<usize, Refusal> {
         stored(|count| raw::read_queued(&self.handle, queue, place, at, into, count))
-    }
-
-    /// The number of the first block of the first message on a queue.
-    #[inline]
-    pub fn first_queued(&self, queue: u32) -> Result<Option<u32>, Refusal> {
-        found(|head| raw::strm_first_queued(&self.handle, queue, head))
-    }
-
-    /// The same of the last message.
-    #[inline]
-    pub fn last_queued(&self, queue: u32) -> Result<Option<u32>, Refusal> {
-        found(|head| raw::strm_last_queued(&self.handle, queue, head))
-    }
-
-    /// The same of the message after that whose first block is `head`.
-    #[inline]
-    pub fn queued_after(&self, head: u32) -> Result<Option<u32>, Refusal> {
-        found(|after| raw::strm_queued_after(&self.handle, head, after))
-    }
-
-    /// The same of the message before that whose first block is `head`.
-    #[inline]
-    pub fn queued_before(&self, head: u32) -> Result<Option<u32>, Refusal> {
-        found(|before| raw::strm_queued_before(&self.handle, head, before))
-    }
-
-    /// The queue that has the message whose first block is `head`.
-    #[inline]
-    pub fn queue_of(&self, head: u32) -> Result<u32, Refusal> {
-        stored(|queue| raw::strm_queue_of(&self.handle, head, queue))
     }
 
     /// The bytes of a block of the queued message whose first block is `head`, in place.
@@ -792,18 +595,6 @@ impl Pool {
     #[inline]
     pub fn queued_iov<'pool>(&'pool self, head: u32, from: u32, into: &mut [Iov<'pool>]) -> Result<usize, Refusal> {
         stored(|count| raw::queued_iov(&self.handle, head, from, into, count))
-    }
-
-    /// Frees messages of a queue.
-    #[inline]
-    pub fn flushq(&mut self, queue: u32, flush: Flush) -> Result<(), Refusal> {
-        done(raw::strm_flushq(&mut self.handle, queue, flush as u32))
-    }
-
-    /// Frees messages of a band of a queue.
-    #[inline]
-    pub fn flushband(&mut self, queue: u32, band: u32, flush: Flush) -> Result<(), Refusal> {
-        done(raw::strm_flushband(&mut self.handle, queue, band, flush as u32))
     }
 
     /// Takes up to `count` messages off a queue that `flushq` would free, and appends them. Returns their number.
@@ -833,76 +624,10 @@ impl Pool {
 
 /// Flow control, service and wishes.
 impl Pool {
-    /// Whether a message of a band may be sent to a queue.
-    #[inline]
-    pub fn bcanput(&mut self, queue: u32, band: u32) -> Result<bool, Refusal> {
-        asked(|yes| raw::strm_bcanput(&mut self.handle, queue, band, yes))
-    }
-
     /// Sets the water marks of a band.
     #[inline]
     pub fn strqset(&mut self, queue: u32, band: u32, marks: Marks) -> Result<(), Refusal> {
         done(raw::strm_strqset(&mut self.handle, queue, band, marks.hiwat, marks.lowat))
-    }
-
-    /// The water marks of a band.
-    #[inline]
-    pub fn strqget(&self, queue: u32, band: u32) -> Result<Marks, Refusal> {
-        stored(|marks| raw::strm_strqget(&self.handle, queue, band, marks))
-    }
-
-    /// Enables a queue, even if enabling is off.
-    #[inline]
-    pub fn qenable(&mut self, queue: u32) -> Result<(), Refusal> {
-        done(raw::strm_qenable(&mut self.handle, queue))
-    }
-
-    /// Switches enabling off.
-    #[inline]
-    pub fn noenable(&mut self, queue: u32) -> Result<(), Refusal> {
-        done(raw::strm_noenable(&mut self.handle, queue))
-    }
-
-    /// Switches enabling on.
-    #[inline]
-    pub fn enableok(&mut self, queue: u32) -> Result<(), Refusal> {
-        done(raw::strm_enableok(&mut self.handle, queue))
-    }
-
-    /// Takes the first queue off the run list.
-    #[inline]
-    pub fn next_service(&mut self) -> Result<Option<u32>, Refusal> {
-        found(|queue| raw::strm_next_service(&mut self.handle, queue))
-    }
-
-    /// The queue at a place of the run list.
-    #[inline]
-    pub fn run_at(&self, place: u32) -> Result<Option<u32>, Refusal> {
-        found(|queue| raw::strm_run_at(&self.handle, place, queue))
-    }
-
-    /// Records a wish for a message of `size` bytes. Returns its id.
-    #[inline]
-    pub fn bufcall(&mut self, size: u32) -> Result<u32, Refusal> {
-        stored(|id| raw::strm_bufcall(&mut self.handle, size, id))
-    }
-
-    /// Withdraws a wish.
-    #[inline]
-    pub fn unbufcall(&mut self, id: u32) -> Result<(), Refusal> {
-        done(raw::strm_unbufcall(&mut self.handle, id))
-    }
-
-    /// Removes the oldest wish that can be granted now.
-    #[inline]
-    pub fn take_ready(&mut self) -> Result<Option<Wish>, Refusal> {
-        found(|wish| raw::strm_take_ready(&mut self.handle, wish))
-    }
-
-    /// The wish at a place, the oldest first.
-    #[inline]
-    pub fn wish_at(&self, place: u32) -> Result<Option<Wish>, Refusal> {
-        found(|wish| raw::strm_wish_at(&self.handle, place, wish))
     }
 }
 
@@ -914,36 +639,6 @@ impl Pool {
         let it: raw::QueueSpec = stored(|spec| raw::strm_queue_spec(&self.handle, queue, spec))?;
         let next = (it.next != NO_QUEUE).then_some(it.next);
         Ok(QueueSpec { hiwat: it.hiwat, lowat: it.lowat, service: it.service == 1, next })
-    }
-
-    /// Counts the message blocks: free, on queues, and held.
-    #[inline]
-    pub fn census(&self) -> Result<Census, Refusal> {
-        stored(|census| raw::strm_census(&self.handle, census))
-    }
-
-    /// The size class at a place.
-    #[inline]
-    pub fn class_info(&self, place: u32) -> Result<Option<ClassInfo>, Refusal> {
-        found(|info| raw::strm_class_info(&self.handle, place, info))
-    }
-
-    /// The fewest message blocks that were free.
-    #[inline]
-    pub fn least_free_blocks(&self) -> Result<u32, Refusal> {
-        stored(|fewest| raw::strm_least_free_blocks(&self.handle, fewest))
-    }
-
-    /// The same of the data blocks of the size class at a place.
-    #[inline]
-    pub fn least_free(&self, place: u32) -> Result<Option<u32>, Refusal> {
-        found(|fewest| raw::strm_least_free(&self.handle, place, fewest))
-    }
-
-    /// Makes those that are free now the fewest.
-    #[inline]
-    pub fn reset_least(&mut self) -> Result<(), Refusal> {
-        done(raw::strm_reset_least(&mut self.handle))
     }
 
     /// The state of a queue.

@@ -1,7 +1,8 @@
-//! The calls of strm.h and strm_mt.h, and all unsafe code of the crate. Tested, not proved.
+//! The calls of strm.h and strm_mt.h, the methods that only pass on their arguments, and all unsafe code of the crate. Tested, not proved.
 //!
-//! A `safe fn` below keeps each promise of strm.h by its types: a reference leads to one object, which nothing else writes during the call; a look
-//! takes `&Handle`, and any other call `&mut Handle`. Only `open` and `Pool::from_handle` make a handle that is not closed, and no handle is copied.
+//! A `safe fn` or a row of `calls!` below keeps each promise of strm.h by its types: a reference leads to one object, which nothing else writes
+//! during the call; a look takes `&Handle`, and any other call `&mut Handle`. Only `open` and `Pool::from_handle` make a handle that is not
+//! closed, and no handle is copied.
 
 use alloc::{string::String, vec};
 use core::ffi::{c_char, c_int, c_void, CStr};
@@ -9,7 +10,8 @@ use core::marker::PhantomData;
 use core::ops::Deref;
 use core::slice;
 
-use crate::{BlockInfo, BlockPlace, BlockShape, Census, ClassInfo, ClassSpec, Config, Marks, Message, Name, Pool, Queued, Refusal, Wish};
+use crate::{done, found, stored, BlockInfo, BlockPlace, BlockShape, Census, ClassInfo, ClassSpec, Config, Flush, Marks, Message, MsgType};
+use crate::{Name, Pool, Queued, Refusal, Wish};
 
 /// A pool's handle, as `struct strm_pool` of strm.h.
 #[derive(Debug)]
@@ -118,96 +120,349 @@ unsafe extern "C" {
     fn strm_memory(config: &RawConfig, bytes: &mut usize) -> c_int;
     pub(crate) safe fn strm_close(pool: &mut Handle) -> c_int;
     pub(crate) safe fn strm_is_open(pool: &Handle) -> c_int;
-    pub(crate) safe fn strm_allocb(pool: &mut Handle, size: u32, msg: &mut Name) -> c_int;
-    pub(crate) safe fn strm_testb(pool: &Handle, size: u32, yes: &mut u32) -> c_int;
-    pub(crate) safe fn strm_dupb(pool: &mut Handle, msg: Name, copy: &mut Name) -> c_int;
-    pub(crate) safe fn strm_dupmsg(pool: &mut Handle, msg: Name, copy: &mut Name) -> c_int;
-    pub(crate) safe fn strm_copyb(pool: &mut Handle, msg: Name, copy: &mut Name) -> c_int;
-    pub(crate) safe fn strm_copymsg(pool: &mut Handle, msg: Name, copy: &mut Name) -> c_int;
     pub(crate) safe fn strm_freeb(pool: &mut Handle, msg: Name, rest: &mut Name) -> c_int;
     pub(crate) safe fn strm_freemsg(pool: &mut Handle, msg: Name) -> c_int;
     fn strm_write(pool: &mut Handle, msg: Name, place: u32, bytes: *const c_void, length: usize) -> c_int;
     fn strm_read(pool: &Handle, msg: Name, at: u32, into: *mut c_void, length: usize, count: &mut usize) -> c_int;
-    pub(crate) safe fn strm_settype(pool: &mut Handle, msg: Name, place: u32, r#type: u32) -> c_int;
-    pub(crate) safe fn strm_setband(pool: &mut Handle, msg: Name, band: u32) -> c_int;
-    pub(crate) safe fn strm_size(pool: &Handle, msg: Name, bytes: &mut u32) -> c_int;
-    pub(crate) safe fn strm_msgdsize(pool: &Handle, msg: Name, bytes: &mut u32) -> c_int;
-    pub(crate) safe fn strm_message(pool: &Handle, msg: Name, info: &mut Queued) -> c_int;
-    pub(crate) safe fn strm_block(pool: &Handle, msg: Name, place: u32, block: &mut BlockInfo) -> c_int;
     fn strm_blocks(pool: &Handle, msg: Name, from: u32, into: *mut BlockInfo, length: usize, count: &mut usize) -> c_int;
-    pub(crate) safe fn strm_block_number(pool: &Handle, msg: Name, place: u32, number: &mut u32) -> c_int;
-    pub(crate) safe fn strm_has(pool: &Handle, msg: Name, yes: &mut u32) -> c_int;
-    pub(crate) safe fn strm_name_at(pool: &Handle, head: u32, msg: &mut Name) -> c_int;
     fn strm_bytes(pool: &Handle, msg: Name, place: u32, bytes: &mut *const u8, length: &mut usize) -> c_int;
     fn strm_iov(pool: &Handle, msg: Name, from: u32, into: *mut Iov<'_>, length: usize, count: &mut usize) -> c_int;
-    pub(crate) safe fn strm_place(pool: &Handle, msg: Name, place: u32, r#where: &mut BlockPlace) -> c_int;
     fn strm_room(pool: &mut Handle, msg: Name, place: u32, at: &mut *mut u8, length: &mut usize) -> c_int;
     fn strm_edit(pool: &mut Handle, msg: Name, place: u32, at: &mut *mut u8, length: &mut usize) -> c_int;
     fn strm_window(pool: &mut Handle, msg: Name, place: u32, base: &mut *mut u8, capacity: &mut usize) -> c_int;
     fn strm_region(pool: &Handle, place: u32, base: &mut *const u8, size: &mut usize, stride: &mut usize) -> c_int;
     fn strm_overwrite(pool: &mut Handle, msg: Name, at: u32, bytes: *const c_void, length: usize) -> c_int;
-    pub(crate) safe fn strm_reserve(pool: &mut Handle, msg: Name, place: u32, count: u32) -> c_int;
     fn strm_prepend(pool: &mut Handle, msg: Name, bytes: *const c_void, length: usize) -> c_int;
-    pub(crate) safe fn strm_advance(pool: &mut Handle, msg: Name, place: u32, count: u32) -> c_int;
-    pub(crate) safe fn strm_shape(pool: &mut Handle, msg: Name, place: u32, at: u32, length: u32) -> c_int;
     fn strm_shape_all(pool: &mut Handle, msg: Name, shapes: *const BlockShape, length: usize) -> c_int;
     pub(crate) safe fn strm_same_msg(a: Name, b: Name) -> c_int;
     pub(crate) safe fn strm_is_no_msg(msg: Name) -> c_int;
     pub(crate) safe fn strm_linkb(pool: &mut Handle, msg: Name, tail: Name) -> c_int;
-    pub(crate) safe fn strm_unlinkb(pool: &mut Handle, msg: Name, rest: &mut Name) -> c_int;
     pub(crate) safe fn strm_rmvb(pool: &mut Handle, msg: Name, place: u32, block: &mut Name, rest: &mut Name) -> c_int;
-    pub(crate) safe fn strm_adjmsg(pool: &mut Handle, msg: Name, count: i32) -> c_int;
-    pub(crate) safe fn strm_pullupmsg(pool: &mut Handle, msg: Name, count: i32) -> c_int;
     pub(crate) safe fn strm_transfer(pool: &mut Handle, other: &mut Handle, msg: Name, moved: &mut Name) -> c_int;
     pub(crate) safe fn strm_putq(pool: &mut Handle, queue: u32, msg: Name) -> c_int;
     pub(crate) safe fn strm_putbq(pool: &mut Handle, queue: u32, msg: Name) -> c_int;
     pub(crate) safe fn strm_insq(pool: &mut Handle, queue: u32, place: u32, msg: Name) -> c_int;
     pub(crate) safe fn strm_insq_at(pool: &mut Handle, queue: u32, before: u32, msg: Name) -> c_int;
-    pub(crate) safe fn strm_getq(pool: &mut Handle, queue: u32, msg: &mut Name) -> c_int;
-    pub(crate) safe fn strm_rmvq(pool: &mut Handle, queue: u32, place: u32, msg: &mut Name) -> c_int;
-    pub(crate) safe fn strm_rmvq_msg(pool: &mut Handle, head: u32, msg: &mut Name) -> c_int;
-    pub(crate) safe fn strm_qsize(pool: &Handle, queue: u32, msgs: &mut u32) -> c_int;
-    pub(crate) safe fn strm_queued_at(pool: &Handle, queue: u32, place: u32, queued: &mut Queued) -> c_int;
     fn strm_read_queued(pool: &Handle, queue: u32, place: u32, at: u32, into: *mut c_void, length: usize, count: &mut usize) -> c_int;
-    pub(crate) safe fn strm_first_queued(pool: &Handle, queue: u32, head: &mut u32) -> c_int;
-    pub(crate) safe fn strm_last_queued(pool: &Handle, queue: u32, head: &mut u32) -> c_int;
-    pub(crate) safe fn strm_queued_after(pool: &Handle, head: u32, after: &mut u32) -> c_int;
-    pub(crate) safe fn strm_queued_before(pool: &Handle, head: u32, before: &mut u32) -> c_int;
-    pub(crate) safe fn strm_queue_of(pool: &Handle, head: u32, queue: &mut u32) -> c_int;
     fn strm_queued_bytes(pool: &Handle, head: u32, place: u32, bytes: &mut *const u8, length: &mut usize) -> c_int;
     fn strm_queued_iov(pool: &Handle, head: u32, from: u32, into: *mut Iov<'_>, length: usize, count: &mut usize) -> c_int;
-    pub(crate) safe fn strm_flushq(pool: &mut Handle, queue: u32, flush: u32) -> c_int;
-    pub(crate) safe fn strm_flushband(pool: &mut Handle, queue: u32, band: u32, flush: u32) -> c_int;
     fn strm_takeq(pool: &mut Handle, queue: u32, flush: u32, msgs: *mut Message, length: usize, count: &mut usize) -> c_int;
     fn strm_takeq_band(pool: &mut Handle, queue: u32, band: u32, flush: u32, msgs: *mut Message, length: usize, count: &mut usize) -> c_int;
     fn strm_allocb_n(pool: &mut Handle, size: u32, msgs: *mut Message, length: usize, count: &mut usize) -> c_int;
     fn strm_freemsg_n(pool: &mut Handle, msgs: *const Message, length: usize, count: &mut usize) -> c_int;
     fn strm_putq_n(pool: &mut Handle, queue: u32, msgs: *const Message, length: usize, count: &mut usize) -> c_int;
     fn strm_getq_n(pool: &mut Handle, queue: u32, msgs: *mut Message, length: usize, count: &mut usize) -> c_int;
-    pub(crate) safe fn strm_bcanput(pool: &mut Handle, queue: u32, band: u32, yes: &mut u32) -> c_int;
     pub(crate) safe fn strm_strqset(pool: &mut Handle, queue: u32, band: u32, hiwat: u32, lowat: u32) -> c_int;
-    pub(crate) safe fn strm_strqget(pool: &Handle, queue: u32, band: u32, marks: &mut Marks) -> c_int;
-    pub(crate) safe fn strm_qenable(pool: &mut Handle, queue: u32) -> c_int;
-    pub(crate) safe fn strm_noenable(pool: &mut Handle, queue: u32) -> c_int;
-    pub(crate) safe fn strm_enableok(pool: &mut Handle, queue: u32) -> c_int;
-    pub(crate) safe fn strm_next_service(pool: &mut Handle, queue: &mut u32) -> c_int;
-    pub(crate) safe fn strm_run_at(pool: &Handle, place: u32, queue: &mut u32) -> c_int;
-    pub(crate) safe fn strm_bufcall(pool: &mut Handle, size: u32, id: &mut u32) -> c_int;
-    pub(crate) safe fn strm_unbufcall(pool: &mut Handle, id: u32) -> c_int;
-    pub(crate) safe fn strm_take_ready(pool: &mut Handle, wish: &mut Wish) -> c_int;
-    pub(crate) safe fn strm_wish_at(pool: &Handle, place: u32, wish: &mut Wish) -> c_int;
     pub(crate) safe fn strm_queue_spec(pool: &Handle, queue: u32, spec: &mut QueueSpec) -> c_int;
-    pub(crate) safe fn strm_census(pool: &Handle, census: &mut Census) -> c_int;
-    pub(crate) safe fn strm_class_info(pool: &Handle, place: u32, info: &mut ClassInfo) -> c_int;
-    pub(crate) safe fn strm_least_free_blocks(pool: &Handle, fewest: &mut u32) -> c_int;
-    pub(crate) safe fn strm_least_free(pool: &Handle, place: u32, fewest: &mut u32) -> c_int;
-    pub(crate) safe fn strm_reset_least(pool: &mut Handle) -> c_int;
     pub(crate) safe fn strm_queue_info(pool: &Handle, queue: u32, info: &mut QueueInfo) -> c_int;
     pub(crate) safe fn strm_band_info(pool: &Handle, queue: u32, band: u32, info: &mut BandInfo) -> c_int;
     fn strm_report(pool: &Handle, text: *mut c_char, length: usize) -> usize;
     safe fn strm_error(code: c_int) -> *const c_char;
     fn strm_name(code: c_int, text: *mut c_char, length: usize) -> usize;
     fn strm_version(text: *mut c_char, length: usize) -> usize;
+}
+
+/// A type of a method's parameter, with that of strm.h.
+trait Argument {
+    type InC;
+    fn in_c(self) -> Self::InC;
+}
+
+/// A type that a method returns, with that which strm.h stores.
+trait Answer: Sized {
+    type InC: Default;
+    fn of(stored: Self::InC) -> Self;
+
+    /// What a call stores. `STRM_NONE` is `None`.
+    #[inline]
+    fn made(call: impl FnOnce(&mut Self::InC) -> c_int) -> Result<Self, Refusal> {
+        stored(call).map(Self::of)
+    }
+}
+
+impl<T: Answer> Answer for Option<T> {
+    type InC = T::InC;
+
+    #[inline]
+    fn of(stored: T::InC) -> Self {
+        Some(T::of(stored))
+    }
+
+    #[inline]
+    fn made(call: impl FnOnce(&mut T::InC) -> c_int) -> Result<Self, Refusal> {
+        found(call).map(|it| it.map(T::of))
+    }
+}
+
+macro_rules! types {
+    (arguments: $($kind:ty as $in_c:ty = $of:expr;)*) => {
+        $(impl Argument for $kind {
+            type InC = $in_c;
+
+            #[inline]
+            fn in_c(self) -> $in_c {
+                let in_c: fn($kind) -> $in_c = $of;
+                in_c(self)
+            }
+        })*
+    };
+    (answers: $($kind:ty as $in_c:ty = $of:expr;)*) => {
+        $(impl Answer for $kind {
+            type InC = $in_c;
+
+            #[inline]
+            fn of(stored: $in_c) -> $kind {
+                let of: fn($in_c) -> $kind = $of;
+                of(stored)
+            }
+        })*
+    };
+    (numbers: $($kind:ty)*) => {
+        types! { answers: $($kind as $kind = |stored| stored;)* }
+    };
+}
+
+types! { arguments:
+    u32 as u32 = |it| it;
+    i32 as i32 = |it| it;
+    MsgType as u32 = |it| it.0;
+    Flush as u32 = |it| it as u32;
+    &Message as Name = |it| it.0;
+}
+
+types! { answers:
+    bool as u32 = |yes| yes == 1;
+    Message as Name = Message;
+}
+
+types! { numbers: u32 Name Queued BlockInfo BlockPlace Marks Census ClassInfo Wish }
+
+/// Declares calls of strm.h, and makes the methods that pass their arguments on to them. A row begins with `look` if its call takes the handle to
+/// read it, and otherwise with `call`. It ends with what the call stores.
+macro_rules! calls {
+    ($($(#[$section:meta])* impl Pool { $(
+        $(#[$doc:meta])* $kind:ident $name:ident($($of:ident: $type:ty),*) $(-> $stored:ident: $answer:ty)?;
+    )* })*) => {
+        mod strm {
+            use super::*;
+
+            // SAFETY: these are the declarations of strm.h.
+            unsafe extern "C" {
+                $($(
+                    #[link_name = concat!("strm_", stringify!($name))]
+                    pub(super) safe fn $name(
+                        pool: handle!($kind) $(, $of: <$type as Argument>::InC)* $(, $stored: &mut <$answer as Answer>::InC)?
+                    ) -> c_int;
+                )*)*
+            }
+        }
+
+        $(
+            $(#[$section])*
+            impl Pool {
+                $(method! { $(#[$doc])* $kind $name($($of: $type),*) $($answer)? })*
+            }
+        )*
+    };
+}
+
+macro_rules! handle {
+    (look) => { &Handle };
+    (call) => { &mut Handle };
+}
+
+macro_rules! method {
+    ($(#[$doc:meta])* look $name:ident($($of:ident: $type:ty),*) $answer:ty) => {
+        $(#[$doc])*
+        #[inline]
+        pub fn $name(&self $(, $of: $type)*) -> Result<$answer, Refusal> {
+            Answer::made(|stored| strm::$name(&self.handle $(, $of.in_c())*, stored))
+        }
+    };
+    ($(#[$doc:meta])* call $name:ident($($of:ident: $type:ty),*) $answer:ty) => {
+        $(#[$doc])*
+        #[inline]
+        pub fn $name(&mut self $(, $of: $type)*) -> Result<$answer, Refusal> {
+            Answer::made(|stored| strm::$name(&mut self.handle $(, $of.in_c())*, stored))
+        }
+    };
+    ($(#[$doc:meta])* call $name:ident($($of:ident: $type:ty),*)) => {
+        $(#[$doc])*
+        #[inline]
+        pub fn $name(&mut self $(, $of: $type)*) -> Result<(), Refusal> {
+            done(strm::$name(&mut self.handle $(, $of.in_c())*))
+        }
+    };
+}
+
+calls! {
+    /// Messages, made and freed.
+    impl Pool {
+        /// Allocates a message of one block with a data block of `size` bytes or more.
+        call allocb(size: u32) -> msg: Message;
+
+        /// Whether `allocb` of this size would succeed now.
+        look testb(size: u32) -> yes: bool;
+
+        /// Duplicates the first block.
+        call dupb(msg: &Message) -> copy: Message;
+
+        /// Duplicates all blocks.
+        call dupmsg(msg: &Message) -> copy: Message;
+
+        /// Copies the first block.
+        call copyb(msg: &Message) -> copy: Message;
+
+        /// Copies all blocks.
+        call copymsg(msg: &Message) -> copy: Message;
+    }
+
+    /// Bytes and fields of a message.
+    impl Pool {
+        /// Sets the type of a block.
+        call settype(msg: &Message, place: u32, r#type: MsgType);
+
+        /// Sets the band of a message.
+        call setband(msg: &Message, band: u32);
+
+        /// Counts the bytes of a message.
+        look size(msg: &Message) -> bytes: u32;
+
+        /// Counts the bytes in blocks of type `DATA`.
+        look msgdsize(msg: &Message) -> bytes: u32;
+
+        /// What a message is like.
+        look message(msg: &Message) -> info: Queued;
+
+        /// The fields of a block.
+        look block(msg: &Message, place: u32) -> block: BlockInfo;
+
+        /// The number of a block, among all message blocks of the pool.
+        look block_number(msg: &Message, place: u32) -> number: u32;
+
+        /// Whether the pool has the message.
+        look has(msg: &Message) -> yes: bool;
+
+        /// The name of the held message whose first block has the number `head`.
+        look name_at(head: u32) -> msg: Option<Name>;
+
+        /// The data block of a block, and where its bytes are.
+        look place(msg: &Message, place: u32) -> r#where: BlockPlace;
+
+        /// Makes headroom in a block without bytes.
+        call reserve(msg: &Message, place: u32, count: u32);
+
+        /// Moves the write place of a block past bytes that its data block has.
+        call advance(msg: &Message, place: u32, count: u32);
+
+        /// Makes `length` bytes of a block's data block, from `at` on, those of the block.
+        call shape(msg: &Message, place: u32, at: u32, length: u32);
+    }
+
+    /// Messages joined, parted and trimmed.
+    impl Pool {
+        /// Leaves only the first block in a message, and returns the others.
+        call unlinkb(msg: &Message) -> rest: Option<Message>;
+
+        /// Trims bytes from the head of a message, or if `count` is negative from its tail.
+        call adjmsg(msg: &Message, count: i32);
+
+        /// Gathers the first `count` bytes in the first block; -1 means all of one type.
+        call pullupmsg(msg: &Message, count: i32);
+    }
+
+    /// Queues.
+    impl Pool {
+        /// Takes the first message off a queue.
+        call getq(queue: u32) -> msg: Option<Message>;
+
+        /// Takes the message at a place off a queue.
+        call rmvq(queue: u32, place: u32) -> msg: Message;
+
+        /// Takes the message whose first block is `head` off its queue.
+        call rmvq_msg(head: u32) -> msg: Message;
+
+        /// Counts the messages on a queue.
+        look qsize(queue: u32) -> msgs: u32;
+
+        /// What the message at a place of a queue is like.
+        look queued_at(queue: u32, place: u32) -> queued: Queued;
+
+        /// The number of the first block of the first message on a queue.
+        look first_queued(queue: u32) -> head: Option<u32>;
+
+        /// The same of the last message.
+        look last_queued(queue: u32) -> head: Option<u32>;
+
+        /// The same of the message after that whose first block is `head`.
+        look queued_after(head: u32) -> after: Option<u32>;
+
+        /// The same of the message before that whose first block is `head`.
+        look queued_before(head: u32) -> before: Option<u32>;
+
+        /// The queue that has the message whose first block is `head`.
+        look queue_of(head: u32) -> queue: u32;
+
+        /// Frees messages of a queue.
+        call flushq(queue: u32, flush: Flush);
+
+        /// Frees messages of a band of a queue.
+        call flushband(queue: u32, band: u32, flush: Flush);
+    }
+
+    /// Flow control, service and wishes.
+    impl Pool {
+        /// Whether a message of a band may be sent to a queue.
+        call bcanput(queue: u32, band: u32) -> yes: bool;
+
+        /// The water marks of a band.
+        look strqget(queue: u32, band: u32) -> marks: Marks;
+
+        /// Enables a queue, even if enabling is off.
+        call qenable(queue: u32);
+
+        /// Switches enabling off.
+        call noenable(queue: u32);
+
+        /// Switches enabling on.
+        call enableok(queue: u32);
+
+        /// Takes the first queue off the run list.
+        call next_service() -> queue: Option<u32>;
+
+        /// The queue at a place of the run list.
+        look run_at(place: u32) -> queue: Option<u32>;
+
+        /// Records a wish for a message of `size` bytes. Returns its id.
+        call bufcall(size: u32) -> id: u32;
+
+        /// Withdraws a wish.
+        call unbufcall(id: u32);
+
+        /// Removes the oldest wish that can be granted now.
+        call take_ready() -> wish: Option<Wish>;
+
+        /// The wish at a place, the oldest first.
+        look wish_at(place: u32) -> wish: Option<Wish>;
+    }
+
+    /// What there is.
+    impl Pool {
+        /// Counts the message blocks: free, on queues, and held.
+        look census() -> census: Census;
+
+        /// The size class at a place.
+        look class_info(place: u32) -> info: Option<ClassInfo>;
+
+        /// The fewest message blocks that were free.
+        look least_free_blocks() -> fewest: u32;
+
+        /// The same of the data blocks of the size class at a place.
+        look least_free(place: u32) -> fewest: Option<u32>;
+
+        /// Makes those that are free now the fewest.
+        call reset_least();
+    }
 }
 
 /// Has a call read a configuration.
