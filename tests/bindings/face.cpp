@@ -1,11 +1,12 @@
 // Does the drawn calls of tests/c/drawn.c through bindings/cpp/strm.hpp, by the throwing form of a call and by the other in turn. It takes the
-// place of tests/c/face.c.
+// place of tests/c/face.c. A call whose method has its name and takes its numbers needs no case: tests/bindings/run makes these.
 #include "face.h"
 
 #include "strm.hpp"
 
 #include <algorithm>
 #include <cstring>
+#include <type_traits>
 #include <vector>
 
 namespace {
@@ -71,21 +72,32 @@ private:
     }
 };
 
-// A struct of numbers as a reply.
+// The reply for what a method returned. A message goes into its register, unless there is none.
+reply told_of(lent&, const call&, bool yes) { return reply_of(yes ? YES : NO); }
+
+reply told_of(lent& it, const call& call, strm::message msg) {
+    if (!msg)
+        return reply_of(NOTHING);
+    it.put(call.y, std::move(msg));
+    return reply_of(DONE);
+}
+
 template <class Numbers>
-reply told_of(enum kind kind, const Numbers& numbers) {
-    return told_from(kind, &numbers);
+reply told_of(lent&, const call& call, const Numbers& numbers) {
+    return told_from(kind_of(call.verb), &numbers);
 }
 
-reply asked(bool yes) { return reply_of(yes ? YES : NO); }
-
-template <class T, class Told>
-reply optional(const std::optional<T>& found, Told told) {
-    return found ? told(*found) : reply_of(NOTHING);
+template <class T>
+reply told_of(lent& it, const call& call, std::optional<T> found) {
+    return found ? told_of(it, call, std::move(*found)) : reply_of(NOTHING);
 }
 
-reply number(enum kind kind, const std::optional<uint32_t>& found) {
-    return optional(found, [kind](uint32_t number) { return told(kind, number, 0); });
+template <class Call>
+reply made(lent& it, const call& call, Call does) {
+    if constexpr (std::is_void_v<decltype(does())>)
+        return does(), reply_of(DONE);
+    else
+        return told_of(it, call, does());
 }
 
 // The bytes that a look copied into a buffer, which it must not touch behind them.
@@ -179,14 +191,6 @@ reply name_told(lent& it, std::optional<strm_msg> name) {
     return reply_of(NOTHING);
 }
 
-// The register gets a message, unless there is none.
-reply given(lent& it, int reg, strm::message msg) {
-    if (!msg)
-        return reply_of(NOTHING);
-    it.put(reg, std::move(msg));
-    return reply_of(DONE);
-}
-
 // Registers get messages, or hand them over, by one call.
 reply gave_many(lent& it, const call& call, strm::report to) {
     std::array<strm::message, MOST_ITEMS + 1> messages;
@@ -225,106 +229,48 @@ reply took_many(lent& it, const call& call, strm::report to) {
     return told(TOLD_COUNT, static_cast<uint32_t>(count), 0);
 }
 
-// Does a call that needs no valid message.
-reply apply_to_pool(lent& it, const call& call, strm::report to) {
+// Does a call by the case that is made for it, or by one of these.
+reply apply_by(lent& it, lent& other, const call& call, strm::report to) {
+    const strm::bytes octets(reinterpret_cast<const std::byte*>(call.octets), call.length);
     strm::pool& pool = it.pool;
     strm::queue queue = pool.queue(call.queue);
+    strm::message none;
+    strm::message& x = names(call.verb, "xXv") ? it.take(call.x) : none;
 
     switch (call.verb) {
-    case ALLOCB: return given(it, call.y, pool.allocb(call.number, to));
-    case TESTB: return asked(pool.testb(call.number, to));
-    case GETQ: {
-        std::optional<strm::message> msg = queue.get(to);
-        return msg ? given(it, call.y, std::move(*msg)) : reply_of(NOTHING);
-    }
-    case RMVQ: return given(it, call.y, queue.remove(call.place, to));
-    case FLUSHQ: return queue.flushq(call.flush, to), reply_of(DONE);
-    case FLUSHBAND: return queue.flushband(call.band, call.flush, to), reply_of(DONE);
-    case BCANPUT: return asked(queue.bcanput(call.band, to));
-    case STRQSET: return queue.strqset(call.band, call.hiwat, call.lowat, to), reply_of(DONE);
-    case STRQGET: return told_of(TOLD_MARKS, queue.strqget(call.band, to));
-    case QSIZE: return told(TOLD_SIZE, queue.size(to), 0);
-    case QENABLE: return queue.qenable(to), reply_of(DONE);
-    case NOENABLE: return queue.noenable(to), reply_of(DONE);
-    case ENABLEOK: return queue.enableok(to), reply_of(DONE);
-    case SERVICE: return number(TOLD_QUEUE, pool.next_service(to));
-    case BUFCALL: return told(TOLD_ID, pool.bufcall(call.number, to), 0);
-    case UNBUFCALL: return pool.unbufcall(call.number, to), reply_of(DONE);
-    case READY: return optional(pool.take_ready(to), [](strm_wish wish) { return told_of(TOLD_READY, wish); });
-    case CENSUS: return told_of(TOLD_CENSUS, pool.census(to));
-    case HAS: return asked(it.take(call.x).has(to));
-    case RUN_AT: return number(TOLD_QUEUE, pool.run_at(call.place, to));
-    case WISH_AT: return optional(pool.wish_at(call.place, to), [](strm_wish wish) { return told_of(TOLD_READY, wish); });
-    case CLASS_INFO: return optional(pool.class_info(call.place, to), [](strm_class_info info) { return told_of(TOLD_CLASS, info); });
-    case QUEUE_INFO: return told_of(TOLD_STATE, queue.info(to));
-    case BAND_INFO: return told_of(TOLD_BAND, queue.band(call.band, to));
-    case NAME_AT: return name_told(it, pool.name_at(call.number, to));
-    case QUEUED_AT: return told_of(TOLD_QUEUED, queue.queued_at(call.place, to));
-    case READ_QUEUED:
-        return bytes_told(it, [&](strm::buffer into) { return queue.read_queued(call.place, call.number, into, to); });
-    case FIRST_QUEUED: return number(TOLD_HEAD, queue.first_queued(to));
-    case LAST_QUEUED: return number(TOLD_HEAD, queue.last_queued(to));
-    case RMVQ_MSG: return given(it, call.y, pool.rmvq_msg(call.number, to));
-    case LEAST_FREE_BLOCKS: return told(TOLD_SIZE, pool.least_free_blocks(to), 0);
-    case LEAST_FREE: return number(TOLD_SIZE, pool.least_free(call.place, to));
-    case RESET_LEAST: return pool.reset_least(to), reply_of(DONE);
-    case REGION: return region_told(pool, call, to);
-    case QUEUED_AFTER: return number(TOLD_HEAD, pool.queued_after(call.number, to));
-    case QUEUED_BEFORE: return number(TOLD_HEAD, pool.queued_before(call.number, to));
-    case QUEUE_OF: return told(TOLD_QUEUE, pool.queue_of(call.number, to), 0);
-    case QUEUED_BYTES: return block_bytes_told(pool.queued_bytes(call.number, call.place, to));
-    case QUEUED_IOV: return queued_iov_told(pool, call, to);
-    case QUEUE_SPEC: return told_of(TOLD_SPEC, queue.spec(to));
-    case ALLOCB_N: case GETQ_N: case TAKEQ: case TAKEQ_BAND: return gave_many(it, call, to);
-    default: return took_many(it, call, to);
-    }
-}
-
-// Does a call that takes a message.
-reply apply_to_message(lent& it, lent& other, const call& call, strm::report to) {
-    const strm::bytes octets(reinterpret_cast<const std::byte*>(call.octets), call.length);
-    strm::queue queue = it.pool.queue(call.queue);
-    strm::message& x = it.take(call.x);
-
-    switch (call.verb) {
-    case DUPB: return given(it, call.y, x.dupb(to));
-    case DUPMSG: return given(it, call.y, x.dupmsg(to));
-    case COPYB: return given(it, call.y, x.copyb(to));
-    case COPYMSG: return given(it, call.y, x.copymsg(to));
-    case WRITE: return x.write(call.place, octets, to), reply_of(DONE);
-    case SETTYPE: return x.settype(call.place, call.type, to), reply_of(DONE);
-    case SETBAND: return x.setband(call.band, to), reply_of(DONE);
-    case LINKB: return x.linkb(std::move(it.take(call.z)), to), reply_of(DONE);
-    case UNLINKB: return given(it, call.y, x.unlinkb(to));
-    case RMVB: return given(it, call.y, x.rmvb(call.place, to));
-    case ADJMSG: return x.adjmsg(call.count, to), reply_of(DONE);
-    case PULLUPMSG: return x.pullupmsg(call.count, to), reply_of(DONE);
-    case MSGDSIZE: return told(TOLD_SIZE, x.msgdsize(to), 0);
-    case MESSAGE: return told_of(TOLD_QUEUED, x.info(to));
-    case SIZE: return told(TOLD_SIZE, x.size(to), 0);
-    case READ: return bytes_told(it, [&](strm::buffer into) { return x.read(call.place, into, to); });
-    case BLOCK: return told_of(TOLD_BLOCK, x.block(call.place, to));
-    case FREEB: return x.freeb(to), reply_of(DONE);
-    case FREEMSG: return x.freemsg(to), reply_of(DONE);
+#include "cases.h"
+    case GETQ: return told_of(it, call, queue.get(to));
+    case RMVQ: return told_of(it, call, queue.remove(call.place, to));
+    case QSIZE: return told_of(it, call, queue.size(to));
+    case QUEUE_INFO: return told_of(it, call, queue.info(to));
+    case BAND_INFO: return told_of(it, call, queue.band(call.band, to));
+    case QUEUE_SPEC: return told_of(it, call, queue.spec(to));
+    case MESSAGE: return told_of(it, call, x.info(to));
     case PUTQ: return queue.put(std::move(x), to), reply_of(DONE);
     case PUTBQ: return queue.put_back(std::move(x), to), reply_of(DONE);
     case INSQ: return queue.insert(call.place, std::move(x), to), reply_of(DONE);
-    case BLOCKS: return blocks_told(x, call, to);
-    case BYTES: return block_bytes_told(x.bytes(call.place, to));
-    case IOV: return held_iov_told(it, x, call, to);
-    case BLOCK_NUMBER: return told(TOLD_HEAD, x.block_number(call.place, to), 0);
-    case PLACE: return told_of(TOLD_PLACE, x.place(call.place, to));
+    case INSQ_AT: return queue.insq_at(call.number, std::move(x), to), reply_of(DONE);
+    case LINKB: return x.linkb(std::move(it.take(call.z)), to), reply_of(DONE);
+    case TRANSFER: return told_of(other, call, x.transfer(other.pool, to));
+    case WRITE: return x.write(call.place, octets, to), reply_of(DONE);
     case OVERWRITE: return x.overwrite(call.place, octets, to), reply_of(DONE);
-    case RESERVE: return x.reserve(call.place, call.number, to), reply_of(DONE);
     case PREPEND: return x.prepend(octets, to), reply_of(DONE);
-    case ADVANCE: return x.advance(call.place, call.number, to), reply_of(DONE);
+    case SHAPE_ALL: return x.shape_all({ call.shapes, call.items }, to), reply_of(DONE);
     case ROOM: return written_told(x.room(call.place, to), octets);
     case WINDOW: return written_told(x.window(call.place, to), octets);
-    case SHAPE_ALL: return x.shape_all({ call.shapes, call.items }, to), reply_of(DONE);
-    case SHAPE: return x.shape(call.place, call.number, call.lowat, to), reply_of(DONE);
-    case INSQ_AT: return queue.insq_at(call.number, std::move(x), to), reply_of(DONE);
     case EDIT: return written_told(x.edit(call.place, to), octets);
-    default: return given(other, call.y, x.transfer(other.pool, to));
+    case READ: return bytes_told(it, [&](strm::buffer into) { return x.read(call.place, into, to); });
+    case READ_QUEUED:
+        return bytes_told(it, [&](strm::buffer into) { return queue.read_queued(call.place, call.number, into, to); });
+    case BYTES: return block_bytes_told(x.bytes(call.place, to));
+    case QUEUED_BYTES: return block_bytes_told(pool.queued_bytes(call.number, call.place, to));
+    case BLOCKS: return blocks_told(x, call, to);
+    case IOV: return held_iov_told(it, x, call, to);
+    case QUEUED_IOV: return queued_iov_told(pool, call, to);
+    case REGION: return region_told(pool, call, to);
+    case NAME_AT: return name_told(it, pool.name_at(call.number, to));
+    case ALLOCB_N: case GETQ_N: case TAKEQ: case TAKEQ_BAND: return gave_many(it, call, to);
+    default: return took_many(it, call, to);
     }
 }
 
@@ -344,9 +290,7 @@ struct reply face_apply(struct face* face, struct face* other, const struct call
     lent own(*face), another(*other);
     std::error_code code;
     reply reply = reply_of(NOTHING);
-    const auto apply = [&](strm::report to) {
-        return names(call->verb, "xX") ? apply_to_message(own, another, *call, to) : apply_to_pool(own, *call, to);
-    };
+    const auto apply = [&](strm::report to) { return apply_by(own, another, *call, to); };
 
     if (calls++ % 2 == 0) {
         reply = apply(code);

@@ -1,7 +1,9 @@
-//! Does the drawn calls of tests/c/drawn.c through the crate of bindings/rust. It takes the place of tests/c/face.c.
+//! Does the drawn calls of tests/c/drawn.c through the crate of bindings/rust. It takes the place of tests/c/face.c. A call whose method takes its
+//! numbers needs no arm: tests/bindings/run makes these.
 use std::ffi::{c_char, c_int, c_uint, CStr};
 
-use strm::{BlockInfo, BlockShape, Flush, Handle, Iov, Marks, Message, MsgType, Name, Pool, Refusal, Rejected};
+use strm::{BandInfo, BlockInfo, BlockPlace, BlockShape, Census, ClassInfo, Flush, Handle, Iov, Marks, Message, MsgType, Name, Pool, Queued};
+use strm::{QueueInfo, Refusal, Rejected, Wish};
 
 const REGISTERS: usize = 26;
 const MOST_OCTETS: usize = 64;
@@ -14,24 +16,11 @@ const YES: u32 = 1;
 const NO: u32 = 2;
 const NOTHING: u32 = 3;
 const EMPTY: u32 = 4;
-const TOLD_SIZE: u32 = 6;
 const TOLD_BYTES: u32 = 7;
-const TOLD_BLOCK: u32 = 8;
-const TOLD_ID: u32 = 9;
-const TOLD_READY: u32 = 10;
-const TOLD_QUEUE: u32 = 11;
-const TOLD_MARKS: u32 = 12;
-const TOLD_CENSUS: u32 = 13;
 const TOLD_BLOCKS: u32 = 14;
 const TOLD_NAME: u32 = 15;
 const TOLD_IOV: u32 = 16;
-const TOLD_PLACE: u32 = 17;
-const TOLD_QUEUED: u32 = 18;
-const TOLD_HEAD: u32 = 19;
 const TOLD_SPEC: u32 = 20;
-const TOLD_CLASS: u32 = 21;
-const TOLD_STATE: u32 = 22;
-const TOLD_BAND: u32 = 23;
 const TOLD_COUNT: u32 = 24;
 const REFUSED: u32 = 25;
 
@@ -85,6 +74,7 @@ pub struct Reply {
 
 extern "C" {
     static forms: Form;
+    fn kind_of(verb: c_int) -> u32;
 }
 
 /// Why there is no reply.
@@ -111,12 +101,58 @@ fn done((): ()) -> Reply {
     told(DONE, &[])
 }
 
-fn asked(yes: bool) -> Reply {
-    told(if yes { YES } else { NO }, &[])
+/// What a method returned, as a reply. A message goes into its register.
+trait Returned {
+    fn told(self, face: &mut Face, call: &Call) -> Told;
 }
 
-fn optional<T>(found: Option<T>, told_of: impl FnOnce(T) -> Reply) -> Reply {
-    found.map_or(told(NOTHING, &[]), told_of)
+impl Returned for () {
+    fn told(self, _: &mut Face, _: &Call) -> Told {
+        Ok(done(self))
+    }
+}
+
+impl Returned for bool {
+    fn told(self, _: &mut Face, _: &Call) -> Told {
+        Ok(told(if self { YES } else { NO }, &[]))
+    }
+}
+
+impl Returned for Message {
+    fn told(self, face: &mut Face, call: &Call) -> Told {
+        face.put(call.y, self).map(done)
+    }
+}
+
+impl<T: Returned> Returned for Option<T> {
+    fn told(self, face: &mut Face, call: &Call) -> Told {
+        self.map_or(Ok(told(NOTHING, &[])), |it| it.told(face, call))
+    }
+}
+
+macro_rules! numbers {
+    ($($kind:ty: $it:ident => $($number:expr),+;)*) => {
+        $(impl Returned for $kind {
+            fn told(self, _: &mut Face, call: &Call) -> Told {
+                let $it = self;
+                // SAFETY: it reads a table by a verb.
+                Ok(told(unsafe { kind_of(call.verb as c_int) }, &[$($number),+]))
+            }
+        })*
+    };
+}
+
+numbers! {
+    u32: it => it;
+    Marks: it => it.hiwat, it.lowat;
+    Wish: it => it.id, it.size;
+    Census: it => it.free, it.queued, it.held;
+    ClassInfo: it => it.size, it.free, it.total;
+    BlockInfo: it => it.r#type.0, it.length, it.band, it.room, it.names;
+    BlockPlace: it => it.data, it.at, it.length, it.capacity;
+    Queued: it => it.head, it.r#type.0, it.band, it.bytes, it.blocks;
+    QueueInfo: it => it.msgs, it.bytes, it.read.into(), it.noenable.into(), it.enabled.into();
+    BandInfo: it => it.bytes, it.full.into(), it.wanted.into();
 }
 
 fn must(holds: bool) -> Result<(), Fault> {
@@ -169,13 +205,6 @@ impl Face {
         Ok(())
     }
 
-    fn given(&mut self, reg: c_int, msg: Option<Message>) -> Told {
-        match msg {
-            None => Ok(told(NOTHING, &[])),
-            Some(msg) => self.put(reg, msg).map(done),
-        }
-    }
-
     /// Empties a register whose message was handed over. One that was refused must come back as it was.
     fn spent<T>(&mut self, reg: c_int, result: Result<T, Rejected>) -> Result<T, Fault> {
         match result {
@@ -188,81 +217,6 @@ impl Face {
                 Err(Fault::Refused(why))
             }
         }
-    }
-
-    fn apply_to_pool(&mut self, pool: &mut Pool, word: &str, call: &Call) -> Told {
-        let Call { queue, place, band, number, .. } = *call;
-        let flush = if call.flush == 0 { Flush::All } else { Flush::Data };
-
-        Ok(match word {
-            "allocb" => return self.put(call.y, pool.allocb(number)?).map(done),
-            "testb" => asked(pool.testb(number)?),
-            "getq" => return { let msg = pool.getq(queue)?; self.given(call.y, msg) },
-            "rmvq" => return self.put(call.y, pool.rmvq(queue, place)?).map(done),
-            "flushq" => done(pool.flushq(queue, flush)?),
-            "flushband" => done(pool.flushband(queue, band, flush)?),
-            "bcanput" => asked(pool.bcanput(queue, band)?),
-            "strqset" => done(pool.strqset(queue, band, Marks { hiwat: call.hiwat, lowat: call.lowat })?),
-            "strqget" => { let marks = pool.strqget(queue, band)?; told(TOLD_MARKS, &[marks.hiwat, marks.lowat]) }
-            "qsize" => told(TOLD_SIZE, &[pool.qsize(queue)?]),
-            "qenable" => done(pool.qenable(queue)?),
-            "noenable" => done(pool.noenable(queue)?),
-            "enableok" => done(pool.enableok(queue)?),
-            "next_service" => optional(pool.next_service()?, |queue| told(TOLD_QUEUE, &[queue])),
-            "bufcall" => told(TOLD_ID, &[pool.bufcall(number)?]),
-            "unbufcall" => done(pool.unbufcall(number)?),
-            "take_ready" => optional(pool.take_ready()?, |wish| told(TOLD_READY, &[wish.id, wish.size])),
-            "census" => { let it = pool.census()?; told(TOLD_CENSUS, &[it.free, it.queued, it.held]) }
-            "has" => { let x = pool.adopt(self.registers[call.x as usize]); asked(pool.has(&x)?) }
-            "run_at" => optional(pool.run_at(place)?, |queue| told(TOLD_QUEUE, &[queue])),
-            "wish_at" => optional(pool.wish_at(place)?, |wish| told(TOLD_READY, &[wish.id, wish.size])),
-            "class_info" => optional(pool.class_info(place)?, |it| told(TOLD_CLASS, &[it.size, it.free, it.total])),
-            "queue_info" => {
-                let it = pool.queue_info(queue)?;
-                told(TOLD_STATE, &[it.msgs, it.bytes, it.read.into(), it.noenable.into(), it.enabled.into()])
-            }
-            "band_info" => { let it = pool.band_info(queue, band)?; told(TOLD_BAND, &[it.bytes, it.full.into(), it.wanted.into()]) }
-            "name_at" => match pool.name_at(number)? {
-                None => told(NOTHING, &[]),
-                Some(name) => {
-                    let reg = (0..REGISTERS).find(|reg| self.holds[*reg] != 0 && self.registers[*reg] == name).ok_or(Fault::Broken)?;
-                    told(TOLD_NAME, &[reg as u32])
-                }
-            },
-            "queued_at" => {
-                let it = pool.queued_at(queue, place)?;
-                must(pool.queued(queue).nth(place as usize) == Some(it))?;
-                told(TOLD_QUEUED, &[it.head, it.r#type.0, it.band, it.bytes, it.blocks])
-            }
-            "read_queued" => told_read(|into| pool.read_queued(queue, place, number, into))?,
-            "first_queued" => optional(pool.first_queued(queue)?, |head| told(TOLD_HEAD, &[head])),
-            "last_queued" => optional(pool.last_queued(queue)?, |head| told(TOLD_HEAD, &[head])),
-            "rmvq_msg" => return self.put(call.y, pool.rmvq_msg(number)?).map(done),
-            "least_free_blocks" => told(TOLD_SIZE, &[pool.least_free_blocks()?]),
-            "least_free" => optional(pool.least_free(place)?, |fewest| told(TOLD_SIZE, &[fewest])),
-            "reset_least" => done(pool.reset_least()?),
-            "region" => optional(pool.region(place)?, |(bytes, stride)| {
-                let mut reply = told_bytes(bytes);
-                reply.numbers[1] = stride as u32;
-                reply
-            }),
-            "queued_after" => optional(pool.queued_after(number)?, |head| told(TOLD_HEAD, &[head])),
-            "queued_before" => optional(pool.queued_before(number)?, |head| told(TOLD_HEAD, &[head])),
-            "queue_of" => told(TOLD_QUEUE, &[pool.queue_of(number)?]),
-            "queued_bytes" => told_bytes(pool.queued_bytes(number, place)?),
-            "queued_iov" => {
-                let mut iov = [Iov::default(); MOST_ITEMS];
-                let count = pool.queued_iov(number, place, &mut iov[..call.items as usize])?;
-                told_iov(&iov[..count])
-            }
-            "queue_spec" => {
-                let it = pool.queue_spec(queue)?;
-                told(TOLD_SPEC, &[it.hiwat, it.lowat, it.service.into(), it.next.unwrap_or(u32::MAX)])
-            }
-            "allocb_n" | "getq_n" | "takeq" | "takeq_band" => return self.gave_many(pool, word, call),
-            "freemsg_n" | "putq_n" => return self.took_many(pool, word, call),
-            _ => return Err(Fault::Broken),
-        })
     }
 
     /// Registers get messages, beside one that the vector has before.
@@ -297,33 +251,52 @@ impl Face {
         Ok(told(TOLD_COUNT, &[result? as u32]))
     }
 
-    fn apply_to_message(&mut self, pool: &mut Pool, other: &mut Face, word: &str, call: &Call) -> Told {
-        let Call { queue, place, number, .. } = *call;
+    fn apply(&mut self, pool: &mut Pool, other: &mut Face, word: &str, call: &Call) -> Told {
+        let Call { queue, place, band, number, count, hiwat, lowat, .. } = *call;
+        let (flush, kind) = (if call.flush == 0 { Flush::All } else { Flush::Data }, MsgType(call.r#type));
         let octets = &call.octets[..call.length as usize];
         let x = pool.adopt(self.registers[call.x as usize]);
 
         Ok(match word {
-            "dupb" => return self.put(call.y, pool.dupb(&x)?).map(done),
-            "dupmsg" => return self.put(call.y, pool.dupmsg(&x)?).map(done),
-            "copyb" => return self.put(call.y, pool.copyb(&x)?).map(done),
-            "copymsg" => return self.put(call.y, pool.copymsg(&x)?).map(done),
+            "strqset" => done(pool.strqset(queue, band, Marks { hiwat, lowat })?),
+            "name_at" => match pool.name_at(number)? {
+                None => told(NOTHING, &[]),
+                Some(name) => {
+                    let reg = (0..REGISTERS).find(|reg| self.holds[*reg] != 0 && self.registers[*reg] == name).ok_or(Fault::Broken)?;
+                    told(TOLD_NAME, &[reg as u32])
+                }
+            },
+            "queued_at" => {
+                let it = pool.queued_at(queue, place)?;
+                must(pool.queued(queue).nth(place as usize) == Some(it))?;
+                return it.told(self, call);
+            }
+            "read_queued" => told_read(|into| pool.read_queued(queue, place, number, into))?,
+            "region" => pool.region(place)?.map_or(told(NOTHING, &[]), |(bytes, stride)| {
+                let mut reply = told_bytes(bytes);
+                reply.numbers[1] = stride as u32;
+                reply
+            }),
+            "queued_bytes" => told_bytes(pool.queued_bytes(number, place)?),
+            "queued_iov" => {
+                let mut iov = [Iov::default(); MOST_ITEMS];
+                let count = pool.queued_iov(number, place, &mut iov[..call.items as usize])?;
+                told_iov(&iov[..count])
+            }
+            "queue_spec" => {
+                let it = pool.queue_spec(queue)?;
+                told(TOLD_SPEC, &[it.hiwat, it.lowat, it.service.into(), it.next.unwrap_or(u32::MAX)])
+            }
+            "allocb_n" | "getq_n" | "takeq" | "takeq_band" => return self.gave_many(pool, word, call),
+            "freemsg_n" | "putq_n" => return self.took_many(pool, word, call),
             "write" => done(pool.write(&x, place, octets)?),
-            "settype" => done(pool.settype(&x, place, MsgType(call.r#type))?),
-            "setband" => done(pool.setband(&x, call.band)?),
             "linkb" => { let tail = pool.adopt(self.registers[call.z as usize]); done(self.spent(call.z, pool.linkb(&x, tail))?) }
-            "unlinkb" => return { let rest = pool.unlinkb(&x)?; self.given(call.y, rest) },
             "rmvb" => {
                 let (block, rest) = self.spent(call.x, pool.rmvb(x, place))?;
                 rest.map_or(Ok(()), |rest| self.put(call.x, rest))?;
-                return self.put(call.y, block).map(done);
+                return block.told(self, call);
             }
-            "adjmsg" => done(pool.adjmsg(&x, call.count)?),
-            "pullupmsg" => done(pool.pullupmsg(&x, call.count)?),
-            "msgdsize" => told(TOLD_SIZE, &[pool.msgdsize(&x)?]),
-            "message" => { let it = pool.message(&x)?; told(TOLD_QUEUED, &[it.head, it.r#type.0, it.band, it.bytes, it.blocks]) }
-            "size" => told(TOLD_SIZE, &[pool.size(&x)?]),
             "read" => told_read(|into| pool.read(&x, place, into))?,
-            "block" => told(TOLD_BLOCK, &numbers_of(&pool.block(&x, place)?)),
             "freeb" => { let rest = self.spent(call.x, pool.freeb(x))?; done(rest.map_or(Ok(()), |rest| self.put(call.x, rest))?) }
             "freemsg" => done(self.spent(call.x, pool.freemsg(x))?),
             "putq" => done(self.spent(call.x, pool.putq(queue, x))?),
@@ -337,21 +310,16 @@ impl Face {
                 told(TOLD_BLOCKS, &numbers)
             }
             "bytes" => told_bytes(pool.bytes(&x, place)?),
-            "block_number" => told(TOLD_HEAD, &[pool.block_number(&x, place)?]),
             "iov" => {
                 let mut iov = [Iov::default(); MOST_ITEMS];
                 let count = pool.iov(&x, place, &mut iov[..call.items as usize])?;
                 must(pool.blocks(&x).skip(place as usize).take(count).map(|(_, bytes)| bytes).eq(iov[..count].iter().map(|iov| &**iov)))?;
                 told_iov(&iov[..count])
             }
-            "place" => { let it = pool.place(&x, place)?; told(TOLD_PLACE, &[it.data, it.at, it.length, it.capacity]) }
             "overwrite" => done(pool.overwrite(&x, place, octets)?),
-            "reserve" => done(pool.reserve(&x, place, number)?),
             "prepend" => done(pool.prepend(&x, octets)?),
-            "advance" => done(pool.advance(&x, place, number)?),
             "room" => told_written(pool.room(&x, place)?, octets),
             "window" => told_written(pool.window(&x, place)?, octets),
-            "shape" => done(pool.shape(&x, place, number, call.lowat)?),
             "shape_all" => done(pool.shape_all(&x, &call.shapes[..call.items as usize])?),
             "insq_at" => done(self.spent(call.x, pool.insq_at(queue, (number != u32::MAX).then_some(number), x))?),
             "edit" => told_written(pool.edit(&x, place)?, octets),
@@ -359,9 +327,9 @@ impl Face {
                 let mut into = other.lend();
                 let moved = self.spent(call.x, pool.transfer(&mut into, x));
                 other.pool = into.into_handle();
-                return other.put(call.y, moved?).map(done);
+                return moved?.told(other, call);
             }
-            _ => return Err(Fault::Broken),
+            _ => return include!(env!("ARMS")),
         })
     }
 
@@ -383,12 +351,10 @@ pub unsafe extern "C" fn face_apply(face: *mut Face, other: *mut Face, call: *co
     let face = &mut *face;
     let mut pool = face.lend();
     let told_of = if names.contains('w') {
-        face.apply_to_message(&mut pool, &mut *other, word, call)
-    } else if names.contains(['x', 'X']) {
-        let mut none = Face { pool: Handle { at: std::ptr::null_mut(), state: 0 }, registers: [Name::default(); REGISTERS], holds: [0; REGISTERS], broken: 0 };
-        face.apply_to_message(&mut pool, &mut none, word, call)
+        face.apply(&mut pool, &mut *other, word, call)
     } else {
-        face.apply_to_pool(&mut pool, word, call)
+        let mut none = Face { pool: Handle { at: std::ptr::null_mut(), state: 0 }, registers: [Name::default(); REGISTERS], holds: [0; REGISTERS], broken: 0 };
+        face.apply(&mut pool, &mut none, word, call)
     };
     face.pool = pool.into_handle();
     told_of.unwrap_or_else(|fault| match fault {

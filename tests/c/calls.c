@@ -76,6 +76,17 @@ int gives_address(int verb)
 	return has_argument(verb, "uint8_t *)");
 }
 
+enum kind kind_of(int verb)
+{
+	int kind = TOLD_SIZE;
+
+	if (forms[verb].answers & IS(YES))
+		return YES;
+	while (kind < REFUSED && (forms[verb].answers & IS(kind)) == 0)
+		kind++;
+	return kind < REFUSED ? (enum kind)kind : DONE;
+}
+
 void store_in(struct arguments *a, struct results *results)
 {
 	memset(results, UNTOUCHED, sizeof *results);

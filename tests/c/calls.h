@@ -192,6 +192,8 @@ struct reply {
 	uint8_t octets[MOST_OCTETS];		/* the first bytes */
 };
 
+/* The kind of reply to a call that is done. */
+enum kind kind_of(int verb);
 struct reply reply_of(enum kind kind);
 struct reply refused(int code);
 struct reply told(enum kind kind, uint32_t first, uint32_t second);

@@ -37,22 +37,10 @@ static void given(struct face *face, int reg, const struct strm_msg *name)
 	face->registers[reg] = *name;
 }
 
-/* The kind of reply to a call that is done. */
-static enum kind kind_of(const struct call *call)
-{
-	int kind = TOLD_SIZE;
-
-	if (forms[call->verb].answers & IS(YES))
-		return YES;
-	while (kind < REFUSED && (forms[call->verb].answers & IS(kind)) == 0)
-		kind++;
-	return kind < REFUSED ? (enum kind)kind : DONE;
-}
-
 /* How many bytes a call stored in `out`, whose count it stored too. */
 static size_t stored_in_out(const struct call *call, size_t count)
 {
-	enum kind kind = kind_of(call);
+	enum kind kind = kind_of(call->verb);
 
 	switch (kind) {
 	case YES: return sizeof(uint32_t);
@@ -161,7 +149,7 @@ static struct reply name_told(struct face *face, const struct strm_msg *name)
 static struct reply stored(struct face *face, const struct call *call, size_t count, const struct results *results)
 {
 	const uint32_t *numbers = results->out.numbers;
-	enum kind kind = kind_of(call);
+	enum kind kind = kind_of(call->verb);
 	struct reply reply;
 
 	switch (kind) {
