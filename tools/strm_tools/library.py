@@ -11,12 +11,13 @@ from strm_tools.ends import NAME, say
 from strm_tools.model import Pool, Values
 
 TOP = os.path.dirname(os.path.dirname(os.path.dirname(os.path.realpath(__file__))))
-# The methods that have another name than their word, the words that reply `none`, and the first words of replies that are not the line's.
+# The methods that have another name than their word, the words that reply `none`, and the first words of replies that are neither the line's nor
+# the name of a struct.
 METHODS = {"getq": "get", "rmvq": "remove", "putq": "put", "putbq": "put_back", "insq": "insert", "qsize": "size", "service": "next_service", "ready": "take_ready"}
 GIVE = ("unlinkb", "getq", "service", "ready")
 # How many bytes a line of strm reads at most.
 READ = 64
-REPLIES = {"strqget": "marks", "bufcall": "id", "qsize": "size", "msgdsize": "size"}
+REPLIES = {"bufcall": "id", "qsize": "size", "msgdsize": "size", "ready": "ready"}
 
 
 def binding() -> Any:
@@ -79,7 +80,7 @@ class Library:
 
     def told(self, word: str, result: Any, to: Any) -> str:
         """The reply for what a method returned. A message goes to its register."""
-        first = REPLIES.get(word, word)
+        first = REPLIES.get(word, type(result).__name__.lower() if isinstance(result, tuple) else word)
         if isinstance(result, self.strm.Message):
             self.held[to] = result
             return "ok"
