@@ -1,6 +1,7 @@
 """What scripts and cases share."""
 import os
 import pathlib
+import re
 import sys
 
 TOP = os.path.dirname(os.path.dirname(os.path.dirname(os.path.abspath(__file__))))
@@ -14,3 +15,9 @@ WITH_TOOLS = {**os.environ, "PATH": os.path.join(TOP, "tools") + os.pathsep + os
 def read(*path):
     """A file of the repository, or one at a path from the root."""
     return pathlib.Path(TOP, *path).read_text(encoding="utf-8")
+
+
+def parts(path):
+    """The parts of a source in C or JavaScript, by the name that a line `---- NAME` before each gives."""
+    _, *found = re.split(r"^/[/*] ---- (\w+).*\n", read(path), flags=re.MULTILINE)
+    return {name: f"{text.strip()}\n" for name, text in zip(found[::2], found[1::2])}
