@@ -114,10 +114,9 @@ edits:
 lint:
 	@tests/lint
 
-# Has workers execute random scripts, and checks what they print. The plain model replays it. OPTIONS are those of tests/soak, as --seconds N;
-# by default it takes a minute.
+# Has workers execute random scripts for SECONDS, and checks what they print. The plain model replays it. By default it takes a minute.
 soak: $(BUILT)
-	@tests/soak $(OPTIONS) $(BUILT)
+	@tests/merges --seconds $(or $(SECONDS),60) $(BUILT)
 
 # Has threads wait over strm_mt.h in drawn runs, for SECONDS. By default it takes ten minutes.
 soak-mt: build/libstrm.a
