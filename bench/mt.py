@@ -1,12 +1,14 @@
 #!/usr/bin/env python3
 """Measures how fast messages go from producers to consumers: over strm_mt.h, over a mutex and two condition variables with GLib's GQueue, over
 DPDK's rte_ring with spinning, over a pipe, and over a channel of Go, where Debian's packages are installed. Then it prints what sending and
-receiving costs where nobody waits, and how long messages in four bands wait at a slow consumer, which build/waiting.svg shows.
+receiving costs where nobody waits, and the same by hand; and how long messages in four bands wait at a slow consumer, which build/waiting.svg
+shows.
 
     bench/mt.py [--turns N] LIBRARY
 """
 import argparse
 import os
+import re
 import shlex
 import shutil
 import subprocess
@@ -17,6 +19,8 @@ TOP = os.path.dirname(os.path.dirname(os.path.abspath(__file__)))
 SOURCE = os.path.join(TOP, "bench", "mt", "handover.c")
 COMPILED = ["-std=gnu11", "-O2", "-Wall", "-Wextra", "-pthread"]
 MESSAGES, PACED, PAUSE = 100_000, 2_000, 100_000
+# Turns where nobody waits, and rounds of one.
+TURNS, ROUNDS = 201, 10_000
 # What a peer is called, the -D of handover.c, and the name by which pkg-config finds it.
 PEERS = [("strm_mt.h", "STRM_MT", None), ("GQueue", "GLIB", "glib-2.0"), ("rte_ring", "DPDK", "libdpdk"), ("pipe", "PIPE", None)]
 # Bytes of a message, messages of a burst, producers (and as many consumers).
@@ -60,6 +64,23 @@ def row(program, work, turns):
     return max(fast), min(late)
 
 
+def instructions(program, way):
+    """The instructions of a round where nobody waits, by valgrind."""
+    words = ["valgrind", "--tool=callgrind", "--callgrind-out-file=/dev/null", f"--toggle-collect={way}", program, "uncontended", "1"]
+    ran = subprocess.run(words, capture_output=True, text=True, check=True)
+    return int(re.search(r"Collected : (\d+)", ran.stderr)[1]) / ROUNDS
+
+
+def alone(program):
+    """What each way costs where nobody waits, beside the one by hand."""
+    times = {way: float(ns) for way, ns in (line.split() for line in out_of([program, "uncontended", str(TURNS)]).splitlines())}
+    yield "| Where nobody waits | ns | / by hand | instructions | / by hand |"
+    yield "|---|---|---|---|---|"
+    counts = {way: instructions(program, way) for way in times}
+    for way, ns in times.items():
+        yield f"| {way} | {ns} | {ns / times['by_hand']:.2f} | {counts[way]:.0f} | {counts[way] / counts['by_hand']:.2f} |"
+
+
 def drawn(lines):
     """A picture: for each band, the waiting times of its messages from the shortest to the longest."""
     rows = [[int(number) for number in line.split()] for line in lines]
@@ -86,7 +107,7 @@ def main():
             rows = [row(program, work, options.turns) for program in programs.values()]
             print(f"| {work[0]} | {work[1]} | {work[2]} | " + " | ".join(f"{fast:,.0f} | {late / 1000:.0f}" for fast, late in rows) + " |")
         ours = programs["strm_mt.h"][0]
-        print("\nWhere nobody waits, ns: " + ", ".join(out_of([ours, "uncontended"]).splitlines()))
+        print("", *alone(ours), "", sep="\n")
         lines = out_of([ours, "bands"]).splitlines()
         print("98 % of messages in bands 0 to 3 wait at most, ms: " + ", ".join(f"{int(line.split()[-1]) / 1e6:.0f}" for line in lines))
         os.makedirs(os.path.join(TOP, "build"), exist_ok=True)

@@ -4,8 +4,8 @@
  *
  *     handover SIZE BURST THREADS MESSAGES PAUSE     prints messages a second, and the median and the 99th percentile of a hand-over, in ns.
  *                                                    A producer makes a pause of so many ns before each burst
- *     handover uncontended                           with -DSTRM_MT: prints what sending and receiving costs in one thread, in ns, and the same
- *                                                    by hand, with a lock for each call and with one for both
+ *     handover uncontended TURNS                     with -DSTRM_MT: prints what sending and receiving costs in one thread, in ns, medians of
+ *                                                    turns, and the same by hand: also asking for room, and with one lock for both
  *     handover bands                                 with -DSTRM_MT: prints the waiting times of senders in four bands, in ns
  */
 #define _GNU_SOURCE
@@ -316,7 +316,7 @@ static void hand_over(void)
 
 #ifdef STRM_MT
 
-#define ROUNDS 20000
+#define ROUNDS 10000
 
 static void *wait_idle(void *given)
 {
@@ -332,25 +332,38 @@ static uint64_t used_ns(void)
 	return (uint64_t)at.tv_sec * 1000000000u + (uint64_t)at.tv_nsec;
 }
 
-/* The least processor time of fifty turns, in ns a round. The pool of a thread that is alone needs no atomic steps, so there is another thread. */
-#define TIMED(name, ...) do { \
-	double best = 1e9; \
-	int turn, round; \
-	for (turn = 0; turn < 50; turn++) { \
-		uint64_t began = used_ns(); \
-		for (round = 0; round < ROUNDS; round++) { __VA_ARGS__ } \
-		began = used_ns() - began; \
-		best = (double)began / ROUNDS < best ? (double)began / ROUNDS : best; \
-	} \
-	printf("%s %.1f\n", name, best); \
-} while (0)
+static struct strm_pool *pool;
+static struct strm_msg msg;
+static pthread_mutex_t lock = PTHREAD_MUTEX_INITIALIZER;
 
-static void uncontended(void)
+/* Defines a way to send and receive, as a function that callgrind finds by its name. */
+#define WAY(name, ...) \
+	static __attribute__((noinline)) void name(void) \
+	{ \
+		int round; \
+		for (round = 0; round < ROUNDS; round++) { __VA_ARGS__ } \
+	}
+WAY(by_strm_mt, strm_mt_send(mt, 0, msg, NULL); strm_mt_receive(mt, 0, &msg, NULL);)
+WAY(by_hand, pthread_mutex_lock(&lock); strm_putq(pool, 0, msg); pthread_mutex_unlock(&lock);
+	pthread_mutex_lock(&lock); strm_getq(pool, 0, &msg); pthread_mutex_unlock(&lock);)
+WAY(by_hand_asking, uint32_t yes = 1; struct strm_queued like; pthread_mutex_lock(&lock); strm_message(pool, msg, &like);
+	strm_bcanput(pool, 0, like.band, &yes); if (yes) strm_putq(pool, 0, msg); pthread_mutex_unlock(&lock);
+	pthread_mutex_lock(&lock); strm_getq(pool, 0, &msg); pthread_mutex_unlock(&lock);)
+WAY(by_hand_in_one, pthread_mutex_lock(&lock); strm_putq(pool, 0, msg); strm_getq(pool, 0, &msg); pthread_mutex_unlock(&lock);)
+
+static const struct {
+	void (*rounds)(void);
+	const char *name;
+} ways[] = { { by_strm_mt, "by_strm_mt" }, { by_hand, "by_hand" }, { by_hand_asking, "by_hand_asking" }, { by_hand_in_one, "by_hand_in_one" } };
+#define WAYS (sizeof ways / sizeof *ways)
+
+/* Prints the median time of each way, in ns a round. The pool of a thread that is alone needs no atomic steps, so there is another thread. */
+static void uncontended(int turns)
 {
-	static pthread_mutex_t lock = PTHREAD_MUTEX_INITIALIZER;
-	struct strm_pool *pool;
-	struct strm_msg msg;
+	uint64_t *took[WAYS], began;
 	pthread_t idle;
+	size_t way;
+	int turn;
 
 	size = 64;
 	peer_open(ROOM, 1);
@@ -358,13 +371,18 @@ static void uncontended(void)
 	pool = strm_mt_lock(mt);
 	strm_allocb(pool, 64, &msg);
 	strm_mt_unlock(mt);
-	TIMED("strm_mt", strm_mt_send(mt, 0, msg, NULL); strm_mt_receive(mt, 0, &msg, NULL););
-	TIMED("hand", pthread_mutex_lock(&lock); strm_putq(pool, 0, msg); pthread_mutex_unlock(&lock);
-		pthread_mutex_lock(&lock); strm_getq(pool, 0, &msg); pthread_mutex_unlock(&lock););
-	TIMED("hand_asking", uint32_t yes; struct strm_block_info block; pthread_mutex_lock(&lock); strm_block(pool, msg, 0, &block);
-		strm_bcanput(pool, 0, block.band, &yes); if (yes) strm_putq(pool, 0, msg); pthread_mutex_unlock(&lock);
-		pthread_mutex_lock(&lock); strm_getq(pool, 0, &msg); pthread_mutex_unlock(&lock););
-	TIMED("hand_one_lock", pthread_mutex_lock(&lock); strm_putq(pool, 0, msg); strm_getq(pool, 0, &msg); pthread_mutex_unlock(&lock););
+	for (way = 0; way < WAYS; way++)
+		took[way] = malloc((size_t)turns * sizeof **took);
+	for (turn = 0; turn < turns; turn++)
+		for (way = 0; way < WAYS; way++) {
+			began = used_ns();
+			ways[way].rounds();
+			took[way][turn] = used_ns() - began;
+		}
+	for (way = 0; way < WAYS; way++) {
+		qsort(took[way], (size_t)turns, sizeof **took, rising);
+		printf("%s %.1f\n", ways[way].name, (double)took[way][turns / 2] / ROUNDS);
+	}
 }
 
 #define BANDS 4
@@ -431,8 +449,8 @@ static void bands(void)
 int main(int count, char **words)
 {
 #ifdef STRM_MT
-	if (count == 2 && strcmp(words[1], "uncontended") == 0)
-		return uncontended(), 0;
+	if (count == 3 && strcmp(words[1], "uncontended") == 0)
+		return uncontended(atoi(words[2])), 0;
 	if (count == 2 && strcmp(words[1], "bands") == 0)
 		return bands(), 0;
 #endif

@@ -1,5 +1,5 @@
 /*
- * Makes each call of strm_mt.h with each of its results, in threads that wait for one another: codes, orders, deadlines, bursts, shut queues,
+ * Makes each call of strm_mt.h with each of its results, in threads that wait for one another: the lock, codes, orders, deadlines, bursts, shut queues,
  * descriptors, cancelled threads, signals, forks and system calls. The last line is 'N passed, M failed'. A call may wait for PATIENCE seconds, by
  * default 10. Behind the word `sanitizers` system calls are not counted.
  *
@@ -30,6 +30,7 @@ enum { SEND, RECEIVE, ALLOCATE };
 static const struct timespec now;
 static struct strm_mt *mt;
 static int patience = 10;
+static const char in_time[] = "a call goes on, or comes to wait, in time";
 
 /* ---- calls in other threads */
 
@@ -74,10 +75,10 @@ static int come_to_wait(uint32_t queue, uint32_t wanted)
 	return calls == wanted;
 }
 
-/* Ends the program, since the checks behind this one would wait too. */
-static void fail(void)
+/* Ends the program, since the checks behind this one would fail or wait too. */
+static void fail(const char *what)
 {
-	CHECK(!"a call goes on, or comes to wait, in time");
+	check(0, __FILE__, __LINE__, what);
 	summary();
 	fflush(stdout);
 	_exit(1);
@@ -92,19 +93,26 @@ static struct task *begin(struct task *task)
 	task->code = 1000;
 	CHECK(pthread_create(&task->thread, NULL, run_task, task) == 0);
 	if (!come_to_wait(at, before + 1))
-		fail();
+		fail(in_time);
 	return task;
 }
 
-/* Waits for a task, and returns its code. */
-static int code_of(struct task *task)
+/* Waits for a thread, and returns its result. */
+static void *result_of(pthread_t thread)
 {
 	struct timespec limit;
+	void *result;
 
 	clock_gettime(CLOCK_REALTIME, &limit);
 	limit.tv_sec += patience;
-	if (pthread_timedjoin_np(task->thread, NULL, &limit) != 0)
-		fail();
+	if (pthread_timedjoin_np(thread, &result, &limit) != 0)
+		fail(in_time);
+	return result;
+}
+
+static int code_of(struct task *task)
+{
+	result_of(task->thread);
 	return task->code;
 }
 
@@ -207,6 +215,38 @@ static void close_pool(void)
 }
 
 /* ---- what is checked */
+
+static uint32_t holds;
+
+/* Counts under the lock, for so long that those that wait go to sleep. */
+static void *hold_lock(void *given)
+{
+	uint32_t round, before;
+
+	for (round = 0; round < 10; round++) {
+		strm_mt_lock(mt);
+		before = holds;
+		usleep(500);
+		holds = before + 1;
+		strm_mt_unlock(mt);
+	}
+	return given;
+}
+
+/* One thread at a time has the lock. Each that sleeps until it is free is woken. The other checks need such a lock. */
+static void check_lock(void)
+{
+	pthread_t threads[4];
+	int at;
+
+	holds = 0;
+	for (at = 0; at < 4; at++)
+		CHECK(pthread_create(&threads[at], NULL, hold_lock, NULL) == 0);
+	for (at = 0; at < 4; at++)
+		result_of(threads[at]);
+	if (holds != 40)
+		fail("threads have the lock one at a time");
+}
 
 static void check_codes(void)
 {
@@ -769,7 +809,7 @@ static void check_system_calls(void)
 
 int main(int count, char **words)
 {
-	static void (*const checks[])(void) = { check_codes, check_deadlines, check_receiving, check_sending, check_bursts,
+	static void (*const checks[])(void) = { check_lock, check_codes, check_deadlines, check_receiving, check_sending, check_bursts,
 		check_allocating, check_shutting, check_descriptors, check_cancelling, check_signals, check_readers, check_forks,
 		check_system_calls };
 	size_t at, last = sizeof checks / sizeof *checks;

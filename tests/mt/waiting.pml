@@ -8,8 +8,8 @@
  *   - No post is left when a call returns.
  *   - No message is lost or doubled, and a thread that was cancelled holds none.
  *
- * With -DREADERS the model is that of strm_mt_lock and strm_mt_rdlock instead. -DFAULT=1 or 2, and without -DREADERS 3, plants a fault, for which a
- * claim must fail.
+ * With -DREADERS the model is that of strm_mt_lock and strm_mt_rdlock instead, down to the mutex. -DFAULT=1 to 3, and with -DREADERS 4, plants a
+ * fault, for which a claim must fail.
  */
 #ifndef FAULT
 #define FAULT 0
@@ -152,21 +152,46 @@ init
 
 #define TURNS 2
 
-bool mutex, awaited;
+mtype = { FREE, HELD, SOUGHT };
+
+mtype mutex = FREE;
+bool awaited, changing;
 byte readers, post, looking;
-bool changing;
+byte asleep, woken;		/* the threads that sleep until the mutex is free, and those of them that were woken */
+
+inline take_mutex()
+{
+	atomic { mine = mutex == FREE; mutex = (mine -> HELD : mutex) };
+	do
+	:: mine -> break
+	:: !mine ->
+		atomic { mine = mutex == FREE; mutex = (mine && FAULT == 3 -> HELD : SOUGHT) };
+		if
+		:: mine
+		:: !mine -> atomic { if :: mutex == SOUGHT -> asleep++; sleeps = true :: else fi }
+			if :: sleeps -> atomic { woken > 0 -> woken--; sleeps = false } :: else fi
+		fi
+	od;
+	mine = false
+}
+
+inline free_mutex()
+{
+	atomic { wakes = mutex == SOUGHT; mutex = FREE };
+	atomic { if :: wakes && asleep > 0 && FAULT != 4 -> asleep--; woken++ :: else fi; wakes = false }
+}
 
 proctype Reader()
 {
-	byte turns, left;
-	bool wakes;
+	byte turns;
+	bool mine, sleeps, wakes;
 
 	do
 	:: turns < TURNS ->
 		turns++;
-		atomic { !mutex; mutex = true };
+		take_mutex();
 		readers++;
-		mutex = false;
+		free_mutex();
 		looking++;
 		assert(!changing);
 		looking--;
@@ -179,12 +204,12 @@ proctype Reader()
 proctype Writer()
 {
 	byte turns;
-	bool waits;
+	bool mine, sleeps, wakes, waits;
 
 	do
 	:: turns < TURNS ->
 		turns++;
-		atomic { !mutex; mutex = true };
+		take_mutex();
 		if
 		:: readers != 0 ->
 			atomic { awaited = true; waits = readers != 0 };
@@ -192,10 +217,11 @@ proctype Writer()
 			atomic { awaited = false; assert(post == 0) }
 		:: else
 		fi;
+		assert(!changing);
 		changing = true;
 		assert(looking == 0);
 		changing = false;
-		mutex = false
+		free_mutex()
 	:: turns == TURNS -> break
 	od
 }
