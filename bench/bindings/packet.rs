@@ -31,6 +31,8 @@ fn sees(header: &[u8]) {
     unsafe { ptr::write_volatile(&raw mut seen, header[0].into()) }
 }
 
+// Inlined, so that its result does not go through memory.
+#[inline(always)]
 fn copies(pool: &mut Pool, size: u32) -> Done {
     // SAFETY: main.c only defines them.
     let (from, into) = unsafe { (&bytes[..size as usize], slice::from_raw_parts_mut((&raw mut copied).cast::<u8>(), size as usize)) };
@@ -45,6 +47,7 @@ fn copies(pool: &mut Pool, size: u32) -> Done {
     Ok(count == size as usize)
 }
 
+#[inline(always)]
 fn in_place(pool: &mut Pool, size: u32) -> Done {
     // SAFETY: as in `copies`.
     let from = unsafe { &bytes[..size as usize] };

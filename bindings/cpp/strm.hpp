@@ -162,7 +162,8 @@ struct shared {
     size_t users = 1;
 };
 inline strm_pool* handle_of(shared* at) noexcept { return at != nullptr ? &at->handle : nullptr; }
-inline void leave(shared* at) noexcept { --at->users == 0 ? delete at : void(); }
+[[gnu::cold, gnu::noinline]] inline void destroy(shared* at) noexcept { delete at; }
+inline void leave(shared* at) noexcept { --at->users == 0 ? destroy(at) : void(); }
 
 /* Has a call read a configuration. */
 template <class Call, class... Args> int with_config(const config& from, Call call, Args... args) {
@@ -188,7 +189,8 @@ template <class T, class Call, class... Args> optional<T> found(report to, Call 
 }
 
 /* The bytes that a call finds in place. */
-template <class Byte, class Call, class... Args> span<Byte> in_place(report to, Call call, Args... args) {
+template <class Byte, class Call, class... Args>
+[[gnu::always_inline]] inline span<Byte> in_place(report to, Call call, Args... args) {
     std::conditional_t<std::is_const_v<Byte>, const uint8_t, uint8_t>* first;
     size_t length;
     return to(call(args..., &first, &length)) ? span<Byte>(reinterpret_cast<Byte*>(first), length) : span<Byte>();
