@@ -22,7 +22,8 @@ struct strhead {
 	mblk_t *reply;
 };
 
-#define AT_HEAD() (strm_ddi_at = (struct strm_ddi_place){ "the stream head", 0 })
+static const struct strm_ddi_place at_head = { "the stream head", 0 };
+#define AT_HEAD() (strm_ddi_at = &at_head)
 
 /* ---- the stream head's procedures */
 
@@ -493,14 +494,14 @@ void cmn_err(int level, const char *format, ...)
 
 void mutex_enter(kmutex_t *mutex)
 {
-	if (mutex->file)
-		ddi_misuse("mutex_enter", NULL, "the mutex is held since %s:%d", mutex->file, mutex->line);
-	*mutex = (kmutex_t){ strm_ddi_at.file ? strm_ddi_at.file : "?", strm_ddi_at.line };
+	if (*mutex)
+		ddi_misuse("mutex_enter", NULL, "the mutex is held since %s:%d", (*mutex)->file, (*mutex)->line);
+	*mutex = strm_ddi_at;
 }
 
 void mutex_exit(kmutex_t *mutex)
 {
-	if (!mutex->file)
+	if (!*mutex)
 		ddi_misuse("mutex_exit", NULL, "the mutex is not held");
-	mutex->file = NULL;
+	*mutex = NULL;
 }

@@ -11,8 +11,7 @@
 
 struct pool ddi_pools[MOST_POOLS];
 int ddi_pool_count;
-struct block *ddi_blocks;
-size_t ddi_block_count;
+struct block *ddi_blocks, *ddi_blocks_end;
 
 struct strm_config ddi_config;
 static struct strm_class_spec classes[STRM_MOST_CLASSES];
@@ -70,9 +69,9 @@ int ddi_open(const struct strm_config *given)
 		return -1;
 	memcpy(classes, ddi_config.classes, ddi_config.class_count * sizeof *classes);
 	ddi_config.classes = classes;
-	ddi_block_count = free_count = 0;
+	free_count = 0;
 	most_blocks = (size_t)ddi_config.mblks * MOST_POOLS + QUARANTINE;
-	ddi_blocks = calloc(most_blocks, sizeof *ddi_blocks);
+	ddi_blocks = ddi_blocks_end = calloc(most_blocks, sizeof *ddi_blocks);
 	return ddi_open_pool();
 }
 
@@ -97,8 +96,8 @@ void ddi_close(void)
 static struct block *take_block(void)
 {
 	struct block *b = free_first;
-	if (free_count <= QUARANTINE && ddi_block_count < most_blocks)
-		return &ddi_blocks[ddi_block_count++];
+	if (free_count <= QUARANTINE && ddi_blocks_end < ddi_blocks + most_blocks)
+		return ddi_blocks_end++;
 	free_first = b->next;
 	free_count--;
 	ASAN_UNPOISON_MEMORY_REGION(&b->m, sizeof b->m);
@@ -135,11 +134,11 @@ static struct block *new_block(struct strm_msg name, struct data *d, const struc
 	}
 	b->data = d;
 	b->given = given_of(b);
+	b->pool = &ddi_pools[name.pool - 1];
 	b->name = name;
-	b->where = HELD;
 	b->owner = ddi_frame->as.module;
 	b->event_count = 0;
-	ddi_pool_of(b)->of[name.head] = b;
+	b->pool->of[name.head] = b;
 	ddi_note(b, routine);
 	return b;
 }
@@ -155,7 +154,7 @@ static void end_reference(struct data *d)
 /* A block is freed in the pool. No address is left in it, so a module that follows a pointer there faults. */
 static void end_block(struct block *b)
 {
-	b->where = FREE;
+	b->owner = &ddi_free_block;
 	memset(&b->m, 0xA5, sizeof b->m);
 	ASAN_POISON_MEMORY_REGION(&b->m, sizeof b->m);
 	b->next = NULL;
@@ -166,23 +165,22 @@ static void end_block(struct block *b)
 
 void ddi_free(struct block *b)
 {
-	if (strm_freemsg(&ddi_pool_of(b)->pool, b->name) == STRM_OK)
+	if (strm_freemsg(&b->pool->pool, b->name) == STRM_OK)
 		end_block(b);
 }
 
-struct block *ddi_held(mblk_t *mp, const char *routine)
+/* The block as ddi_held returns it, where that found anything unusual. */
+struct block *ddi_examined(mblk_t *mp, const char *routine)
 {
-	size_t at = (size_t)((uintptr_t)mp - (uintptr_t)ddi_blocks);
 	struct block *b = (struct block *)mp;
 	const struct module_info *own = ddi_frame->as.module;
-	BEGIN_CALL();
-	if (at >= ddi_block_count * sizeof *b || at % sizeof *b != 0)
+	if (b < ddi_blocks || b >= ddi_blocks_end || ((uintptr_t)b - (uintptr_t)ddi_blocks) % sizeof *b != 0)
 		ddi_misuse(routine, NULL, "%p is no message block", (void *)mp);
-	else if (b->where == FREE)
+	else if (b->owner == &ddi_free_block)
 		ddi_misuse(routine, b, "the message block is free");
-	else if (b->where == QUEUED)
+	else if (b->owner == &ddi_queued_block)
 		ddi_misuse(routine, b, "the message is on a queue, of %s %s", ddi_module(b->queue), ddi_side(b->queue));
-	else if (own && b->owner && own != b->owner && own->mi_idnum != b->owner->mi_idnum)
+	else if (own && b->owner && own->mi_idnum != b->owner->mi_idnum)
 		ddi_misuse(routine, b, "the message was passed on, to %s", b->owner->mi_idname);
 	else if (b->m.b_datap != &b->data->d)
 		ddi_misuse(routine, b, "b_datap was changed");
@@ -195,11 +193,6 @@ struct block *ddi_held(mblk_t *mp, const char *routine)
 	return NULL;
 }
 
-static int is_given(const struct block *b)
-{
-	return b->given.read == b->m.b_rptr && b->given.write == b->m.b_wptr && b->given.type == b->data->d.db_type && b->given.band == b->m.b_band;
-}
-
 /* The shape of a block as the pool takes it. A type that strm.h lacks is one there that has no data. */
 static struct strm_block_shape shape_of(const struct block *b)
 {
@@ -208,43 +201,23 @@ static struct strm_block_shape shape_of(const struct block *b)
 		number > 0 ? number - 1 : b->given.type >= QPCTL ? STRM_M_PCSIG : STRM_M_CTL, b->given.band };
 }
 
-/* Whether the pool can take what a module changed of a block. */
-static int is_right(const struct block *b, const char *routine)
+/* Gives the pool what a module changed of a block. Returns 0 if that is misuse. */
+static int give(struct block *b, const char *routine)
 {
 	const mblk_t *mp = &b->m;
+	struct strm_block_shape shape;
 	if (MBLKHEAD(mp) < 0 || MBLKL(mp) < 0 || MBLKTAIL(mp) < 0)
 		ddi_misuse(routine, b, "b_rptr is %td, b_wptr is %td, and the data block has %td bytes", MBLKHEAD(mp), mp->b_wptr - DB_BASE(mp),
 			MBLKSIZE(mp));
 	else if (DB_TYPE(mp) != b->given.type && b->data->references > 1)
 		ddi_misuse(routine, b, "db_type was changed to %s, and %d message blocks refer to the data block", ddi_type_name(DB_TYPE(mp)),
 			b->data->references);
-	else
-		return 1;
-	return 0;
-}
-
-/* Gives the pool what a module changed of the first `count` blocks of a message. Returns 0 if one is misused. */
-static int give(struct block *first, uint32_t count, const char *routine)
-{
-	static struct strm_block_shape shapes[STRM_MOST_MBLKS];
-	struct block *b = first;
-	uint32_t right, changed = 0;
-	first->size = 0;
-	for (right = 0; right < count; right++, b = (struct block *)b->m.b_cont) {
-		if (!is_given(b)) {
-			if (!is_right(b, routine))
-				break;
-			b->given = given_of(b);
-			changed = right + 1;
-		}
-		first->size += (uint32_t)MBLKL(&b->m);
+	else {
+		b->given = given_of(b);
+		shape = shape_of(b);
+		return strm_shape_all(&b->pool->pool, b->name, &shape, 1) == STRM_OK;
 	}
-	b = first;
-	for (uint32_t k = 0; k < changed; k++, b = (struct block *)b->m.b_cont)
-		shapes[k] = shape_of(b);
-	if (changed > 0)
-		strm_shape_all(&ddi_pool_of(first)->pool, first->name, shapes, changed);
-	return right == count;
+	return 0;
 }
 
 /* Moves a block to another pool, with all bytes of its data block. The old data block loses a reference. */
@@ -255,8 +228,8 @@ static void cross(struct block *b, struct pool *pool)
 	struct strm_block_shape whole = shape_of(b);
 	whole.at = 0;
 	whole.length = from->size;
-	strm_shape_all(&ddi_pool_of(b)->pool, b->name, &whole, 1);
-	if (strm_transfer(&ddi_pool_of(b)->pool, &pool->pool, b->name, &b->name) != STRM_OK) {
+	strm_shape_all(&b->pool->pool, b->name, &whole, 1);
+	if (strm_transfer(&b->pool->pool, &pool->pool, b->name, &b->name) != STRM_OK) {
 		fprintf(stderr, "strm_ddi: the pool of the queue has no block left for the message: give str_init more\n");
 		abort();
 	}
@@ -266,56 +239,52 @@ static void cross(struct block *b, struct pool *pool)
 	b->m.b_datap = &b->data->d;
 	b->m.b_rptr = b->data->base + at;
 	b->m.b_wptr = b->m.b_rptr + length;
-	b->given.read = NULL;
+	b->pool = pool;
 	pool->of[b->name.head] = b;
 	end_reference(from);
 }
 
-/*
- * Joins the blocks of a message, as the module has linked them, or takes the first one alone: in a pool, or if that is null, where the first one is.
- * Returns the first block, or null if one is misused, with nothing joined.
- */
-struct block *ddi_join(mblk_t *mp, struct pool *pool, int is_whole, const char *routine)
+/* A held block as ddi_given returns it, if that has anything to change. */
+struct block *ddi_settled(struct block *b, struct pool *pool, const char *routine)
 {
-	struct block *first = ddi_held(mp, routine), *b = first;
-	if (!first)
-		return NULL;
-	if (!pool)
-		pool = ddi_pool_of(first);
-	if (ddi_pool_of(first) != pool)
-		cross(first, pool);
-	first->joined = 1;
-	for (mblk_t *bp = is_whole ? mp->b_cont : NULL; bp && (b = ddi_held(bp, routine)) != NULL; bp = bp->b_cont) {
-		if (ddi_pool_of(b) != pool)
-			cross(b, pool);
-		if (strm_linkb(&pool->pool, first->name, b->name) != STRM_OK) {
-			ddi_misuse(routine, first, "b_cont leads to a block of the message");
-			b = NULL;
-			break;
-		}
-		first->joined++;
-	}
-	if (b && give(first, first->joined, routine))
-		return first;
-	ddi_part(first, routine);
-	return NULL;
+	if (pool && b->pool != pool)
+		cross(b, pool);
+	return give(b, routine) ? b : NULL;
 }
 
-/* Parts them again: each is held by a name of its own. The name of the first one is right. */
-void ddi_part(struct block *b, const char *routine)
+/* Joins a message whose first block is as the module changed it. */
+struct block *ddi_join_rest(struct block *first, const char *routine)
 {
-	struct pool *pool = ddi_pool_of(b);
+	struct block *b;
+	for (mblk_t *bp = first->m.b_cont; bp; bp = bp->b_cont) {
+		b = ddi_given(bp, first->pool, routine);
+		if (b && strm_linkb(&first->pool->pool, first->name, b->name) != STRM_OK) {
+			ddi_misuse(routine, first, "b_cont leads to a block of the message");
+			b = NULL;
+		}
+		if (!b) {
+			ddi_part_all(first, routine);
+			return NULL;
+		}
+		first->joined++;
+		first->size += (uint32_t)MBLKL(bp);
+	}
+	return first;
+}
+
+void ddi_part_all(struct block *first, const char *routine)
+{
 	struct block *next;
 	struct strm_msg rest;
-	for (uint32_t left = b->joined; b; b = next) {
-		next = left-- > 1 && strm_unlinkb(&pool->pool, b->name, &rest) == STRM_OK ? pool->of[rest.head] : NULL;
+	uint32_t left = first->joined;
+	for (struct block *b = first; b; b = next) {
+		next = left-- > 1 && strm_unlinkb(&b->pool->pool, b->name, &rest) == STRM_OK ? b->pool->of[rest.head] : NULL;
 		if (next)
 			next->name = rest;
-		if (b->where == QUEUED && (struct block *)b->m.b_cont != next) {
+		if (b->owner == &ddi_queued_block && (struct block *)b->m.b_cont != next) {
 			ddi_misuse(routine, b, "b_cont was changed while the message was on a queue");
 			b->m.b_cont = (mblk_t *)next;
 		}
-		b->where = HELD;
 		b->owner = ddi_frame->as.module;
 	}
 }
@@ -328,12 +297,12 @@ static struct block *allocate(size_t size, const char *routine)
 	struct block *b = NULL;
 	int code;
 	BEGIN_CALL();
-	code = size > UINT32_MAX ? STRM_TOO_LARGE : strm_allocb(&ddi_pools[0].pool, (uint32_t)size, &name);
+	code = strm_allocb(&ddi_pools[0].pool, (uint32_t)ddi_least(size, UINT32_MAX), &name);
 	if (code == STRM_OK)
 		b = new_block(name, new_data(name, M_DATA), NULL, routine);
 	else
-		ddi_frame->failed = strm_ddi_at;
-	END_CALL(ddi_reply(code), "allocb %t %l", b, (long)size);
+		ddi_failed = (struct failed){ ddi_frame, strm_ddi_at };
+	END_CALL("allocb %s %zu | %s", TO(b), size, ddi_reply(code));
 	return b;
 }
 
@@ -359,9 +328,8 @@ int testb(size_t size, uint_t priority)
 	uint32_t yes = 0;
 	(void)priority;
 	BEGIN_CALL();
-	if (size <= UINT32_MAX)
-		strm_testb(&ddi_pools[0].pool, (uint32_t)size, &yes);
-	END_CALL(yes ? "yes" : "no", "testb %l", (long)size);
+	strm_testb(&ddi_pools[0].pool, (uint32_t)ddi_least(size, UINT32_MAX), &yes);
+	END_CALL("testb %zu | %s", size, yes ? "yes" : "no");
 	return (int)yes;
 }
 
@@ -377,8 +345,8 @@ static mblk_t *release(mblk_t *mp, const char *routine)
 /* Whether another block that is held leads to the same one, as where a module links the rest elsewhere and then frees this block. */
 static int is_led_to_twice(const struct block *b)
 {
-	for (const struct block *other = ddi_blocks; other < ddi_blocks + ddi_block_count; other++)
-		if (other != b && other->where == HELD && other->m.b_cont == b->m.b_cont)
+	for (const struct block *other = ddi_blocks; other < ddi_blocks_end; other++)
+		if (other != b && ddi_is_held(other) && other->m.b_cont == b->m.b_cont)
 			return b->m.b_cont != NULL;
 	return 0;
 }
@@ -388,7 +356,7 @@ void freeb(mblk_t *mp)
 	if (ddi_traced && is_led_to_twice((struct block *)mp))
 		mp->b_cont = NULL;
 	release(mp, "freeb");
-	END_CALL("ok", "freeb %f", mp);
+	END_CALL("freeb %s | ok", FROM(mp));
 }
 
 void freemsg(mblk_t *mp)
@@ -397,23 +365,23 @@ void freemsg(mblk_t *mp)
 	while (rest)
 		rest = release(rest, "freemsg");
 	if (mp)
-		END_CALL("ok", "freemsg %f", mp);
+		END_CALL("freemsg %s | ok", FROM(mp));
 }
 
 /* Makes a message anew by a call of the pool: its first block, or all, which are joined meanwhile. */
-static mblk_t *made_of(mblk_t *mp, int (*make)(struct strm_pool *, struct strm_msg, struct strm_msg *), int is_copy, int all, const char *routine,
-	const char *call)
+static mblk_t *made_of(mblk_t *mp, int (*make)(struct strm_pool *, struct strm_msg, struct strm_msg *), int is_copy, int all, const char *routine)
 {
-	struct block *b = ddi_join(mp, NULL, all, routine), *copy;
+	struct block *b = all ? ddi_join(mp, NULL, routine) : ddi_given(mp, NULL, routine), *copy;
 	mblk_t *first = NULL, **last = &first;
 	struct strm_msg name, rest;
 	struct strm_pool *pool;
 	int code;
 	if (!b)
 		return NULL;
-	pool = &ddi_pool_of(b)->pool;
+	pool = &b->pool->pool;
 	code = make(pool, b->name, &name);
-	ddi_part(b, routine);
+	if (all)
+		ddi_part(b, routine);
 	for (int left = code; left == STRM_OK; name = rest, b = (struct block *)b->m.b_cont) {
 		left = strm_unlinkb(pool, name, &rest);
 		b->data->references += !is_copy;
@@ -424,14 +392,14 @@ static mblk_t *made_of(mblk_t *mp, int (*make)(struct strm_pool *, struct strm_m
 		*last = &copy->m;
 		last = &copy->m.b_cont;
 	}
-	END_CALL(ddi_reply(code), call, mp, first);
+	END_CALL("%s %s %s | %s", routine, FROM(mp), TO(first), ddi_reply(code));
 	return first;
 }
 
 #define MADE(name, is_copy, all) \
 	mblk_t *name(mblk_t *mp) \
 	{ \
-		return made_of(mp, strm_##name, is_copy, all, #name, #name " %f %t"); \
+		return made_of(mp, strm_##name, is_copy, all, #name); \
 	}
 MADE(dupb, 0, 0)
 MADE(dupmsg, 0, 1)
@@ -480,21 +448,21 @@ int adjmsg(mblk_t *mp, ssize_t length)
 		else
 			part->b_rptr += size;
 	}
-	END_CALL(is_done ? "ok" : "refused 8 Short", "adjmsg %f %l", mp, (long)length);
+	END_CALL("adjmsg %s %zd | %s", FROM(mp), length, is_done ? "ok" : "refused 8 Short");
 	return is_done;
 }
 
 /* Pulls up in the pool, which frees the blocks that gave all bytes: the others get their new places. */
 int pullupmsg(mblk_t *mp, ssize_t length)
 {
-	struct block *first = ddi_join(mp, NULL, 1, "pullupmsg"), *b;
+	struct block *first = ddi_join(mp, NULL, "pullupmsg"), *b;
 	struct data *old;
 	size_t size, left, cut;
 	int code;
 	if (!first)
 		return 0;
 	size = (size_t)(length == -1 ? leading(mp) : length);
-	code = length > leading(mp) ? STRM_SHORT : strm_pullupmsg(&ddi_pool_of(first)->pool, first->name, (int32_t)length);
+	code = length > leading(mp) ? STRM_SHORT : strm_pullupmsg(&first->pool->pool, first->name, (int32_t)length);
 	if (code == STRM_OK && size > (size_t)MBLKL(mp)) {
 		old = first->data;
 		left = size - (size_t)MBLKL(mp);
@@ -518,7 +486,7 @@ int pullupmsg(mblk_t *mp, ssize_t length)
 		end_reference(old);
 	}
 	ddi_part(first, "pullupmsg");
-	END_CALL(ddi_reply(code), "pullupmsg %f %l", mp, (long)length);
+	END_CALL("pullupmsg %s %zd | %s", FROM(mp), length, ddi_reply(code));
 	return code == STRM_OK;
 }
 
@@ -543,7 +511,7 @@ void linkb(mblk_t *mp, mblk_t *tail)
 		ddi_misuse("linkb", (struct block *)mp, "the message is linked to itself");
 	else
 		last->b_cont = tail;
-	END_CALL("ok", "linkb %f %f", mp, tail);
+	END_CALL("linkb %s %s | ok", FROM(mp), FROM(tail));
 }
 
 mblk_t *unlinkb(mblk_t *mp)
@@ -553,7 +521,7 @@ mblk_t *unlinkb(mblk_t *mp)
 		return NULL;
 	rest = mp->b_cont;
 	mp->b_cont = NULL;
-	END_CALL(rest ? "ok" : "none", "unlinkb %f %t", mp, rest);
+	END_CALL("unlinkb %s %s | %s", FROM(mp), TO(rest), rest ? "ok" : "none");
 	return rest;
 }
 
@@ -569,7 +537,7 @@ mblk_t *rmvb(mblk_t *mp, mblk_t *bp)
 		return (mblk_t *)-1;
 	*at = bp->b_cont;
 	bp->b_cont = NULL;
-	END_CALL("ok", "rmvb %f %d %t", mp, place, bp);
+	END_CALL("rmvb %s %d %s | ok", FROM(mp), place, TO(bp));
 	return first;
 }
 
@@ -580,6 +548,6 @@ size_t msgdsize(mblk_t *mp)
 		return 0;
 	for (const mblk_t *bp = mp; bp; bp = bp->b_cont)
 		size += bp->b_datap->db_type == M_DATA ? (size_t)MBLKL(bp) : 0;
-	END_CALL("size %l", "msgdsize %f", mp, (long)size);
+	END_CALL("msgdsize %s | size %zu", FROM(mp), size);
 	return size;
 }

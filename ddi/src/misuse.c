@@ -4,8 +4,10 @@
 #include <signal.h>
 #include <stdarg.h>
 
-struct strm_ddi_place strm_ddi_at;
+static const struct strm_ddi_place unknown = { "?", 0 };
+const struct strm_ddi_place *strm_ddi_at = &unknown;
 static int count;
+const struct module_info ddi_free_block, ddi_queued_block;
 
 static const char *name_of(const struct module_info *module)
 {
@@ -24,7 +26,7 @@ const char *ddi_side(const queue_t *q)
 
 static void print_event(struct event event)
 {
-	fprintf(stderr, "    %-10s %s:%d, in %s%s%s\n", event.routine, event.at.file ? event.at.file : "?", event.at.line, name_of(event.by.module),
+	fprintf(stderr, "    %-10s %s:%d, in %s%s%s\n", event.routine, event.at->file, event.at->line, name_of(event.by.module),
 		event.by.procedure[0] ? " " : "", event.by.procedure);
 }
 
@@ -64,8 +66,8 @@ void ddi_misuse(const char *routine, const struct block *b, const char *format, 
 int ddi_census(void)
 {
 	int reported = count;
-	for (const struct block *b = ddi_blocks; b < ddi_blocks + ddi_block_count; b++)
-		if (b->where == HELD) {
+	for (const struct block *b = ddi_blocks; b < ddi_blocks_end; b++)
+		if (ddi_is_held(b)) {
 			count++;
 			fprintf(stderr, "strm_ddi: message block %td is left, %s of %td bytes:\n", b - ddi_blocks,
 				ddi_type_name(b->m.b_datap->db_type), MBLKL(&b->m));

@@ -7,6 +7,7 @@
 const char ddi_service[] = "service";
 static struct frame test = { .as.procedure = "" };
 struct frame *ddi_frame = &test;
+struct failed ddi_failed;
 
 /* ---- queues of a pool */
 
@@ -44,12 +45,13 @@ static inline struct strm_ddi_queue *own_of(queue_t *q)
 		number_queue(q);
 	return q->q_layer;
 }
-#define AT(q) &own_of(q)->pool->pool, own_of(q)->number
+#define AT_OWN(own) &(own)->pool->pool, (own)->number
+#define AT(q) AT_OWN(own_of(q))
 
-static int is_full(queue_t *q, int band)
+/* Whether a band may be full, so that the pool has to be asked. */
+static inline int may_be_full(const queue_t *q, int band)
 {
-	struct strm_band_info info;
-	return q->q_layer->pool && (band > 0 || q->q_count >= q->q_hiwat) && strm_band_info(AT(q), (uint32_t)band, &info) == STRM_OK && info.full;
+	return band > 0 || q->q_count >= q->q_hiwat;
 }
 
 /* Gives up the number of a queue, with what is on it. */
@@ -75,12 +77,12 @@ void ddi_forget(queue_t *q)
 /* ---- procedures */
 
 /* A put procedure, or the function of qwriter, that waits until no procedure of its module, or its pair of queues, runs. */
-static struct later {
+struct later {
 	struct later *next;
 	queue_t *q;
 	mblk_t *mp;
 	void (*writer)(queue_t *, mblk_t *);
-} *later_first;
+} *ddi_later;
 
 static struct { const struct streamtab *tab; int flag; } flags[32];
 
@@ -110,21 +112,14 @@ static int is_inside(const queue_t *q, int is_writer)
 
 static void add_later(queue_t *q, mblk_t *mp, void (*writer)(queue_t *, mblk_t *))
 {
-	struct later **at = &later_first;
+	struct later **at = &ddi_later;
 	while (*at)
 		at = &(*at)->next;
 	*at = malloc(sizeof **at);
 	**at = (struct later){ .q = q, .mp = mp, .writer = writer };
 }
 
-void ddi_enter(struct frame *frame, queue_t *q, const char *procedure)
-{
-	BEGIN_CALL();
-	*frame = (struct frame){ .q = q, .as = { q ? q->q_qinfo->qi_minfo : NULL, procedure }, .before = ddi_frame };
-	ddi_frame = frame;
-}
-
-static void run(queue_t *q, mblk_t *mp, void (*writer)(queue_t *, mblk_t *))
+static inline void run(queue_t *q, mblk_t *mp, void (*writer)(queue_t *, mblk_t *))
 {
 	struct frame frame;
 	ddi_enter(&frame, q, writer ? "writer" : "put");
@@ -135,35 +130,36 @@ static void run(queue_t *q, mblk_t *mp, void (*writer)(queue_t *, mblk_t *))
 	ddi_leave();
 }
 
-RARE static void run_later(void)
+void ddi_run_later(void)
 {
-	for (struct later **at = &later_first, *later; (later = *at) != NULL; at = &later->next)
-		if (!is_inside(later->q, later->writer != NULL)) {
-			struct later call = *later;
-			*at = later->next;
-			free(later);
-			run(call.q, call.mp, call.writer);
-			return;
-		}
-}
-
-void ddi_leave(void)
-{
-	BEGIN_CALL();
-	ddi_frame = ddi_frame->before;
-	if (later_first)
-		run_later();
+	struct later **at = &ddi_later, *later;
+	while (*at && is_inside((*at)->q, (*at)->writer != NULL))
+		at = &(*at)->next;
+	if ((later = *at) == NULL)
+		return;
+	*at = later->next;
+	run(later->q, later->mp, later->writer);
+	free(later);
 }
 
 /* The queue that decides whether one may send to `q`. */
-static queue_t *decides(queue_t *q)
+static inline queue_t *decides(queue_t *q)
 {
 	while (!q->q_qinfo->qi_srvp && q->q_next)
 		q = q->q_next;
 	return q;
 }
 
-static void put_to(queue_t *q, mblk_t *mp, const char *routine, int is_next)
+/* Reports a service procedure that passes a message to a full band. */
+RARE static void check_room(queue_t *q, const mblk_t *mp, const char *routine)
+{
+	struct strm_band_info info = { 0 };
+	strm_band_info(AT(q), mp->b_band, &info);
+	if (info.full && (DB_TYPE(mp) == M_DATA || DB_TYPE(mp) == M_PROTO))
+		ddi_misuse(routine, (const struct block *)mp, "band %d of %s is full: a service procedure asks canputnext before", mp->b_band, ddi_module(q));
+}
+
+static inline __attribute__((always_inline)) void put_to(queue_t *q, mblk_t *mp, const char *routine, int is_next)
 {
 	struct block *b = ddi_held(mp, routine);
 	if (!b)
@@ -172,11 +168,13 @@ static void put_to(queue_t *q, mblk_t *mp, const char *routine, int is_next)
 		ddi_misuse(routine, b, "there is no next queue");
 		return;
 	}
-	if (is_next && ddi_frame->as.procedure == ddi_service && (DB_TYPE(mp) == M_DATA || DB_TYPE(mp) == M_PROTO) && is_full(decides(q), mp->b_band))
-		ddi_misuse(routine, b, "band %d of %s is full: a service procedure asks canputnext before", mp->b_band, ddi_module(decides(q)));
-	for (mblk_t *bp = mp; bp; bp = bp->b_cont)
-		((struct block *)bp)->owner = q->q_qinfo->qi_minfo;
-	if (is_inside(q, 0))
+	if (is_next && ddi_frame->as.procedure == ddi_service && may_be_full(decides(q), mp->b_band))
+		check_room(decides(q), mp, routine);
+	b->owner = q->q_qinfo->qi_minfo;
+	for (mblk_t *bp = mp->b_cont; bp; bp = bp->b_cont)
+		if (ddi_is_held((struct block *)bp))
+			((struct block *)bp)->owner = b->owner;
+	if (flags[0].tab && is_inside(q, 0))
 		add_later(q, mp, NULL);
 	else
 		run(q, mp, NULL);
@@ -198,7 +196,7 @@ int strm_ddi_putctl(queue_t *q, int type, int byte, int count)
 	mblk_t *mp = allocb(1, BPRI_HI);
 	if (!mp)
 		return 0;
-	mp->b_datap->db_type = (uchar_t)type;
+	DB_TYPE(mp) = (uchar_t)type;
 	*mp->b_wptr = (uchar_t)byte;
 	mp->b_wptr += count;
 	put(q, mp);
@@ -207,13 +205,10 @@ int strm_ddi_putctl(queue_t *q, int type, int byte, int count)
 
 void qwriter(queue_t *q, mblk_t *mp, void (*function)(), int scope)
 {
-	struct frame frame;
 	(void)scope;
 	add_later(q, mp, (void (*)(queue_t *, mblk_t *))function);
-	if (ddi_frame == &test) {
-		ddi_enter(&frame, NULL, "");
-		ddi_leave();
-	}
+	if (ddi_frame == &test)
+		ddi_run_later();
 }
 
 queue_t *backq(queue_t *q)
@@ -232,7 +227,7 @@ queue_t *backq(queue_t *q)
 			return; \
 		BEGIN_CALL(); \
 		strm_##name(AT(q)); \
-		END_CALL("ok", #name " %q", q); \
+		END_CALL(#name " %s | ok", ON(q)); \
 	}
 ENABLING(qenable)
 ENABLING(noenable)
@@ -263,22 +258,23 @@ int bcanput(queue_t *q, uchar_t band)
 	queue_t *target = decides(q);
 	uint32_t yes = 1;
 	BEGIN_CALL();
-	strm_bcanput(AT(target), band, &yes);
+	if (may_be_full(target, band))
+		strm_bcanput(AT(target), band, &yes);
 	if (!yes)
 		target->q_layer->asked[band] = target->q_layer->is_asked = 1;
-	END_CALL(yes ? "yes" : "no", "bcanput %q %d", q, (int)band);
+	END_CALL("bcanput %s %d | %s", ON(q), band, yes ? "yes" : "no");
 	return (int)yes;
 }
 
 int strqset(queue_t *q, qfields_t what, uchar_t band, long value)
 {
 	struct strm_marks marks;
-	if (what == QMINPSZ || what == QMAXPSZ) {
-		*(what == QMINPSZ ? &q->q_minpsz : &q->q_maxpsz) = value;
-		return 0;
-	}
+	if (what == QMINPSZ)
+		q->q_minpsz = value;
+	else if (what == QMAXPSZ)
+		q->q_maxpsz = value;
 	if (what != QHIWAT && what != QLOWAT)
-		return EINVAL;
+		return what == QMINPSZ || what == QMAXPSZ ? 0 : EINVAL;
 	BEGIN_CALL();
 	strm_strqget(AT(q), band, &marks);
 	*(what == QHIWAT ? &marks.hiwat : &marks.lowat) = (uint32_t)value;
@@ -289,7 +285,7 @@ int strqset(queue_t *q, qfields_t what, uchar_t band, long value)
 		q->q_lowat = marks.lowat;
 	}
 	wake(q);
-	END_CALL("ok", "strqset %q %d %l %l", q, (int)band, (long)marks.hiwat, (long)marks.lowat);
+	END_CALL("strqset %s %d %u %u | ok", ON(q), band, marks.hiwat, marks.lowat);
 	return 0;
 }
 
@@ -315,19 +311,19 @@ int strqget(queue_t *q, qfields_t what, uchar_t band, void *value)
 
 /* ---- messages on queues: in q_first and b_next they are in the order that the pool has */
 
-static uint32_t rank_of(const mblk_t *mp)
+static inline uint32_t rank_of(const mblk_t *mp)
 {
 	const struct given *given = &((const struct block *)mp)->given;
 	return given->type >= QPCTL ? STRM_BANDS : given->band;
 }
 
 /* Links a message that the pool has put on its queue: before `next`, or last, if ranks are in order then. Otherwise only the pool knows its place. */
-static void link_in(queue_t *q, mblk_t *next, struct block *b)
+static inline void link_in(queue_t *q, mblk_t *next, struct block *b)
 {
 	mblk_t *mp = &b->m, *before = next ? next->b_prev : q->q_last;
 	uint32_t rank = rank_of(mp), head;
 	if ((before && rank_of(before) < rank) || (next && rank_of(next) > rank)) {
-		before = strm_queued_before(&ddi_pool_of(b)->pool, b->name.head, &head) == STRM_OK ? (mblk_t *)ddi_pool_of(b)->of[head] : NULL;
+		before = strm_queued_before(&b->pool->pool, b->name.head, &head) == STRM_OK ? (mblk_t *)b->pool->of[head] : NULL;
 		next = before ? before->b_next : q->q_first;
 	}
 	mp->b_prev = before;
@@ -339,32 +335,34 @@ static void link_in(queue_t *q, mblk_t *next, struct block *b)
 	if (b->given.band == 0)
 		q->q_count += b->size;
 	for (; b; b = (struct block *)b->m.b_cont) {
-		b->where = QUEUED;
+		b->owner = &ddi_queued_block;
 		b->queue = q;
 	}
 }
 
 int putq(queue_t *q, mblk_t *mp)
 {
-	struct block *b = ddi_join(mp, own_of(q)->pool, 1, "putq");
+	struct strm_ddi_queue *own = own_of(q);
+	struct block *b = ddi_join(mp, own->pool, "putq");
 	if (!b)
 		return 0;
-	strm_putq(AT(q), b->name);
+	strm_putq(AT_OWN(own), b->name);
 	link_in(q, NULL, b);
-	END_CALL("ok", "putq %q %f", q, mp);
+	END_CALL("putq %s %s | ok", ON(q), FROM(mp));
 	return 1;
 }
 
 int putbq(queue_t *q, mblk_t *mp)
 {
-	struct block *b = ddi_join(mp, own_of(q)->pool, 1, "putbq");
+	struct strm_ddi_queue *own = own_of(q);
+	struct block *b = ddi_join(mp, own->pool, "putbq");
 	if (!b)
 		return 0;
 	if (rank_of(mp) == STRM_BANDS && ddi_frame->q == q && ddi_frame->as.procedure == ddi_service)
 		ddi_misuse("putbq", b, "a service procedure that puts high priority back is enabled for ever");
-	strm_putbq(AT(q), b->name);
+	strm_putbq(AT_OWN(own), b->name);
 	link_in(q, q->q_first, b);
-	END_CALL("ok", "putbq %q %f", q, mp);
+	END_CALL("putbq %s %s | ok", ON(q), FROM(mp));
 	return 1;
 }
 
@@ -380,7 +378,7 @@ static int place_in(const queue_t *q, const mblk_t *mp)
 
 int insq(queue_t *q, mblk_t *before, mblk_t *mp)
 {
-	struct block *b = ddi_join(mp, own_of(q)->pool, 1, "insq");
+	struct block *b = ddi_join(mp, own_of(q)->pool, "insq");
 	int place = place_in(q, before), code;
 	if (!b)
 		return 0;
@@ -391,14 +389,14 @@ int insq(queue_t *q, mblk_t *before, mblk_t *mp)
 		ddi_part(b, "insq");
 	else
 		link_in(q, before, b);
-	END_CALL(ddi_reply(code), "insq %q %d %f", q, place, mp);
+	END_CALL("insq %s %d %s | %s", ON(q), place, FROM(mp), ddi_reply(code));
 	return code == STRM_OK;
 }
 
 /* A message that came off its queue is of the caller's. */
-static struct block *taken(queue_t *q, struct strm_msg name, const char *routine)
+static inline struct block *taken(queue_t *q, struct strm_msg name, const char *routine)
 {
-	struct block *b = ddi_pools[name.pool - 1].of[name.head];
+	struct block *b = q->q_layer->pool->of[name.head];
 	mblk_t *mp = &b->m;
 	b->name = name;
 	*(mp->b_next ? &mp->b_next->b_prev : &q->q_last) = mp->b_prev;
@@ -415,12 +413,13 @@ static struct block *taken(queue_t *q, struct strm_msg name, const char *routine
 
 mblk_t *getq(queue_t *q)
 {
+	struct strm_ddi_queue *own = own_of(q);
 	struct strm_msg name;
-	mblk_t *mp;
+	struct block *b;
 	BEGIN_CALL();
-	mp = strm_getq(AT(q), &name) == STRM_OK ? (mblk_t *)taken(q, name, "getq") : NULL;
-	END_CALL(mp ? "ok" : "none", "getq %q %t", q, mp);
-	return mp;
+	b = strm_getq(AT_OWN(own), &name) == STRM_OK ? taken(q, name, "getq") : NULL;
+	END_CALL("getq %s %s | %s", ON(q), TO(b), b ? "ok" : "none");
+	return (mblk_t *)b;
 }
 
 void rmvq(queue_t *q, mblk_t *mp)
@@ -433,7 +432,7 @@ void rmvq(queue_t *q, mblk_t *mp)
 		return;
 	}
 	taken(q, name, "rmvq");
-	END_CALL("ok", "rmvq %q %d %t", q, place, mp);
+	END_CALL("rmvq %s %d %s | ok", ON(q), place, TO(mp));
 }
 
 /* Flushes a band, or all if it is negative. */
@@ -441,6 +440,7 @@ void strm_ddi_flush(queue_t *q, int band, int flag)
 {
 	struct strm_msg names[MOST_TAKEN];
 	uint32_t what = flag == FLUSHALL ? STRM_FLUSHALL : STRM_FLUSHDATA;
+	const char *word = flag == FLUSHALL ? "all" : "data";
 	size_t count;
 	struct block *b, *next;
 	BEGIN_CALL();
@@ -456,9 +456,9 @@ void strm_ddi_flush(queue_t *q, int band, int flag)
 			}
 	} while (count == MOST_TAKEN);
 	if (band < 0)
-		END_CALL("ok", "flushq %q %s", q, flag == FLUSHALL ? "all" : "data");
+		END_CALL("flushq %s %s | ok", ON(q), word);
 	else
-		END_CALL("ok", "flushband %q %d %s", q, band, flag == FLUSHALL ? "all" : "data");
+		END_CALL("flushband %s %d %s | ok", ON(q), band, word);
 }
 
 int qsize(queue_t *q)
@@ -466,7 +466,7 @@ int qsize(queue_t *q)
 	uint32_t count = 0;
 	BEGIN_CALL();
 	strm_qsize(AT(q), &count);
-	END_CALL("size %d", "qsize %q", q, (int)count);
+	END_CALL("qsize %s | size %u", ON(q), count);
 	return (int)count;
 }
 
@@ -478,7 +478,7 @@ static struct pending {
 	queue_t *q;
 	clock_t when;
 	void (*function)(void *), *argument;
-	struct strm_ddi_place at;
+	const struct strm_ddi_place *at;
 } pending[MOST_PENDING];
 static int pending_count;
 clock_t strm_ddi_now;
@@ -498,7 +498,8 @@ static int add_pending(struct pending what)
 		return 0;
 	*at = what;
 	pending_count++;
-	ddi_frame->failed.file = NULL;
+	if (ddi_failed.in == ddi_frame)
+		ddi_failed.in = NULL;
 	return what.id;
 }
 
@@ -524,10 +525,13 @@ bufcall_id_t qbufcall(queue_t *q, size_t size, uint_t priority, void (*function)
 	int code, id = 0;
 	(void)priority;
 	BEGIN_CALL();
-	code = size > UINT32_MAX ? STRM_TOO_LARGE : strm_bufcall(&ddi_pools[0].pool, (uint32_t)size, &wish);
-	if (code == STRM_OK)
+	code = strm_bufcall(&ddi_pools[0].pool, (uint32_t)ddi_least(size, UINT32_MAX), &wish);
+	if (code == STRM_OK) {
 		id = add_pending((struct pending){ (int)wish, q, 0, function, argument, strm_ddi_at });
-	END_CALL(code == STRM_OK ? "id %d" : ddi_reply(code), "bufcall %l", (long)size, id);
+		END_CALL("bufcall %zu | id %d", size, id);
+	} else {
+		END_CALL("bufcall %zu | %s", size, ddi_reply(code));
+	}
 	return id;
 }
 
@@ -537,7 +541,7 @@ void unbufcall(bufcall_id_t id)
 	BEGIN_CALL();
 	if ((code = strm_unbufcall(&ddi_pools[0].pool, (uint32_t)id)) == STRM_OK)
 		untimeout(id);
-	END_CALL(ddi_reply(code), "unbufcall %d", id);
+	END_CALL("unbufcall %d | %s", id, ddi_reply(code));
 }
 
 /* The timeout that is due first, by `end`, or null. */
@@ -558,7 +562,7 @@ static int call_ready(void)
 	struct frame frame;
 	if (pending_count > 0 && strm_take_ready(&ddi_pools[0].pool, &wish) == STRM_OK) {
 		BEGIN_CALL();
-		END_CALL("ready %d %d", "ready", (int)wish.id, (int)wish.size);
+		END_CALL("ready | ready %u %u", wish.id, wish.size);
 		at = pending_of((int)wish.id);
 	} else {
 		at = due(strm_ddi_now);
@@ -581,12 +585,12 @@ static int is_asleep(queue_t *q)
 		!(q->q_next && decides(q->q_next)->q_layer->is_asked);
 }
 
-/* Reports a service procedure for which an allocb failed, if nothing is to run it again. */
-static void check_sleep(queue_t *q, const struct strm_ddi_place *failed)
+/* Reports a service procedure in which an allocb failed, if nothing is to run it again. */
+RARE static void check_sleep(queue_t *q)
 {
-	if (!failed->file || pending_count > 0 || !is_asleep(q))
+	if (pending_count > 0 || !is_asleep(q))
 		return;
-	strm_ddi_at = *failed;
+	strm_ddi_at = ddi_failed.at;
 	ddi_misuse("allocb", (struct block *)q->q_first, "it failed, and the service procedure left messages without a bufcall, a timeout or a qenable");
 }
 
@@ -613,15 +617,15 @@ void ddi_check_pending(queue_t *pair, const void *private)
 }
 
 /* The next queue that is enabled and has a service procedure. The pools take turns. */
-static queue_t *next_service(void)
+static inline queue_t *next_service(void)
 {
-	static int turn;
+	static struct pool *turn = ddi_pools;
 	uint32_t number;
 	for (int k = 0; k < ddi_pool_count; k++) {
-		struct pool *pool = &ddi_pools[turn = turn + 1 < ddi_pool_count ? turn + 1 : 0];
-		while (strm_next_service(&pool->pool, &number) == STRM_OK)
-			if (pool->queues[number] && pool->queues[number]->q_qinfo->qi_srvp)
-				return pool->queues[number];
+		turn = turn + 1 < ddi_pools + ddi_pool_count ? turn + 1 : ddi_pools;
+		while (strm_next_service(&turn->pool, &number) == STRM_OK)
+			if (turn->queues[number]->q_qinfo->qi_srvp)
+				return turn->queues[number];
 	}
 	return NULL;
 }
@@ -634,12 +638,14 @@ int ddi_serve(void)
 		return 0;
 	if (ddi_traced) {
 		ddi_enter(&frame, NULL, "scheduler");
-		ddi_trace_end("queue %q", "service", q);
+		ddi_trace_end("service | queue %s", ON(q));
 		ddi_frame = frame.before;
 	}
+	ddi_failed.in = NULL;
 	ddi_enter(&frame, q, ddi_service);
 	q->q_qinfo->qi_srvp(q);
-	check_sleep(q, &frame.failed);
+	if (ddi_failed.in == &frame)
+		check_sleep(q);
 	ddi_leave();
 	return 1;
 }

@@ -44,7 +44,7 @@ void ddi_trace_queues(queue_t *pair)
 
 static struct told as_it_is(const struct block *b)
 {
-	return (struct told){ b->m.b_cont, b->m.b_rptr, b->m.b_wptr, b->m.b_datap, b->m.b_band, b->m.b_datap->db_type, b->where == HELD };
+	return (struct told){ b->m.b_cont, b->m.b_rptr, b->m.b_wptr, b->m.b_datap, b->m.b_band, b->m.b_datap->db_type, ddi_is_held(b) };
 }
 
 /* Whether the bytes of a block, up to its write place, are others than the trace has. */
@@ -121,8 +121,8 @@ static void tell_caller(void)
 /* Reports a change of data to which several blocks refer, which no word of strm makes. */
 void ddi_trace_begin(void)
 {
-	for (struct block *b = ddi_blocks; b < ddi_blocks + ddi_block_count; b++)
-		if (b->where == HELD && is_changed(b)) {
+	for (struct block *b = ddi_blocks; b < ddi_blocks_end; b++)
+		if (ddi_is_held(b) && is_changed(b)) {
 			int is_shared = b->data->references > 1 && (has_new_bytes(b) || b->m.b_datap->db_type != b->told.type);
 			tell_caller();
 			tell_block('~', b);
@@ -136,55 +136,44 @@ static void tell_end(struct block *b)
 {
 	fprintf(ddi_traced, "- %td\n", b - ddi_blocks);
 	b->told.is_held = 0;
-	for (struct block *other = ddi_blocks; other < ddi_blocks + ddi_block_count; other++)
+	for (struct block *other = ddi_blocks; other < ddi_blocks_end; other++)
 		if (other->told.cont == &b->m)
 			other->told.cont = NULL;
 }
 
-static void tell_value(char kind, va_list *values)
+const char *ddi_told(char mark, const void *mp)
 {
-	const mblk_t *mp;
-	if (kind == 'f' || kind == 't') {
-		fputc(kind == 'f' ? '<' : '>', ddi_traced);
-		if ((mp = va_arg(*values, mblk_t *)) != NULL)
-			fprintf(ddi_traced, "%td", (const struct block *)mp - ddi_blocks);
-	} else if (kind == 'q') {
-		fprintf(ddi_traced, "%c%c", QUEUE_NEXT, 'a' + index_of(va_arg(*values, queue_t *), queues));
-	} else if (kind == 'l') {
-		fprintf(ddi_traced, "%ld", va_arg(*values, long));
-	} else if (kind == 'd') {
-		fprintf(ddi_traced, "%d", va_arg(*values, int));
-	} else {
-		fputs(va_arg(*values, const char *), ddi_traced);
-	}
+	static char texts[2][24];
+	static int last;
+	char *text = texts[last = !last];
+	text[0] = mark;
+	text[1] = 0;
+	if (mp)
+		sprintf(text + 1, "%td", (const struct block *)mp - ddi_blocks);
+	return text;
 }
 
-/* Prints a text with values. */
-static void tell(const char *format, va_list *values)
+const char *ddi_told_queue(const queue_t *q)
 {
-	for (; *format; format++)
-		if (*format == '%')
-			tell_value(*++format, values);
-		else
-			fputc(*format, ddi_traced);
+	static char text[3] = { QUEUE_NEXT };
+	text[1] = (char)('a' + index_of(q, queues));
+	return text;
 }
 
-void ddi_trace_end(const char *reply, const char *format, ...)
+void ddi_trace_end(const char *format, ...)
 {
 	va_list values;
 	tell_caller();
 	fprintf(ddi_traced, "! %s ", ddi_frame->q ? ddi_module(ddi_frame->q) : "head");
 	va_start(values, format);
-	tell(format, &values);
-	fputs(" | ", ddi_traced);
-	tell(reply, &values);
+	vfprintf(ddi_traced, format, values);
 	va_end(values);
 	fputc('\n', ddi_traced);
-	for (struct block *b = ddi_blocks; b < ddi_blocks + ddi_block_count; b++)
-		if (b->told.is_held && b->where != HELD)
+	for (struct block *b = ddi_blocks; b < ddi_blocks_end; b++)
+		if (b->told.is_held && !ddi_is_held(b))
 			tell_end(b);
-	for (struct block *b = ddi_blocks; b < ddi_blocks + ddi_block_count; b++)
-		if (b->where == HELD && is_changed(b))
+	for (struct block *b = ddi_blocks; b < ddi_blocks_end; b++)
+		if (ddi_is_held(b) && is_changed(b))
 			tell_block('=', b);
 }
 

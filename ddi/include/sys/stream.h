@@ -190,15 +190,15 @@ enum { LBOLT = 1 };
 
 /* ---- The file and the line of each call, for reports. A module that declares routines itself is compiled with -DSTRM_DDI_NO_LINES. */
 
-typedef struct strm_ddi_place {
+extern const struct strm_ddi_place {
 	const char *file;
 	int line;
-} kmutex_t;				/* where it was entered, or null */
-extern struct strm_ddi_place strm_ddi_at;
+} *strm_ddi_at;
+typedef const struct strm_ddi_place *kmutex_t;	/* where it was entered, or null */
 enum { MUTEX_DEFAULT, MUTEX_DRIVER };
 void mutex_enter(kmutex_t *mutex), mutex_exit(kmutex_t *mutex);
 #ifndef STRM_DDI_NO_LINES
-#define STRM_DDI_AT strm_ddi_at.file = __FILE__, strm_ddi_at.line = __LINE__
+#define STRM_DDI_AT strm_ddi_at = __extension__({ static const struct strm_ddi_place at = { __FILE__, __LINE__ }; &at; })
 #define allocb(size, priority) (STRM_DDI_AT, allocb(size, priority))
 #define esballoc(base, size, priority, routine) (STRM_DDI_AT, esballoc(base, size, priority, routine))
 #define freeb(mp) (STRM_DDI_AT, freeb(mp))
@@ -265,7 +265,7 @@ void mutex_enter(kmutex_t *mutex), mutex_exit(kmutex_t *mutex);
 #define drv_usectohz(microseconds) ((clock_t)((microseconds) / 10000))
 #define drv_hztousec(ticks) ((clock_t)(ticks) * 10000)
 #define kmem_zalloc kmem_alloc
-#define mutex_init(mutex, name, type, argument) ((void)((mutex)->file = 0))
+#define mutex_init(mutex, name, type, argument) ((void)(*(mutex) = 0))
 #define mutex_destroy(mutex) ((void)0)
 
 /* Stubs: nothing else runs meanwhile. */

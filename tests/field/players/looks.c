@@ -7,7 +7,7 @@
 static void look_at_size(mblk_t *mp, size_t size)
 {
     BEGIN_CALL();
-    END_CALL("size %l", "size %f", mp, (long)size);
+    END_CALL("size %s | size %zu", FROM(mp), size);
 }
 
 static void look_at_block(mblk_t *mp, const mblk_t *bp, int place)
@@ -16,7 +16,7 @@ static void look_at_block(mblk_t *mp, const mblk_t *bp, int place)
     BEGIN_CALL();
     if (bp)
         sprintf(reply, "block %s len=%td band=%d room=%td names=%d", ddi_type_name(DB_TYPE(bp)), MBLKL(bp), bp->b_band, MBLKTAIL(bp), DB_REF(bp));
-    END_CALL(reply, "block %f %d", mp, place);
+    END_CALL("block %s %d | %s", FROM(mp), place, reply);
 }
 
 /* Shows at most PIECE of the bytes from a place on. */
@@ -26,7 +26,7 @@ static void look_at_bytes(mblk_t *mp, const u_char *bytes, size_t at, size_t siz
     BEGIN_CALL();
     for (size_t k = at; k < size && k < at + PIECE; k++)
         sprintf(reply + strlen("bytes ") + 2 * (k - at), "%02x", bytes[k]);
-    END_CALL(reply, "read %f %d", mp, (int)at);
+    END_CALL("read %s %zu | %s", FROM(mp), at, reply);
 }
 
 void look(mblk_t *mp)
@@ -60,7 +60,7 @@ static void look_at_queue(queue_t *q)
     strqget(q, QHIWAT, 0, &hiwat);
     strqget(q, QLOWAT, 0, &lowat);
     BEGIN_CALL();
-    END_CALL("marks %l %l", "strqget %q 0", q, (long)hiwat, (long)lowat);
+    END_CALL("strqget %s 0 | marks %zu %zu", ON(q), hiwat, lowat);
 }
 
 void look_around(void)
@@ -69,5 +69,5 @@ void look_around(void)
     each(look_at_queue);
     strm_census(&ddi_pools[0].pool, &census);
     BEGIN_CALL();
-    END_CALL("census %d %d %d", "census", (int)census.free, (int)census.queued, (int)census.held);
+    END_CALL("census | census %u %u %u", census.free, census.queued, census.held);
 }
