@@ -406,7 +406,7 @@ MADE(dupmsg, 0, 1)
 MADE(copyb, 1, 0)
 MADE(copymsg, 1, 1)
 
-/* ---- joined, parted, trimmed and counted: nothing of this is in the pool before the message is on a queue */
+/* ---- joined, parted, trimmed and counted */
 
 size_t ddi_copy_out(const mblk_t *mp, void *into, size_t room)
 {
@@ -420,74 +420,62 @@ size_t ddi_copy_out(const mblk_t *mp, void *into, size_t room)
 	return count;
 }
 
-/* The bytes of the leading blocks of the first block's type. */
-static ssize_t leading(const mblk_t *mp)
+/* Gives a block the data block that the pool has for it, with bytes of its message. The old one loses a reference. */
+static void change_data(struct block *b, size_t length)
 {
-	ssize_t size = 0;
-	for (const mblk_t *bp = mp; bp && bp->b_datap->db_type == mp->b_datap->db_type; bp = bp->b_cont)
-		size += MBLKL(bp);
-	return size;
+	struct data *old = b->data;
+	b->data = new_data(b->name, old->d.db_type);
+	ddi_copy_out(&b->m, b->data->base, length);
+	b->m.b_datap = &b->data->d;
+	end_reference(old);
+}
+
+/* Parts a message whose blocks the pool has changed, and gives them their places there. Those that are in it no longer were freed. */
+static void part_changed(struct block *b)
+{
+	struct block *next, *gone;
+	struct strm_msg rest;
+	struct strm_block_place where;
+	for (; b; b = next) {
+		next = strm_unlinkb(&b->pool->pool, b->name, &rest) == STRM_OK ? b->pool->of[rest.head] : NULL;
+		if (next)
+			next->name = rest;
+		strm_place(&b->pool->pool, b->name, 0, &where);
+		if (b->data != &b->pool->data[where.data])
+			change_data(b, where.length);
+		while ((gone = (struct block *)b->m.b_cont) != next) {
+			b->m.b_cont = gone->m.b_cont;
+			end_block(gone);
+		}
+		b->m.b_rptr = DB_BASE(&b->m) + where.at;
+		b->m.b_wptr = b->m.b_rptr + where.length;
+		b->given = given_of(b);
+	}
+}
+
+static int change(mblk_t *mp, ssize_t length, int (*make)(struct strm_pool *, struct strm_msg, int32_t), const char *routine)
+{
+	struct block *first = ddi_join(mp, NULL, routine);
+	int code;
+	if (!first)
+		return 0;
+	code = length == (int32_t)length ? make(&first->pool->pool, first->name, (int32_t)length) : STRM_SHORT;
+	if (code == STRM_OK)
+		part_changed(first);
+	else
+		ddi_part(first, routine);
+	END_CALL("%s %s %zd | %s", routine, FROM(mp), length, ddi_reply(code));
+	return code == STRM_OK;
 }
 
 int adjmsg(mblk_t *mp, ssize_t length)
 {
-	mblk_t *part = mp;
-	ssize_t left, size;
-	int is_done;
-	if (!ddi_held(mp, "adjmsg"))
-		return 0;
-	for (mblk_t *bp = mp; length < 0 && bp; bp = bp->b_cont)
-		if (bp->b_datap->db_type != part->b_datap->db_type)
-			part = bp;
-	left = length < 0 ? leading(part) + length : length;
-	is_done = left >= 0 && left <= leading(part);
-	for (; is_done && part; part = part->b_cont, left -= size) {
-		size = (ssize_t)ddi_least((size_t)MBLKL(part), (size_t)left);
-		if (length < 0)
-			part->b_wptr = part->b_rptr + size;
-		else
-			part->b_rptr += size;
-	}
-	END_CALL("adjmsg %s %zd | %s", FROM(mp), length, is_done ? "ok" : "refused 8 Short");
-	return is_done;
+	return change(mp, length, strm_adjmsg, "adjmsg");
 }
 
-/* Pulls up in the pool, which frees the blocks that gave all bytes: the others get their new places. */
 int pullupmsg(mblk_t *mp, ssize_t length)
 {
-	struct block *first = ddi_join(mp, NULL, "pullupmsg"), *b;
-	struct data *old;
-	size_t size, left, cut;
-	int code;
-	if (!first)
-		return 0;
-	size = (size_t)(length == -1 ? leading(mp) : length);
-	code = length > leading(mp) ? STRM_SHORT : strm_pullupmsg(&first->pool->pool, first->name, (int32_t)length);
-	if (code == STRM_OK && size > (size_t)MBLKL(mp)) {
-		old = first->data;
-		left = size - (size_t)MBLKL(mp);
-		first->data = new_data(first->name, old->d.db_type);
-		ddi_copy_out(mp, first->data->base, size);
-		for (; left > 0; left -= cut) {
-			b = (struct block *)mp->b_cont;
-			cut = ddi_least(left, (size_t)MBLKL(&b->m));
-			b->m.b_rptr += cut;
-			b->given.read = b->m.b_rptr;
-			if (MBLKL(&b->m) == 0) {
-				mp->b_cont = b->m.b_cont;
-				first->joined--;
-				end_block(b);
-			}
-		}
-		mp->b_datap = &first->data->d;
-		mp->b_rptr = first->data->base;
-		mp->b_wptr = mp->b_rptr + size;
-		first->given = given_of(first);
-		end_reference(old);
-	}
-	ddi_part(first, "pullupmsg");
-	END_CALL("pullupmsg %s %zd | %s", FROM(mp), length, ddi_reply(code));
-	return code == STRM_OK;
+	return change(mp, length, strm_pullupmsg, "pullupmsg");
 }
 
 mblk_t *msgpullup(mblk_t *mp, ssize_t length)
