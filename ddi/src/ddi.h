@@ -10,7 +10,7 @@
 #include <stdlib.h>
 #include <string.h>
 
-enum { MOST_POOLS = 16, MOST_EVENTS = 8, QUARANTINE = 256, MOST_PENDING = 256, MOST_TAKEN = 64 };
+enum { MOST_POOLS = 16, MOST_EVENTS = 8, QUARANTINE = 256, MOST_TAKEN = 64 };
 
 /* A data block: what a module sees, then its bytes and the references that the pool has, and what a trace has of it. */
 struct data {
@@ -148,7 +148,7 @@ int ddi_open(const struct strm_config *config);
 void ddi_close(void);
 RARE struct block *ddi_examined(mblk_t *mp, const char *routine);
 RARE struct block *ddi_settled(struct block *b, struct pool *pool, const char *routine);
-struct block *ddi_join_rest(struct block *first, const char *routine);
+int ddi_join_next(struct block *first, mblk_t *bp, const char *routine);
 void ddi_part_all(struct block *first, const char *routine);
 void ddi_free(struct block *b);
 const char *ddi_type_name(int type);
@@ -184,7 +184,10 @@ static inline struct block *ddi_join(mblk_t *mp, struct pool *pool, const char *
 		return NULL;
 	first->joined = 1;
 	first->size = (uint32_t)MBLKL(mp);
-	return mp->b_cont ? ddi_join_rest(first, routine) : first;
+	for (mblk_t *bp = mp->b_cont; bp; bp = bp->b_cont)
+		if (!ddi_join_next(first, bp, routine))
+			return NULL;
+	return first;
 }
 
 /* Parts them again: each is held by a name of its own. The name of the first one is right. */
@@ -200,7 +203,7 @@ static inline void ddi_part(struct block *first, const char *routine)
 void ddi_check_pending(queue_t *pair, const void *private);
 void ddi_check_left(queue_t *q);
 RARE void ddi_run_later(void);
-void ddi_forget(queue_t *q);
+void ddi_forget(queue_t *pair);
 int ddi_serve(void);
 struct strm_marks ddi_marks(size_t hiwat, size_t lowat);
 extern struct later *ddi_later;

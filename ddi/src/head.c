@@ -150,8 +150,7 @@ static void take_out(strhead_t *head, queue_t *q)
 {
 	ddi_trace_close();
 	connect_pairs(head->pair.q, q[1].q_next);
-	ddi_forget(&q[0]);
-	ddi_forget(&q[1]);
+	ddi_forget(q);
 	free(q);
 }
 
@@ -220,8 +219,7 @@ int str_close(strhead_t *head)
 {
 	while (head->pair.q[1].q_next)
 		remove_top(head);
-	ddi_forget(&head->pair.q[0]);
-	ddi_forget(&head->pair.q[1]);
+	ddi_forget(head->pair.q);
 	free(head);
 	return 0;
 }
@@ -424,8 +422,7 @@ int str_ioctl_transparent(strhead_t *head, int command, void *argument, int *val
 /* Has the queues of a stream head be those of a multiplexing driver, or the head's own again. */
 static void set_lower(strhead_t *lower, struct qinit *read, struct qinit *write, struct streamtab *tab)
 {
-	ddi_forget(&lower->pair.q[0]);
-	ddi_forget(&lower->pair.q[1]);
+	ddi_forget(lower->pair.q);
 	set_pair(lower->pair.q, read, write, lower, tab);
 }
 

@@ -252,24 +252,19 @@ struct block *ddi_settled(struct block *b, struct pool *pool, const char *routin
 	return give(b, routine) ? b : NULL;
 }
 
-/* Joins a message whose first block is as the module changed it. */
-struct block *ddi_join_rest(struct block *first, const char *routine)
+/* Joins the next block of a message. Returns 0, with nothing joined, if it is misused. */
+int ddi_join_next(struct block *first, mblk_t *bp, const char *routine)
 {
-	struct block *b;
-	for (mblk_t *bp = first->m.b_cont; bp; bp = bp->b_cont) {
-		b = ddi_given(bp, first->pool, routine);
-		if (b && strm_linkb(&first->pool->pool, first->name, b->name) != STRM_OK) {
-			ddi_misuse(routine, first, "b_cont leads to a block of the message");
-			b = NULL;
-		}
-		if (!b) {
-			ddi_part_all(first, routine);
-			return NULL;
-		}
+	struct block *b = ddi_given(bp, first->pool, routine);
+	if (b && strm_linkb(&first->pool->pool, first->name, b->name) == STRM_OK) {
 		first->joined++;
 		first->size += (uint32_t)MBLKL(bp);
+		return 1;
 	}
-	return first;
+	if (b)
+		ddi_misuse(routine, first, "b_cont leads to a block of the message");
+	ddi_part_all(first, routine);
+	return 0;
 }
 
 void ddi_part_all(struct block *first, const char *routine)

@@ -55,7 +55,7 @@ static inline int may_be_full(const queue_t *q, int band)
 }
 
 /* Gives up the number of a queue, with what is on it. */
-void ddi_forget(queue_t *q)
+static void forget(queue_t *q)
 {
 	struct strm_ddi_queue *own = q->q_layer;
 	struct strm_msg none;
@@ -74,15 +74,46 @@ void ddi_forget(queue_t *q)
 	own->pool = NULL;
 }
 
+void ddi_forget(queue_t *pair)
+{
+	forget(&pair[0]);
+	forget(&pair[1]);
+}
+
 /* ---- procedures */
 
-/* A put procedure, or the function of qwriter, that waits until no procedure of its module, or its pair of queues, runs. */
+/*
+ * What runs later: a put procedure or the function of qwriter, once no procedure of its module or its pair of queues runs; a timeout; or a wish of the
+ * first pool. Time is a number of ticks that grows as it passes.
+ */
 struct later {
 	struct later *next;
 	queue_t *q;
 	mblk_t *mp;
 	void (*writer)(queue_t *, mblk_t *);
+	int id;				/* above 0 if it is a wish, below if it is a timeout */
+	clock_t when;
+	void (*function)(void *), *argument;
+	const struct strm_ddi_place *at;
 } *ddi_later;
+static struct later *pending;
+clock_t strm_ddi_now;
+
+static void add_later(struct later **list, struct later what)
+{
+	while (*list)
+		list = &(*list)->next;
+	*list = malloc(sizeof **list);
+	**list = what;
+}
+
+static struct later take_later(struct later **at)
+{
+	struct later *old = *at, what = *old;
+	*at = old->next;
+	free(old);
+	return what;
+}
 
 static struct { const struct streamtab *tab; int flag; } flags[32];
 
@@ -110,15 +141,6 @@ static int is_inside(const queue_t *q, int is_writer)
 	return 0;
 }
 
-static void add_later(queue_t *q, mblk_t *mp, void (*writer)(queue_t *, mblk_t *))
-{
-	struct later **at = &ddi_later;
-	while (*at)
-		at = &(*at)->next;
-	*at = malloc(sizeof **at);
-	**at = (struct later){ .q = q, .mp = mp, .writer = writer };
-}
-
 static inline void run(queue_t *q, mblk_t *mp, void (*writer)(queue_t *, mblk_t *))
 {
 	struct frame frame;
@@ -132,14 +154,13 @@ static inline void run(queue_t *q, mblk_t *mp, void (*writer)(queue_t *, mblk_t 
 
 void ddi_run_later(void)
 {
-	struct later **at = &ddi_later, *later;
+	struct later **at = &ddi_later, what;
 	while (*at && is_inside((*at)->q, (*at)->writer != NULL))
 		at = &(*at)->next;
-	if ((later = *at) == NULL)
-		return;
-	*at = later->next;
-	run(later->q, later->mp, later->writer);
-	free(later);
+	if (*at) {
+		what = take_later(at);
+		run(what.q, what.mp, what.writer);
+	}
 }
 
 /* The queue that decides whether one may send to `q`. */
@@ -175,7 +196,7 @@ static inline __attribute__((always_inline)) void put_to(queue_t *q, mblk_t *mp,
 		if (ddi_is_held((struct block *)bp))
 			((struct block *)bp)->owner = b->owner;
 	if (flags[0].tab && is_inside(q, 0))
-		add_later(q, mp, NULL);
+		add_later(&ddi_later, (struct later){ .q = q, .mp = mp });
 	else
 		run(q, mp, NULL);
 }
@@ -206,7 +227,7 @@ int strm_ddi_putctl(queue_t *q, int type, int byte, int count)
 void qwriter(queue_t *q, mblk_t *mp, void (*function)(), int scope)
 {
 	(void)scope;
-	add_later(q, mp, (void (*)(queue_t *, mblk_t *))function);
+	add_later(&ddi_later, (struct later){ .q = q, .mp = mp, .writer = (void (*)(queue_t *, mblk_t *))function });
 	if (ddi_frame == &test)
 		ddi_run_later();
 }
@@ -340,30 +361,28 @@ static inline void link_in(queue_t *q, mblk_t *next, struct block *b)
 	}
 }
 
-int putq(queue_t *q, mblk_t *mp)
+static inline int put_on(queue_t *q, mblk_t *mp, int (*call)(struct strm_pool *, uint32_t, struct strm_msg), int is_back, const char *routine)
 {
 	struct strm_ddi_queue *own = own_of(q);
-	struct block *b = ddi_join(mp, own->pool, "putq");
+	struct block *b = ddi_join(mp, own->pool, routine);
 	if (!b)
 		return 0;
-	strm_putq(AT_OWN(own), b->name);
-	link_in(q, NULL, b);
-	END_CALL("putq %s %s | ok", ON(q), FROM(mp));
+	if (is_back && rank_of(mp) == STRM_BANDS && ddi_frame->q == q && ddi_frame->as.procedure == ddi_service)
+		ddi_misuse(routine, b, "a service procedure that puts high priority back is enabled for ever");
+	call(AT_OWN(own), b->name);
+	link_in(q, is_back ? q->q_first : NULL, b);
+	END_CALL("%s %s %s | ok", routine, ON(q), FROM(mp));
 	return 1;
+}
+
+int putq(queue_t *q, mblk_t *mp)
+{
+	return put_on(q, mp, strm_putq, 0, "putq");
 }
 
 int putbq(queue_t *q, mblk_t *mp)
 {
-	struct strm_ddi_queue *own = own_of(q);
-	struct block *b = ddi_join(mp, own->pool, "putbq");
-	if (!b)
-		return 0;
-	if (rank_of(mp) == STRM_BANDS && ddi_frame->q == q && ddi_frame->as.procedure == ddi_service)
-		ddi_misuse("putbq", b, "a service procedure that puts high priority back is enabled for ever");
-	strm_putbq(AT_OWN(own), b->name);
-	link_in(q, q->q_first, b);
-	END_CALL("putbq %s %s | ok", ON(q), FROM(mp));
-	return 1;
+	return put_on(q, mp, strm_putbq, 1, "putbq");
 }
 
 /* The place of a message on a queue, or -1. Null has the place after the last one. */
@@ -472,51 +491,32 @@ int qsize(queue_t *q)
 
 /* ---- what runs later */
 
-/* A timeout, or a wish of the first pool. Time is a number of ticks that grows as it passes. */
-static struct pending {
-	int id;				/* 0 if there is none; that of a wish is above 0 */
-	queue_t *q;
-	clock_t when;
-	void (*function)(void *), *argument;
-	const struct strm_ddi_place *at;
-} pending[MOST_PENDING];
-static int pending_count;
-clock_t strm_ddi_now;
-
-static struct pending *pending_of(int id)
+static struct later **pending_of(int id)
 {
-	struct pending *at = pending;
-	while (at < pending + MOST_PENDING && at->id != id)
-		at++;
-	return at < pending + MOST_PENDING ? at : NULL;
+	struct later **at = &pending;
+	while (*at && (*at)->id != id)
+		at = &(*at)->next;
+	return at;
 }
 
-static int add_pending(struct pending what)
+static int add_pending(int id, queue_t *q, clock_t when, void (*function)(void *), void *argument)
 {
-	struct pending *at = pending_of(0);
-	if (!at)
-		return 0;
-	*at = what;
-	pending_count++;
+	add_later(&pending, (struct later){ .id = id, .q = q, .when = when, .function = function, .argument = argument, .at = strm_ddi_at });
 	if (ddi_failed.in == ddi_frame)
 		ddi_failed.in = NULL;
-	return what.id;
+	return id;
 }
 
 timeout_id_t qtimeout(queue_t *q, void (*function)(void *), void *argument, clock_t ticks)
 {
 	static int last;
-	return add_pending((struct pending){ --last, q, strm_ddi_now + ticks, function, argument, strm_ddi_at });
+	return add_pending(--last, q, strm_ddi_now + ticks, function, argument);
 }
 
 clock_t untimeout(timeout_id_t id)
 {
-	struct pending *at = id ? pending_of(id) : NULL;
-	if (!at)
-		return -1;
-	at->id = 0;
-	pending_count--;
-	return at->when - strm_ddi_now;
+	struct later **at = pending_of(id);
+	return *at ? take_later(at).when - strm_ddi_now : -1;
 }
 
 bufcall_id_t qbufcall(queue_t *q, size_t size, uint_t priority, void (*function)(void *), void *argument)
@@ -527,7 +527,7 @@ bufcall_id_t qbufcall(queue_t *q, size_t size, uint_t priority, void (*function)
 	BEGIN_CALL();
 	code = strm_bufcall(&ddi_pools[0].pool, (uint32_t)ddi_least(size, UINT32_MAX), &wish);
 	if (code == STRM_OK) {
-		id = add_pending((struct pending){ (int)wish, q, 0, function, argument, strm_ddi_at });
+		id = add_pending((int)wish, q, 0, function, argument);
 		END_CALL("bufcall %zu | id %d", size, id);
 	} else {
 		END_CALL("bufcall %zu | %s", size, ddi_reply(code));
@@ -545,11 +545,11 @@ void unbufcall(bufcall_id_t id)
 }
 
 /* The timeout that is due first, by `end`, or null. */
-static struct pending *due(clock_t end)
+static struct later **due(clock_t end)
 {
-	struct pending *first = NULL;
-	for (struct pending *at = pending; pending_count > 0 && at < pending + MOST_PENDING; at++)
-		if (at->id < 0 && at->when <= (first ? first->when - 1 : end))
+	struct later **first = NULL;
+	for (struct later **at = &pending; *at; at = &(*at)->next)
+		if ((*at)->id < 0 && (*at)->when <= (first ? (*first)->when - 1 : end))
 			first = at;
 	return first;
 }
@@ -558,9 +558,9 @@ static struct pending *due(clock_t end)
 static int call_ready(void)
 {
 	struct strm_wish wish;
-	struct pending *at, what;
+	struct later **at, what;
 	struct frame frame;
-	if (pending_count > 0 && strm_take_ready(&ddi_pools[0].pool, &wish) == STRM_OK) {
+	if (pending && strm_take_ready(&ddi_pools[0].pool, &wish) == STRM_OK) {
 		BEGIN_CALL();
 		END_CALL("ready | ready %u %u", wish.id, wish.size);
 		at = pending_of((int)wish.id);
@@ -569,8 +569,7 @@ static int call_ready(void)
 	}
 	if (!at)
 		return 0;
-	what = *at;
-	untimeout(what.id);
+	what = take_later(at);
 	ddi_enter(&frame, what.q, what.id > 0 ? "bufcall" : "timeout");
 	what.function(what.argument);
 	ddi_leave();
@@ -588,7 +587,7 @@ static int is_asleep(queue_t *q)
 /* Reports a service procedure in which an allocb failed, if nothing is to run it again. */
 RARE static void check_sleep(queue_t *q)
 {
-	if (pending_count > 0 || !is_asleep(q))
+	if (pending || !is_asleep(q))
 		return;
 	strm_ddi_at = ddi_failed.at;
 	ddi_misuse("allocb", (struct block *)q->q_first, "it failed, and the service procedure left messages without a bufcall, a timeout or a qenable");
@@ -605,15 +604,19 @@ void ddi_check_left(queue_t *q)
 /* Reports what is to run after a module was closed. */
 void ddi_check_pending(queue_t *pair, const void *private)
 {
-	for (struct pending *at = pending; at < pending + MOST_PENDING; at++)
-		if (at->id && (at->q == pair || at->q == pair + 1 || at->argument == pair || at->argument == pair + 1 ||
-			(private && at->argument == private))) {
-			strm_ddi_at = at->at;
-			ddi_misuse(at->id > 0 ? "bufcall" : "timeout", NULL, "it waits, and %s is closed", ddi_module(pair));
-			if (at->id > 0)
-				strm_unbufcall(&ddi_pools[0].pool, (uint32_t)at->id);
-			untimeout(at->id);
+	struct later **at = &pending, what;
+	while (*at) {
+		const void *argument = (*at)->argument;
+		if ((*at)->q != pair && (*at)->q != pair + 1 && argument != pair && argument != pair + 1 && (!private || argument != private)) {
+			at = &(*at)->next;
+			continue;
 		}
+		what = take_later(at);
+		strm_ddi_at = what.at;
+		ddi_misuse(what.id > 0 ? "bufcall" : "timeout", NULL, "it waits, and %s is closed", ddi_module(pair));
+		if (what.id > 0)
+			strm_unbufcall(&ddi_pools[0].pool, (uint32_t)what.id);
+	}
 }
 
 /* The next queue that is enabled and has a service procedure. The pools take turns. */
@@ -662,9 +665,9 @@ int str_wait(clock_t ticks)
 {
 	clock_t end = strm_ddi_now + ticks;
 	int count = str_run();
-	for (struct pending *next; strm_ddi_now < end; count += str_run()) {
+	for (struct later **next; strm_ddi_now < end; count += str_run()) {
 		next = due(end);
-		strm_ddi_now = next ? next->when : end;
+		strm_ddi_now = next ? (*next)->when : end;
 	}
 	return count;
 }

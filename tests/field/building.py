@@ -7,6 +7,8 @@ from typing import NamedTuple
 HERE = os.path.dirname(os.path.abspath(__file__))
 TOP = os.path.dirname(os.path.dirname(HERE))
 DDI = os.path.join(TOP, "ddi")
+# What ppp's modules include that is no part of ddi.
+OF_PPP = os.path.join(TOP, "tests", "ddi")
 PLAYERS = os.path.join(HERE, "players")
 OPTIONS = os.path.join(HERE, "options")
 # Ways of System V Release 4 in which the modules can be built.
@@ -48,7 +50,7 @@ def build_ppp(room, source, name, variant, archive):
     """A player of ppp's modules, built in one of their ways, over ddi and the library for C."""
     own = os.path.join(room, name.replace(" ", "-"))
     os.mkdir(own)
-    words = [f"-I{DDI}", f"-I{os.path.join(DDI, 'include')}", f"-I{os.path.join(TOP, 'c')}", f"-I{os.path.join(source.folder, 'include')}"]
+    words = [f"-I{folder}" for folder in (DDI, os.path.join(DDI, "include"), OF_PPP, os.path.join(TOP, "c"), os.path.join(source.folder, "include"))]
     modules = [os.path.join(source.folder, "modules", f"{module}.c") for module in MODULES]
     objects = [compile_one(own, module, [*OF_A_KERNEL, *variant, *words]) for module in modules]
     here = glob.glob(os.path.join(DDI, "src", "*.c")) + [os.path.join(PLAYERS, f"{part}.c") for part in ("dice", "packets", "line", "looks", "ppp")]
