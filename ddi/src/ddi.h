@@ -104,6 +104,8 @@ static inline size_t ddi_least(size_t one, size_t other)
 
 /* A function that few calls reach: others do not save registers for it. */
 #define RARE __attribute__((cold, noinline))
+/* One that has its own code in each caller, which knows its last arguments. */
+#define PER_CALLER static inline __attribute__((always_inline))
 
 /* misuse.c: each reports, and ends the program or returns. */
 RARE void ddi_misuse(const char *routine, const struct block *b, const char *format, ...) __attribute__((format(printf, 3, 4)));

@@ -193,31 +193,25 @@ struct block *ddi_examined(mblk_t *mp, const char *routine)
 	return NULL;
 }
 
-/* The shape of a block as the pool takes it. A type that strm.h lacks is one there that has no data. */
-static struct strm_block_shape shape_of(const struct block *b)
-{
-	uint32_t number = types[b->given.type].number;
-	return (struct strm_block_shape){ (uint32_t)MBLKHEAD(&b->m), (uint32_t)MBLKL(&b->m),
-		number > 0 ? number - 1 : b->given.type >= QPCTL ? STRM_M_PCSIG : STRM_M_CTL, b->given.band };
-}
-
-/* Gives the pool what a module changed of a block. Returns 0 if that is misuse. */
+/* Gives the pool what a module changed of a block. Returns 0 if that is misuse. A type that strm.h lacks is one there that has no data. */
 static int give(struct block *b, const char *routine)
 {
 	const mblk_t *mp = &b->m;
-	struct strm_block_shape shape;
-	if (MBLKHEAD(mp) < 0 || MBLKL(mp) < 0 || MBLKTAIL(mp) < 0)
+	uint32_t number = types[DB_TYPE(mp)].number;
+	struct strm_block_shape shape = { (uint32_t)MBLKHEAD(mp), (uint32_t)MBLKL(mp),
+		number > 0 ? number - 1 : DB_TYPE(mp) >= QPCTL ? STRM_M_PCSIG : STRM_M_CTL, mp->b_band };
+	if (MBLKHEAD(mp) < 0 || MBLKL(mp) < 0 || MBLKTAIL(mp) < 0) {
 		ddi_misuse(routine, b, "b_rptr is %td, b_wptr is %td, and the data block has %td bytes", MBLKHEAD(mp), mp->b_wptr - DB_BASE(mp),
 			MBLKSIZE(mp));
-	else if (DB_TYPE(mp) != b->given.type && b->data->references > 1)
+		return 0;
+	}
+	if (DB_TYPE(mp) != b->given.type && b->data->references > 1) {
 		ddi_misuse(routine, b, "db_type was changed to %s, and %d message blocks refer to the data block", ddi_type_name(DB_TYPE(mp)),
 			b->data->references);
-	else {
-		b->given = given_of(b);
-		shape = shape_of(b);
-		return strm_shape_all(&b->pool->pool, b->name, &shape, 1) == STRM_OK;
+		return 0;
 	}
-	return 0;
+	b->given = given_of(b);
+	return strm_shape_all(&b->pool->pool, b->name, &shape, 1) == STRM_OK;
 }
 
 /* Moves a block to another pool, with all bytes of its data block. The old data block loses a reference. */
@@ -225,22 +219,17 @@ static void cross(struct block *b, struct pool *pool)
 {
 	struct data *from = b->data;
 	ptrdiff_t at = MBLKHEAD(&b->m), length = MBLKL(&b->m);
-	struct strm_block_shape whole = shape_of(b);
-	whole.at = 0;
-	whole.length = from->size;
-	strm_shape_all(&b->pool->pool, b->name, &whole, 1);
 	if (strm_transfer(&b->pool->pool, &pool->pool, b->name, &b->name) != STRM_OK) {
 		fprintf(stderr, "strm_ddi: the pool of the queue has no block left for the message: give str_init more\n");
 		abort();
 	}
+	b->pool = pool;
+	pool->of[b->name.head] = b;
 	b->data = new_data(b->name, from->d.db_type);
-	if (from->d.db_base != from->base)
-		memcpy(b->data->base, from->d.db_base, (size_t)(from->d.db_lim - from->d.db_base));
+	memcpy(b->data->base, from->d.db_base, (size_t)(from->d.db_lim - from->d.db_base));
 	b->m.b_datap = &b->data->d;
 	b->m.b_rptr = b->data->base + at;
 	b->m.b_wptr = b->m.b_rptr + length;
-	b->pool = pool;
-	pool->of[b->name.head] = b;
 	end_reference(from);
 }
 

@@ -83,14 +83,15 @@ void ddi_forget(queue_t *pair)
 /* ---- procedures */
 
 /*
- * What runs later: a put procedure or the function of qwriter, once no procedure of its module or its pair of queues runs; a timeout; or a wish of the
- * first pool. Time is a number of ticks that grows as it passes.
+ * What runs later: a put procedure, or the function of qwriter, once no procedure of its module or its pair of queues runs; a timeout; or a wish of
+ * the first pool. Time is a number of ticks that grows as it passes.
  */
+typedef void writer(queue_t *, mblk_t *);
 struct later {
 	struct later *next;
 	queue_t *q;
 	mblk_t *mp;
-	void (*writer)(queue_t *, mblk_t *);
+	writer *writer;
 	int id;				/* above 0 if it is a wish, below if it is a timeout */
 	clock_t when;
 	void (*function)(void *), *argument;
@@ -141,7 +142,7 @@ static int is_inside(const queue_t *q, int is_writer)
 	return 0;
 }
 
-static inline void run(queue_t *q, mblk_t *mp, void (*writer)(queue_t *, mblk_t *))
+static inline void run(queue_t *q, mblk_t *mp, writer *writer)
 {
 	struct frame frame;
 	ddi_enter(&frame, q, writer ? "writer" : "put");
@@ -180,7 +181,7 @@ RARE static void check_room(queue_t *q, const mblk_t *mp, const char *routine)
 		ddi_misuse(routine, (const struct block *)mp, "band %d of %s is full: a service procedure asks canputnext before", mp->b_band, ddi_module(q));
 }
 
-static inline __attribute__((always_inline)) void put_to(queue_t *q, mblk_t *mp, const char *routine, int is_next)
+PER_CALLER void put_to(queue_t *q, mblk_t *mp, const char *routine, int is_next)
 {
 	struct block *b = ddi_held(mp, routine);
 	if (!b)
@@ -227,7 +228,7 @@ int strm_ddi_putctl(queue_t *q, int type, int byte, int count)
 void qwriter(queue_t *q, mblk_t *mp, void (*function)(), int scope)
 {
 	(void)scope;
-	add_later(&ddi_later, (struct later){ .q = q, .mp = mp, .writer = (void (*)(queue_t *, mblk_t *))function });
+	add_later(&ddi_later, (struct later){ .q = q, .mp = mp, .writer = (writer *)function });
 	if (ddi_frame == &test)
 		ddi_run_later();
 }
@@ -361,7 +362,7 @@ static inline void link_in(queue_t *q, mblk_t *next, struct block *b)
 	}
 }
 
-static inline int put_on(queue_t *q, mblk_t *mp, int (*call)(struct strm_pool *, uint32_t, struct strm_msg), int is_back, const char *routine)
+PER_CALLER int put_on(queue_t *q, mblk_t *mp, int (*call)(struct strm_pool *, uint32_t, struct strm_msg), int is_back, const char *routine)
 {
 	struct strm_ddi_queue *own = own_of(q);
 	struct block *b = ddi_join(mp, own->pool, routine);
