@@ -91,7 +91,7 @@ struct frame {
 extern struct frame *ddi_frame;
 extern const char ddi_service[];
 
-/* Where an allocb failed last, for which nothing waits, and in which procedure. */
+/* Where an allocb failed last, and in which procedure. */
 extern struct failed {
 	const struct frame *in;
 	const struct strm_ddi_place *at;

@@ -193,9 +193,8 @@ PER_CALLER void put_to(queue_t *q, mblk_t *mp, const char *routine, int is_next)
 	if (is_next && ddi_frame->as.procedure == ddi_service && may_be_full(decides(q), mp->b_band))
 		check_room(decides(q), mp, routine);
 	b->owner = q->q_qinfo->qi_minfo;
-	for (mblk_t *bp = mp->b_cont; bp; bp = bp->b_cont)
-		if (ddi_is_held((struct block *)bp))
-			((struct block *)bp)->owner = b->owner;
+	for (struct block *next = (struct block *)mp->b_cont; next && ddi_is_held(next); next = (struct block *)next->m.b_cont)
+		next->owner = b->owner;
 	if (flags[0].tab && is_inside(q, 0))
 		add_later(&ddi_later, (struct later){ .q = q, .mp = mp });
 	else
@@ -503,8 +502,6 @@ static struct later **pending_of(int id)
 static int add_pending(int id, queue_t *q, clock_t when, void (*function)(void *), void *argument)
 {
 	add_later(&pending, (struct later){ .id = id, .q = q, .when = when, .function = function, .argument = argument, .at = strm_ddi_at });
-	if (ddi_failed.in == ddi_frame)
-		ddi_failed.in = NULL;
 	return id;
 }
 

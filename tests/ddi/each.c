@@ -87,7 +87,11 @@ static void test_messages(void)
 	mp->b_wptr += sizeof own;
 	copy = copyb(mp);
 	CHECK(copy && MBLKL(copy) == sizeof own && memcmp(copy->b_rptr, own, sizeof own) == 0 && mp->b_rptr == own);
-	freeb(copy);
+	mp->b_rptr = mp->b_wptr - 3;
+	copy->b_wptr = copy->b_rptr + 2;
+	linkb(mp, copy);
+	own[sizeof own - 1] = 'z';
+	CHECK(pullupmsg(mp, -1) && MBLKL(mp) == 5 && memcmp(mp->b_rptr, "aazaa", 5) == 0 && !mp->b_cont);
 	freeb(mp);
 	CHECK(str_fini() == 0);
 }
@@ -107,6 +111,36 @@ static void test_put_back(queue_t *q)
 	rmvq(q, other);
 	freemsg(other);
 	CHECK(getq(q) == first && (putbq(q, first), q->q_first) == first && q->q_last == third);
+}
+
+/* Puts a message of a size and a band on a queue. */
+static void fill(queue_t *q, size_t size, int band)
+{
+	mblk_t *mp = allocb(size, BPRI_MED);
+
+	mp->b_wptr += size;
+	mp->b_band = (uchar_t)band;
+	putq(q, mp);
+}
+
+/* A band is full from its high water mark on, and no other one is then. */
+static void test_full(void)
+{
+	strhead_t *head;
+	queue_t *q;
+
+	CHECK(str_init(NULL) == 0 && str_open(&echoinfo, 0, 0, &head) == 0);
+	q = WR(str_queue(head, 1));
+	CHECK(strqset(q, QLOWAT, 0, 10) == 0 && strqset(q, QHIWAT, 0, 100) == 0);
+	CHECK(strqset(q, QLOWAT, 1, 0) == 0 && strqset(q, QHIWAT, 1, 10) == 0);
+	fill(q, 99, 0);
+	CHECK(canput(q));
+	fill(q, 10, 1);
+	CHECK(canput(q) && !bcanput(q, 1) && bcanput(q, 2));
+	fill(q, 1, 0);
+	CHECK(!canput(q) && !bcanput(q, 1) && bcanput(q, 2));
+	flushq(q, FLUSHALL);
+	CHECK(canput(q) && bcanput(q, 1) && str_close(head) == 0 && str_fini() == 0);
 }
 
 static void test_order(void)
@@ -217,6 +251,12 @@ static void test_many_queues(void)
 	put(str_queue(head, 1) + 1, mp);
 	CHECK((mp = str_getmsg(head)) != NULL && MBLKHEAD(mp) == 11 && MBLKL(mp) == 4 && memcmp(mp->b_rptr - 11, "header and data", 15) == 0);
 	freemsg(mp);
+	mp = esballoc(back, 3000, BPRI_MED, NULL);
+	memcpy(back, "bytes elsewhere", 15);
+	mp->b_wptr += 15;
+	put(str_queue(head, 1) + 1, mp);
+	CHECK((mp = str_getmsg(head)) != NULL && MBLKL(mp) == 15 && mp->b_rptr != back && memcmp(mp->b_rptr, "bytes elsewhere", 15) == 0);
+	freemsg(mp);
 	CHECK(str_close(head) == 0 && str_fini() == 0);
 }
 
@@ -278,6 +318,34 @@ static void test_queue(void)
 	CHECK(str_close(head) == 0 && str_fini() == 0);
 }
 
+static int resting_fails, resting_ran;
+
+static int resting_wsrv(queue_t *q)
+{
+	resting_ran++;
+	if (resting_fails && allocb(5000, BPRI_MED) == NULL)
+		qtimeout(q, note, "d", 1);
+	return 0;
+}
+
+/* A service procedure may leave messages: with a timeout if an allocb failed in it, or if none did, whatever failed before. */
+static void test_rest(void)
+{
+	static struct module_info minfo = { 6, "resting", 0, INFPSZ, 1024, 128 };
+	static struct qinit side = { .qi_putp = putq, .qi_srvp = resting_wsrv, .qi_minfo = &minfo };
+	static struct streamtab resting = { &side, &side, 0, 0 };
+	strhead_t *head;
+
+	CHECK(str_init(NULL) == 0 && str_open(&resting, 0, 0, &head) == 0);
+	resting_fails = 1;
+	CHECK(str_write(head, frame, 1) == 0 && str_run() == 1 && str_wait(1) == 1 && resting_ran == 1);
+	resting_fails = 0;
+	qenable(WR(str_queue(head, 1)));
+	CHECK(str_run() == 1 && resting_ran == 2);
+	flushq(WR(str_queue(head, 1)), FLUSHALL);
+	CHECK(str_close(head) == 0 && str_fini() == 0);
+}
+
 static void test_perimeter(void)
 {
 	strhead_t *head;
@@ -322,10 +390,12 @@ int main(int count, char **words)
 		return failed > 0;
 	}
 	test_messages();
+	test_full();
 	test_order();
 	test_flow();
 	test_many_queues();
 	test_queue();
+	test_rest();
 	test_perimeter();
 	test_copying();
 	printf("%d passed, %d failed\n", passed, failed);

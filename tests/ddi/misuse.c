@@ -10,7 +10,7 @@
 enum {
 	PASSES_FREED, FREES_TWICE, FREES_QUEUED, FREES_PASSED, PUTS_TWICE, CHANGES_SHARED_TYPE, SETS_REFERENCES, WRITES_PAST, FORGETS, IGNORES_FLOW_CONTROL,
 	LOSES_ENABLE, FORGETS_BUFCALL, PUTS_PRIORITY_BACK, READS_FREED, FREES_OTHER_MEMORY, LEAVES_TIMEOUT, ENTERS_TWICE, RELINKS_QUEUED, FREES_OTHER_SIZE,
-	REMOVES_OTHER, LINKS_TO_ITSELF, WAYS
+	REMOVES_OTHER, LINKS_TO_ITSELF, LINKS_QUEUED, FREES_LINKED, LINKS_A_RING, LEAVES_ARGUMENT, WAYS
 };
 static const char *const ways[WAYS] = {
 	"putnext: the message block is free", "freemsg: the message block is free", "freemsg: the message is on a queue, of echo write",
@@ -22,7 +22,9 @@ static const char *const ways[WAYS] = {
 	"allocb: it failed, and the service procedure left messages without a bufcall, a timeout or a qenable",
 	"putbq: a service procedure that puts high priority back is enabled for ever", "a fault in faulty write put", "is no message block",
 	"timeout: it waits, and faulty is closed", "mutex_enter: the mutex is held since", "getq: b_cont was changed while the message was on a queue",
-	"kmem_free: 16 bytes are freed, and 8 were allocated", "rmvq: the message is not on the queue", "linkb: the message is linked to itself"
+	"kmem_free: 16 bytes are freed, and 8 were allocated", "rmvq: the message is not on the queue", "linkb: the message is linked to itself",
+	"getq: b_cont was changed while the message was on a queue", "putq: the message block is free",
+	"putq: b_cont leads to a block of the message", "timeout: it waits, and faulty is closed"
 };
 
 static int way;
@@ -99,7 +101,11 @@ static int faulty_wput(queue_t *q, mblk_t *mp)
 		freeb(&own);
 		break;
 	case LEAVES_TIMEOUT:
-		qtimeout(q, tick, q, 10);
+		qtimeout(q, tick, NULL, 10);
+		freemsg(mp);
+		break;
+	case LEAVES_ARGUMENT:
+		timeout(tick, q, 10);
 		freemsg(mp);
 		break;
 	case ENTERS_TWICE:
@@ -114,6 +120,26 @@ static int faulty_wput(queue_t *q, mblk_t *mp)
 		putq(q, mp);
 		mp->b_cont = NULL;
 		getq(q);
+		freemsg(mp);
+		break;
+	case LINKS_QUEUED:
+		copy = allocb(8, BPRI_MED);
+		noenable(q);
+		putq(q, mp);
+		mp->b_cont = copy;
+		freemsg(getq(q));
+		freemsg(copy);
+		break;
+	case FREES_LINKED:
+		linkb(mp, copymsg(mp));
+		freeb(mp->b_cont);
+		putnext(q, mp);
+		break;
+	case LINKS_A_RING:
+		linkb(mp, copymsg(mp));
+		mp->b_cont->b_cont = mp;
+		putq(q, mp);
+		mp->b_cont->b_cont = NULL;
 		freemsg(mp);
 		break;
 	case FREES_OTHER_SIZE:
