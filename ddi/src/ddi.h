@@ -149,7 +149,7 @@ int ddi_open_pool(void);
 int ddi_open(const struct strm_config *config);
 void ddi_close(void);
 RARE struct block *ddi_examined(mblk_t *mp, const char *routine);
-RARE struct block *ddi_settled(struct block *b, struct pool *pool, const char *routine);
+struct block *ddi_settled(struct block *b, struct pool *pool, const char *routine);
 int ddi_join_next(struct block *first, mblk_t *bp, const char *routine);
 void ddi_part_all(struct block *first, const char *routine);
 void ddi_free(struct block *b);
