@@ -94,22 +94,24 @@ static int with_rest(int code, struct strm_msg *rest)
 	return code;
 }
 
-/* Whether a pointer and a length can be an array of items of this size. */
-static int is_array(const void *items, size_t length, size_t size)
+/* Where items of this size are, or null if a pointer and a length can be no array of these. */
+static void *array_of(const void *items, size_t length, size_t size)
 {
-	return length <= MOST_LENGTH / size && (items != NULL || length == 0);
+	if (length == 0)
+		return &nothing;
+	return length <= MOST_LENGTH / size ? (void *)items : NULL;
 }
 
-/* Whether a pointer and a length can be a buffer. */
-static int is_buffer(const void *bytes, size_t length)
+/* The same of the bytes of a buffer. */
+static void *buffer_of(const void *bytes, size_t length)
 {
-	return is_array(bytes, length, 1);
+	return array_of(bytes, length, 1);
 }
 
-/* Whether a count can be stored at this place beside results in an array. */
-static int is_count(const size_t *count, const void *items, size_t length)
+/* Whether there is an array, and a count can be stored at this place beside results there. */
+static int is_counted(const void *array, const size_t *count)
 {
-	return count != NULL && (length == 0 || items != (const void *)count);
+	return array != NULL && count != NULL && array != (const void *)count;
 }
 
 /* Sets the count of a call on several messages to 0, which it stays unless the crate counts. Returns whether there is a place for it. */
@@ -120,22 +122,21 @@ static int is_zeroed(size_t *count)
 	return count != NULL;
 }
 
-/* Whether a configuration has arrays of no more classes and queues than a pool can have. */
-static int is_config(const struct strm_config *config)
-{
-	return config != NULL && config->class_count <= STRM_MOST_CLASSES && config->queue_count <= STRM_MOST_QUEUES
-		&& is_array(config->classes, config->class_count, sizeof *config->classes)
-		&& is_array(config->queues, config->queue_count, sizeof *config->queues);
-}
-
 static const struct strm_class_spec *classes_of(const struct strm_config *config)
 {
-	return config->class_count == 0 ? &nothing.class_spec : config->classes;
+	return array_of(config->classes, config->class_count, sizeof *config->classes);
 }
 
 static const struct strm_queue_spec *queues_of(const struct strm_config *config)
 {
-	return config->queue_count == 0 ? &nothing.queue_spec : config->queues;
+	return array_of(config->queues, config->queue_count, sizeof *config->queues);
+}
+
+/* Whether a configuration has arrays of no more classes and queues than a pool can have. */
+static int is_config(const struct strm_config *config)
+{
+	return config != NULL && config->class_count <= STRM_MOST_CLASSES && config->queue_count <= STRM_MOST_QUEUES
+		&& classes_of(config) != NULL && queues_of(config) != NULL;
 }
 
 /* Puts a 0 after what was copied of a text, or over the last byte of a full buffer. Returns the length of the whole text. */
@@ -225,18 +226,20 @@ int strm_unlinkb(struct strm_pool *pool, struct strm_msg msg, struct strm_msg *r
 
 int strm_write(struct strm_pool *pool, struct strm_msg msg, uint32_t place, const void *bytes, size_t length)
 {
-	if (pool == NULL || !is_buffer(bytes, length))
+	bytes = buffer_of(bytes, length);
+	if (pool == NULL || bytes == NULL)
 		return fault_of(pool);
-	return strm_c_write(pool, msg, place, length == 0 ? &nothing.byte : (const uint8_t *)bytes, length);
+	return strm_c_write(pool, msg, place, bytes, length);
 }
 
 int strm_read(const struct strm_pool *pool, struct strm_msg msg, uint32_t at, void *into, size_t length, size_t *count)
 {
 	struct strm_reader reader;
 
-	if (!is_reader(&reader, pool) || !is_buffer(into, length) || !is_count(count, into, length))
+	into = buffer_of(into, length);
+	if (!is_reader(&reader, pool) || !is_counted(into, count))
 		return fault_of(pool);
-	return strm_c_read(&reader, msg, at, length == 0 ? &nothing.byte : (uint8_t *)into, length, count);
+	return strm_c_read(&reader, msg, at, into, length, count);
 }
 
 int strm_blocks(const struct strm_pool *pool, struct strm_msg msg, uint32_t from, struct strm_block_info *into, size_t length,
@@ -244,9 +247,10 @@ int strm_blocks(const struct strm_pool *pool, struct strm_msg msg, uint32_t from
 {
 	struct strm_reader reader;
 
-	if (!is_reader(&reader, pool) || !is_array(into, length, sizeof *into) || !is_count(count, into, length))
+	into = array_of(into, length, sizeof *into);
+	if (!is_reader(&reader, pool) || !is_counted(into, count))
 		return fault_of(pool);
-	return strm_c_blocks(&reader, msg, from, length == 0 ? &nothing.block : into, length, count);
+	return strm_c_blocks(&reader, msg, from, into, length, count);
 }
 
 int strm_iov(const struct strm_pool *pool, struct strm_msg msg, uint32_t from, struct strm_iov *into, size_t length,
@@ -254,39 +258,44 @@ int strm_iov(const struct strm_pool *pool, struct strm_msg msg, uint32_t from, s
 {
 	struct strm_reader reader;
 
-	if (!is_reader(&reader, pool) || !is_array(into, length, sizeof *into) || !is_count(count, into, length))
+	into = array_of(into, length, sizeof *into);
+	if (!is_reader(&reader, pool) || !is_counted(into, count))
 		return fault_of(pool);
-	return strm_c_iov(&reader, msg, from, length == 0 ? &nothing.iov : into, length, count);
+	return strm_c_iov(&reader, msg, from, into, length, count);
 }
 
 int strm_queued_iov(const struct strm_pool *pool, uint32_t head, uint32_t from, struct strm_iov *into, size_t length, size_t *count)
 {
 	struct strm_reader reader;
 
-	if (!is_reader(&reader, pool) || !is_array(into, length, sizeof *into) || !is_count(count, into, length))
+	into = array_of(into, length, sizeof *into);
+	if (!is_reader(&reader, pool) || !is_counted(into, count))
 		return fault_of(pool);
-	return strm_c_queued_iov(&reader, head, from, length == 0 ? &nothing.iov : into, length, count);
+	return strm_c_queued_iov(&reader, head, from, into, length, count);
 }
 
 int strm_overwrite(struct strm_pool *pool, struct strm_msg msg, uint32_t at, const void *bytes, size_t length)
 {
-	if (pool == NULL || !is_buffer(bytes, length))
+	bytes = buffer_of(bytes, length);
+	if (pool == NULL || bytes == NULL)
 		return fault_of(pool);
-	return strm_c_overwrite(pool, msg, at, length == 0 ? &nothing.byte : (const uint8_t *)bytes, length);
+	return strm_c_overwrite(pool, msg, at, bytes, length);
 }
 
 int strm_prepend(struct strm_pool *pool, struct strm_msg msg, const void *bytes, size_t length)
 {
-	if (pool == NULL || !is_buffer(bytes, length))
+	bytes = buffer_of(bytes, length);
+	if (pool == NULL || bytes == NULL)
 		return fault_of(pool);
-	return strm_c_prepend(pool, msg, length == 0 ? &nothing.byte : (const uint8_t *)bytes, length);
+	return strm_c_prepend(pool, msg, bytes, length);
 }
 
 int strm_shape_all(struct strm_pool *pool, struct strm_msg msg, const struct strm_block_shape *shapes, size_t length)
 {
-	if (pool == NULL || !is_array(shapes, length, sizeof *shapes))
+	shapes = array_of(shapes, length, sizeof *shapes);
+	if (pool == NULL || shapes == NULL)
 		return fault_of(pool);
-	return strm_c_shape_all(pool, msg, length == 0 ? &nothing.shape : shapes, length);
+	return strm_c_shape_all(pool, msg, shapes, length);
 }
 
 int strm_transfer(struct strm_pool *pool, struct strm_pool *other, struct strm_msg msg, struct strm_msg *moved)
@@ -301,52 +310,59 @@ int strm_read_queued(const struct strm_pool *pool, uint32_t queue, uint32_t plac
 {
 	struct strm_reader reader;
 
-	if (!is_reader(&reader, pool) || !is_buffer(into, length) || !is_count(count, into, length))
+	into = buffer_of(into, length);
+	if (!is_reader(&reader, pool) || !is_counted(into, count))
 		return fault_of(pool);
-	return strm_c_read_queued(&reader, queue, place, at, length == 0 ? &nothing.byte : (uint8_t *)into, length, count);
+	return strm_c_read_queued(&reader, queue, place, at, into, length, count);
 }
 
 int strm_allocb_n(struct strm_pool *pool, uint32_t size, struct strm_msg *msgs, size_t length, size_t *count)
 {
-	if (!is_zeroed(count) || pool == NULL || !is_array(msgs, length, sizeof *msgs) || !is_count(count, msgs, length))
+	msgs = array_of(msgs, length, sizeof *msgs);
+	if (!is_zeroed(count) || pool == NULL || !is_counted(msgs, count))
 		return fault_of(pool);
-	return strm_c_allocb_n(pool, size, length == 0 ? &nothing.msg : msgs, length, count);
+	return strm_c_allocb_n(pool, size, msgs, length, count);
 }
 
 int strm_freemsg_n(struct strm_pool *pool, const struct strm_msg *msgs, size_t length, size_t *count)
 {
-	if (!is_zeroed(count) || pool == NULL || !is_array(msgs, length, sizeof *msgs))
+	msgs = array_of(msgs, length, sizeof *msgs);
+	if (!is_zeroed(count) || pool == NULL || msgs == NULL)
 		return fault_of(pool);
-	return strm_c_freemsg_n(pool, length == 0 ? &nothing.msg : msgs, length, count);
+	return strm_c_freemsg_n(pool, msgs, length, count);
 }
 
 int strm_putq_n(struct strm_pool *pool, uint32_t queue, const struct strm_msg *msgs, size_t length, size_t *count)
 {
-	if (!is_zeroed(count) || pool == NULL || !is_array(msgs, length, sizeof *msgs))
+	msgs = array_of(msgs, length, sizeof *msgs);
+	if (!is_zeroed(count) || pool == NULL || msgs == NULL)
 		return fault_of(pool);
-	return strm_c_putq_n(pool, queue, length == 0 ? &nothing.msg : msgs, length, count);
+	return strm_c_putq_n(pool, queue, msgs, length, count);
 }
 
 int strm_getq_n(struct strm_pool *pool, uint32_t queue, struct strm_msg *msgs, size_t length, size_t *count)
 {
-	if (!is_zeroed(count) || pool == NULL || !is_array(msgs, length, sizeof *msgs) || !is_count(count, msgs, length))
+	msgs = array_of(msgs, length, sizeof *msgs);
+	if (!is_zeroed(count) || pool == NULL || !is_counted(msgs, count))
 		return fault_of(pool);
-	return strm_c_getq_n(pool, queue, length == 0 ? &nothing.msg : msgs, length, count);
+	return strm_c_getq_n(pool, queue, msgs, length, count);
 }
 
 int strm_takeq(struct strm_pool *pool, uint32_t queue, uint32_t flush, struct strm_msg *msgs, size_t length, size_t *count)
 {
-	if (!is_zeroed(count) || pool == NULL || !is_array(msgs, length, sizeof *msgs) || !is_count(count, msgs, length))
+	msgs = array_of(msgs, length, sizeof *msgs);
+	if (!is_zeroed(count) || pool == NULL || !is_counted(msgs, count))
 		return fault_of(pool);
-	return strm_c_takeq(pool, queue, flush, length == 0 ? &nothing.msg : msgs, length, count);
+	return strm_c_takeq(pool, queue, flush, msgs, length, count);
 }
 
 int strm_takeq_band(struct strm_pool *pool, uint32_t queue, uint32_t band, uint32_t flush, struct strm_msg *msgs, size_t length,
 	size_t *count)
 {
-	if (!is_zeroed(count) || pool == NULL || !is_array(msgs, length, sizeof *msgs) || !is_count(count, msgs, length))
+	msgs = array_of(msgs, length, sizeof *msgs);
+	if (!is_zeroed(count) || pool == NULL || !is_counted(msgs, count))
 		return fault_of(pool);
-	return strm_c_takeq_band(pool, queue, band, flush, length == 0 ? &nothing.msg : msgs, length, count);
+	return strm_c_takeq_band(pool, queue, band, flush, msgs, length, count);
 }
 
 int strm_same_msg(struct strm_msg a, struct strm_msg b)
@@ -371,21 +387,24 @@ const char *strm_error(int code)
 
 size_t strm_text(int code, char *text, size_t length)
 {
-	if (!is_buffer(text, length))
+	text = buffer_of(text, length);
+	if (text == NULL)
 		return 0;
-	return ended(text, length, strm_c_text(code, length == 0 ? &nothing.byte : (uint8_t *)text, length));
+	return ended(text, length, strm_c_text(code, (uint8_t *)text, length));
 }
 
 size_t strm_name(int code, char *text, size_t length)
 {
-	if (!is_buffer(text, length))
+	text = buffer_of(text, length);
+	if (text == NULL)
 		return 0;
-	return ended(text, length, strm_c_name(code, length == 0 ? &nothing.byte : (uint8_t *)text, length));
+	return ended(text, length, strm_c_name(code, (uint8_t *)text, length));
 }
 
 size_t strm_version(char *text, size_t length)
 {
-	if (!is_buffer(text, length))
+	text = buffer_of(text, length);
+	if (text == NULL)
 		return 0;
-	return ended(text, length, strm_c_version(length == 0 ? &nothing.byte : (uint8_t *)text, length));
+	return ended(text, length, strm_c_version((uint8_t *)text, length));
 }
