@@ -114,7 +114,7 @@ edits:
 lint:
 	@tests/lint
 
-# Has workers execute random scripts for SECONDS, and checks what they print. The plain model replays it. By default it takes a minute.
+# Has workers execute random scripts, and checks what they print. The plain model replays it. It takes SECONDS, by default a minute.
 soak: $(BUILT)
 	@tests/merges --seconds $(or $(SECONDS),60) $(BUILT)
 
