@@ -35,6 +35,14 @@ has() {
     return 1
 }
 
+# Whether gcc links a program with the sanitizers $1. If not, says that the script leaves out $2.
+sanitizes() {
+    echo 'int main(void) { return 0; }' >"$room/empty.c"
+    gcc "-fsanitize=$1" "$room/empty.c" -o "$room/empty" 2>/dev/null && return
+    not_run "$2" "gcc links nothing with -fsanitize=$1 (Debian package libgcc-$(gcc -dumpversion)-dev)"
+    return 1
+}
+
 # Whether the sums in the file $2 are those of the files below the folder $1, and whether each file but PROOF has one.
 has_sums() {
     grep -E '^[0-9a-f]{64} ' "$2" >"$room/sums" && (cd "$1" && sha256sum --check --quiet "$room/sums") &&
