@@ -101,6 +101,16 @@ module _ (so : Bool) (q : ℕ) (s : QueueState) where
 pub agrees_enabled : (v : QueuesValue) (a : Arena) (so : Bool) (q : ℕ) → Agrees v a → Agrees (record v { state = enabled_where so q v.state }) a
 agrees_enabled v a so q = grind (arith, common_steps, enabled_alone, agrees_state)
 
+-- queues still agree once a message joined one, which may be enabled
+pub agrees_put : (v w : QueuesValue) (a b : Arena) (agrees : Agrees v a) (q : ℕ) (within : q < length v.state.specs) (before : Option ℕ) (m : Message) → w.state ≡ v.state → AreInOrder w b → b.store ≡ a.store
+    → b.shelves ≡ set a.shelves q (put_before_head head_of before m (shelf_at a q)) → (so : Bool) → Agrees (record w { state = enabled_where so q w.state }) b
+agrees_put v w a b agrees q within before m state in_order store shelves so =
+    agrees_enabled w b so q
+    (record {
+      in_order = in_order;
+      marks = λ p. subst (λ s. AreMarksLawful s b p) (sym state) (marks_put v a agrees q within before m b store shelves p);
+    })
+
 -- the want-to-read and no-enable marks do not touch wanted marks
 wanted_kept : (ms : List Flags) (q : ℕ) (m : Flags) → m.wanted ≡ (get_or ms q opening_flags).wanted → (p : ℕ) → (get_or (set ms q m) p opening_flags).wanted ≡ (get_or ms p opening_flags).wanted
 wanted_kept [] q m is p = refl

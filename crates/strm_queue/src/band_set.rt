@@ -113,32 +113,7 @@ impl BandSet {
         self.at_least(band.checked_add(1)?)
     }
 
-    // Whether the set has no band.
-    #[inline(always)]
-    fn is_empty(&self) -> bool
-        ensures { result ≡ true → (band : ℕ) → has_band self.now band ≡ false }
-    {
-        self.words[0] | self.words[1] | self.words[2] | self.words[3] == 0
-    }
-
     // Removes each band that has drained: it has at most as many bytes as its low water mark. Says whether there was any.
-    // Most sets are empty, for which no loop runs.
-    #[inline(always)]
-    pub(crate) fn relieve(&mut self, counts: &[u32; BANDS], marks: &[Marks; BANDS]) -> bool
-        ensures left { self.new ≡ still_wanted self.old (λ band. slice_index_or counts.now band 0)
-            (λ band. (slice_index_or marks.now band no_marks).lowat) }
-        ensures some { result ≡ some_relieved self.old (λ band. slice_index_or counts.now band 0)
-            (λ band. (slice_index_or marks.now band no_marks).lowat) }
-    {
-        self.lawful();
-        if self.is_empty() {
-            return false;
-        }
-        self.relieve_each(counts, marks)
-    }
-
-    // Does what `relieve` does, by a loop over the bands of the set.
-    #[inline(never)]
     fn relieve_each(&mut self, counts: &[u32; BANDS], marks: &[Marks; BANDS]) -> bool
         ensures left { self.new ≡ still_wanted self.old (λ band. slice_index_or counts.now band 0)
             (λ band. (slice_index_or marks.now band no_marks).lowat) }
@@ -171,6 +146,80 @@ impl BandSet {
         ensures { length self.now ≡ bands }
     {
         self.lawful();
+    }
+}
+
+// The wanted bands of a queue, and whether there may be any. Most queues have none, and then `relieve` runs no loop.
+#[derive(Debug, Drop)]
+pub(crate) struct Wanted {
+    set: BandSet,
+    any: bool,
+}
+
+impl Model for Wanted {
+    ghost use Rattle.std.specs.Prelude.{◌≡◌, ℕ, false, Bool, List};
+    ghost use Rattle.strm_queue.specs.Flow.{has_band};
+
+    ghost Value = { List Bool };
+
+    ghost view = { λ w. w.set };
+
+    ghost invariant = { λ w. w.any ≡ false → (band : ℕ) → has_band w.set band ≡ false };
+}
+
+impl Wanted {
+    // No band is wanted.
+    #[tactic(auto, using(crate::proofs::bands::Bands::none_where))]
+    pub(crate) fn new() -> Wanted
+        ensures { result ≡ bands_where (λ band. false) }
+    {
+        Wanted {
+            set: BandSet::new(),
+            any: false,
+        }
+    }
+
+    // Whether a band is wanted.
+    pub(crate) fn has(&self, band: u8) -> bool
+        ensures { result ≡ has_band self.now band }
+    {
+        self.set.has(band)
+    }
+
+    // Adds a band.
+    pub(crate) fn insert(&mut self, band: u8)
+        ensures { self.new ≡ slice_set self.old band true }
+    {
+        self.set.insert(band);
+        self.any = true;
+    }
+
+    // Removes each band that has drained, as `BandSet::relieve_each` does. Says whether there was any.
+    #[inline(always)]
+    pub(crate) fn relieve(&mut self, counts: &[u32; BANDS], marks: &[Marks; BANDS]) -> bool
+        ensures left { self.new ≡ still_wanted self.old (λ band. slice_index_or counts.now band 0)
+            (λ band. (slice_index_or marks.now band no_marks).lowat) }
+        ensures some { result ≡ some_relieved self.old (λ band. slice_index_or counts.now band 0)
+            (λ band. (slice_index_or marks.now band no_marks).lowat) }
+    {
+        self.set.lawful();
+        if !self.any {
+            return false;
+        }
+        self.relieve_some(counts, marks)
+    }
+
+    // Does what `relieve` does, and notes whether a band is left.
+    #[inline(never)]
+    fn relieve_some(&mut self, counts: &[u32; BANDS], marks: &[Marks; BANDS]) -> bool
+        ensures left { self.new ≡ still_wanted self.old (λ band. slice_index_or counts.now band 0)
+            (λ band. (slice_index_or marks.now band no_marks).lowat) }
+        ensures some { result ≡ some_relieved self.old (λ band. slice_index_or counts.now band 0)
+            (λ band. (slice_index_or marks.now band no_marks).lowat) }
+    {
+        let some = self.set.relieve_each(counts, marks);
+        self.any = self.set.at_least(0).is_some();
+        some
     }
 }
 

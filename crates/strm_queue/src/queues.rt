@@ -26,7 +26,7 @@ mod settling;
 mod shelving;
 mod taking;
 
-use crate::band_set::BandSet;
+use crate::band_set::Wanted;
 use crate::mark_table::MarkTable;
 use crate::marks::Marks;
 use crate::queue_spec::QueueSpec;
@@ -71,7 +71,7 @@ struct Queue {
     // The flags: want to read, no enabling, and the wanted bands.
     read: bool,
     noenable: bool,
-    wanted: BandSet,
+    wanted: Wanted,
 }
 
 impl Model for Queues {
@@ -100,7 +100,7 @@ impl Queue {
             }),
             read: true,
             noenable: false,
-            wanted: BandSet::new(),
+            wanted: Wanted::new(),
         }
     }
 }

@@ -203,13 +203,18 @@ impl Tally {
             behind,
         } = placed;
         let band = band_of(rank);
-        let first = first_before_leaving(self.firsts[usize::from(rank)], ahead, head);
-        let last = self.lasts[usize::from(rank)];
-        let next_first = end_after_leaving(first, last, behind, head);
-        let next_last = end_after_leaving(last, first, ahead, head);
         self.len -= 1;
         self.bytes -= size;
         self.shrink(hiwat, band, size);
+        let last = self.lasts[usize::from(rank)];
+        // Most messages are the queue's first, and not the last of their rank. Then the next one is of the same rank.
+        if ahead.is_none() && behind.is_some() && !last.is(head) {
+            self.set_ends(rank, Slot::of(behind), last, true);
+            return;
+        }
+        let first = first_before_leaving(self.firsts[usize::from(rank)], ahead, head);
+        let next_first = end_after_leaving(first, last, behind, head);
+        let next_last = end_after_leaving(last, first, ahead, head);
         self.set_ends(rank, next_first, next_last, next_first.get().is_some());
     }
 

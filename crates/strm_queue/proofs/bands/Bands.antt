@@ -1,15 +1,13 @@
 -- Sets of bands: lists of marks, one for each band.
-use Rattle.std.proofs.Common.{◌≡◌, ℕ, ◌+◌, ◌*◌, ◌/◌, ◌%◌, ◌<◌, ◌≤◌, Bool, true, false, not, ◌&&◌, ◌||◌, ◌==◌, List, [], ◌∷◌, length, map, get_or, Option, None, Some, refl, sym, ap, ◌∙◌, arith, if◌then◌else◌}
+use Rattle.std.proofs.Common.{◌≡◌, ℕ, ◌+◌, ◌*◌, ◌/◌, ◌%◌, ◌<◌, ◌≤◌, Bool, true, false, not, ◌&&◌, ◌||◌, ◌==◌, List, [], ◌∷◌, length, map, get_or, Option, None, Some, inl, inr, refl, sym, ap, ◌∙◌, arith, if◌then◌else◌}
 use Rattle.std.specs.Int.{bit_at}
-use Rattle.std.specs.Int.Bits.{bit_or}
-use Rattle.std.specs.Prelude.{max, nat_lt, slice_index_or, slice_set}
+use Rattle.std.specs.Prelude.{nat_lt, slice_index_or, slice_set}
 use Rattle.std.specs.List.{list_any, range_with_len}
 use Rattle.std.specs.Option.{IfNone, IfSome, unwrap_or}
-use Rattle.std.proofs.lemmas.Bool.{cases_lt, eqb-true, le-ltb, lt-ltb, true≢false}
+use Rattle.std.proofs.lemmas.Bool.{cases_lt, le-ltb, lt-ltb, true≢false}
 use Rattle.std.proofs.lemmas.List.{ext_get_or, get_or-map, get_or_past, length-map, length-set}
 use Rattle.std.proofs.lemmas.Bool.Decides.{nat_tests}
 use Rattle.std.proofs.lemmas.Grind.{common_steps}
-use Rattle.std.proofs.lemmas.Nat.Bits.{bit_at-zero, bit_at_or}
 use Rattle.std.proofs.lemmas.List.Folds.{list_any_at, list_any_none}
 use Rattle.std.proofs.lemmas.List.FromFn.{get_or-range_with_len, length-range_with_len}
 use Rattle.strm_queue.specs.BandSets.{IsFirstFrom, IsHighestTo, IsLastTo, IsLowestFrom, is_in}
@@ -47,6 +45,10 @@ unmarked_past ms long band past = get_or_past ms band false (omega (arith, past,
 
 pub wanted_past : (p : ℕ → Bool) (band : ℕ) → bands ≤ band → has_band (bands_where p) band ≡ false
 wanted_past p = unmarked_past (bands_where p) (length-bands_where p)
+
+-- the set without bands has none
+pub none_where : (band : ℕ) → has_band (bands_where (λ x. false)) band ≡ false
+none_where band = elim (cases_lt band bands) [ inl below ↦ has_band_where (λ x. false) band below | inr past ↦ wanted_past (λ x. false) band past ]
 
 -- so one that is marked is a band
 wanted_below : (ms : List Bool) → length ms ≡ length every_band → (band : ℕ) → has_band ms band ≡ true → band < bands
@@ -124,24 +126,6 @@ module _ (words : List ℕ) where
   -- the marks of these bands are false
   pub none_marked : (from to : ℕ) → AreNone from to → (band : ℕ) → from ≤ band → (band < bands → band < to) → has_band (bands_where (bit_in words)) band ≡ false
   none_marked from to none band above below = grind (arith, common_steps, cases_lt, has_band_where, wanted_past)
-
-  -- words that together have no bit are those of the set without bands
-  module _ (none : bit_or (bit_or (bit_or (slice_index_or words 0 0) (slice_index_or words 1 0)) (slice_index_or words 2 0)) (slice_index_or words 3 0) == 0 ≡ true) where
-    no_bit : (i : ℕ) → max (max (max (bit_at (slice_index_or words 0 0) i) (bit_at (slice_index_or words 1 0) i)) (bit_at (slice_index_or words 2 0) i)) (bit_at (slice_index_or words 3 0) i) ≡ 0
-    no_bit i = grind (arith, common_steps, bit_at_or, bit_at-zero i, ap (λ n. bit_at n i) zero)
-      where
-        zero : bit_or (bit_or (bit_or (slice_index_or words 0 0) (slice_index_or words 1 0)) (slice_index_or words 2 0)) (slice_index_or words 3 0) ≡ 0
-        zero = eqb-true _ _ none
-
-    none_in : AreNone 0 256
-    none_in =
-        none_over 0 192 256
-        (none_over 0 128 192 (none_over 0 64 128 (none_of_word 0 0 64 (omega arith) (λ i from below. omega (arith, no_bit i))) (none_of_word 1 0 64 (omega arith) (λ i from below. omega (arith, no_bit i))))
-        (none_of_word 2 0 64 (omega arith) (λ i from below. omega (arith, no_bit i))))
-        (none_of_word 3 0 64 (omega arith) (λ i from below. omega (arith, no_bit i)))
-
-    pub none_of_words : (band : ℕ) → has_band (bands_where (bit_in words)) band ≡ false
-    none_of_words band = none_marked 0 256 none_in band (omega arith) (λ below. below)
 
   module _ (word : ℕ) (low : word < 4) where
     -- a bit that is 1

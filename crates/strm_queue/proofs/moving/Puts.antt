@@ -1,5 +1,5 @@
 -- What the calls that put a message on a queue do, by the model.
-use Rattle.std.proofs.Common.{◌≡◌, ℕ, ◌≤◌, Bool, true, false, List, length, map, take, drop, Option, None, Result, Ok, Err, refl, sym, ap, ◌∙◌, subst, if◌then◌else◌, ◌≢◌, suc, ◌<◌, [], ◌∷◌, Some, arith, length-append}
+use Rattle.std.proofs.Common.{◌≡◌, ℕ, ◌≤◌, Bool, true, false, List, length, take, drop, Option, None, Result, Ok, Err, refl, sym, ap, ◌∙◌, subst, if◌then◌else◌, ◌≢◌, suc, ◌<◌, [], ◌∷◌, Some, arith, length-append}
 use Rattle.std.proofs.lemmas.Grind.{common_steps}
 use Rattle.std.specs.Prelude.{nat_lt, ok_or, slice_get}
 use Rattle.std.proofs.lemmas.Bool.{cond-true, cond-false}
@@ -38,6 +38,10 @@ module _ (v : QueuesValue) (a : Arena) (q h : ℕ) (there : nat_lt q (length v.s
   -- the queue has these messages, and is enabled if `so` is true
   abbrev put : Bool → List Message → QueuedBlocks
   put so ms = with_state (enabled_where so q) (with_put q h ms both)
+
+  -- what is left once the message joined the queue, which may be enabled
+  pub put_together : (w x : QueuesValue) (b : Arena) (so : Bool) (ms : List Message) → w.state ≡ v.state → b ≡ with_shelf q ms (without_held h a) → x ≡ record w { state = enabled_where so q w.state } → queued_blocks x b ≡ put so ms
+  put_together w x b so ms state arena is = ap (λ (y : QueuesValue). queued_blocks y b) is ∙ (λ i. record { queues = enabled_where so q (state i); arena = arena i })
 
   -- `putq` puts the message after its equals
   pub putq_after : (so : Bool) (ms : List Message) → so ≡ enables_put (flags_of both q) (rank_put h both) → ms ≡ put_behind (rank_of a.store) m (shelf_at a q) → put so ms ≡ value_after both (putq q h both)

@@ -96,7 +96,7 @@ impl Queues {
         requires { queue < length self.now.state.specs }
         ensures { result ≡ flow.enables_put (flags_at self.now.state queue) rank }
     {
-        rank == HIGH_RANK || !self.is_off(queue) && (self.is_read(queue) || rank > 0)
+        (rank > 0 || self.is_read(queue)) && (rank == HIGH_RANK || !self.is_off(queue))
     }
 
     // Whether `putbq` of a message of this rank enables the queue.

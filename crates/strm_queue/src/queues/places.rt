@@ -136,11 +136,29 @@ pub(super) fn fits_before(blocks: &Blocks, queue: u8, before: Option<BlockNo>, r
 }
 
 impl Queues {
-    // Where `putq` puts a message of this rank: the head of the message that comes after it, or none for the end. That is
-    // the one after the last message of the smallest rank, this or above, that has messages, or else the queue's first
-    // message. An empty queue needs no search.
+    // Where `putq` puts a message of this rank: the head of the message that comes after it, or none for the end. If the
+    // rank has messages, that is the one after its last message.
     #[inline(always)]
     pub(super) fn place_behind(&self, blocks: &Blocks, queue: u8, rank: u16) -> Slot
+        requires queue { queue < length self.now.state.specs }
+        requires rank { rank < ranks }
+        requires in_order { AreInOrder self.now blocks.now }
+        ensures there { ForSome result (λ head. IsTrue (is_on blocks.now queue head)) }
+        ensures place { (m : Message) → rank_of blocks.now.store m ≡ rank
+            → put_before_head head_of result m (shelf_at blocks.now queue)
+            ≡ put_behind (rank_of blocks.now.store) m (shelf_at blocks.now queue) }
+    {
+        blocks.lawful();
+        if let Some(last) = self.tally(queue).last(rank).get() {
+            return Slot::of(blocks.after(last));
+        }
+        self.place_above(blocks, queue, rank)
+    }
+
+    // Does what `place_behind` does, for any rank: finds the message after the last one of the smallest rank, this or above,
+    // that has messages, or else the queue's first message. An empty queue needs no search.
+    #[inline(always)]
+    fn place_above(&self, blocks: &Blocks, queue: u8, rank: u16) -> Slot
         requires queue { queue < length self.now.state.specs }
         requires rank { rank < ranks }
         requires in_order { AreInOrder self.now blocks.now }

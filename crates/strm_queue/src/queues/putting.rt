@@ -1,15 +1,14 @@
 //! `putq`, `putbq`, `insq` and `insq_before`: held messages join a queue.
 ghost use Rattle.std.specs.Prelude.{◌≡◌, ◌<◌, ◌≤◌, ℕ, IsTrue, None, Ok, Some, length, slice_get};
 ghost use Rattle.std.specs.Option.{ForSome};
-ghost use Rattle.strm_mblk.specs.Arena.{has, shelf_at};
+ghost use Rattle.strm_mblk.specs.Arena.{has, shelf_at, with_shelf, without_held};
 ghost use Rattle.strm_mblk.specs.Given.{given_nothing};
 ghost use Rattle.strm_mblk.specs.Shelves.{heads_at, is_on};
-ghost use Rattle.strm_mblk.specs.Calls.{Puts};
-ghost use Rattle.strm_queue.specs.Flow.{enabled_where};
+ghost use Rattle.strm_mblk.specs.Calls.{Puts, itself};
 ghost use Rattle.strm_queue.specs.HeadCalls as by_head;
 ghost use Rattle.strm_queue.specs.Joining.{IsRank, shelf_with};
 ghost use Rattle.strm_queue.specs.QueueCalls as model;
-ghost use Rattle.strm_queue.specs.QueuedBlocks.{Agrees, queued_blocks, arena};
+ghost use Rattle.strm_queue.specs.QueuedBlocks.{Agrees, AreInOrder, queued_blocks, arena};
 ghost use Rattle.strm_queue.specs.Rank.{is_ordered, rank_of};
 
 use super::Queues;
@@ -19,36 +18,33 @@ use strm_data::Refusal;
 use strm_mblk::{BlockNo, Blocks, Rejected, Token};
 
 impl Queues {
-    // Puts a message of this rank on a queue, as `shelve` does, and enables the queue if `enables` is true.
+    // Does what `shelve` does. Most messages go last. Each call is inlined, and the first one is then shorter.
     #[inline(always)]
-    fn put(
+    fn lay(
         &mut self,
         blocks: &mut Blocks,
         queue: u8,
         before: Option<BlockNo>,
         rank: u16,
         token: Token,
-        enables: bool,
     )
         requires queue { queue < length self.old.state.specs }
-        requires agrees { Agrees self.old blocks.old }
+        requires in_order { AreInOrder self.old blocks.old }
         requires had { IsTrue (has blocks.old token) }
         requires rank { IsRank blocks.old token rank }
         requires before { ForSome before (λ head. IsTrue (is_on blocks.old queue head)) }
         requires ordered { IsTrue (is_ordered (rank_of blocks.old.store)
             (shelf_with blocks.old queue before token.head)) }
-        ensures puts { Puts arena token (given_nothing (model.with_state (enabled_where enables queue)
-            (model.with_put queue token.head (shelf_with blocks.old queue before token.head)
-            (queued_blocks self.old blocks.old)))) (queued_blocks self.old blocks.old)
-            (queued_blocks self.new blocks.new) (Ok tt) }
-        ensures agrees { Agrees self.new blocks.new }
+        ensures puts { Puts itself token (given_nothing
+            (with_shelf queue (shelf_with blocks.old queue before token.head) (without_held token.head blocks.old)))
+            blocks.old blocks.new (Ok tt) }
+        ensures state { self.new.state ≡ self.old.state }
+        ensures in_order { AreInOrder self.new blocks.new }
     {
-        // Most messages go last. Each call is inlined, and the first one is then shorter.
         match before {
             None => self.shelve(blocks, queue, None, rank, token),
             Some(_) => self.shelve(blocks, queue, before, rank, token),
         }
-        self.enable_where(enables, queue);
     }
 
     // Puts a message of this rank on a queue that exists, as `putq` does.
@@ -62,9 +58,11 @@ impl Queues {
             (queued_blocks self.old blocks.old) (queued_blocks self.new blocks.new) (Ok tt) }
         ensures agrees { Agrees self.new blocks.new }
     {
+        // Whether the message enables the queue is asked last: then most messages need no more than the want-to-read mark.
         let before = self.place_behind(blocks, queue, rank).get();
+        self.lay(blocks, queue, before, rank, token);
         let enables = self.enables_put(queue, rank);
-        self.put(blocks, queue, before, rank, token, enables);
+        self.enable_where(enables, queue);
     }
 
     // Does what `put_ranked` does. It is not inlined, so that `putq` is shorter where no message has high priority.
@@ -133,8 +131,9 @@ impl Queues {
         }
         let rank = held_rank(blocks, &token);
         let before = self.place_ahead(blocks, queue, rank);
+        self.lay(blocks, queue, before, rank, token);
         let enables = self.enables_put_back(queue, rank);
-        self.put(blocks, queue, before, rank, token, enables);
+        self.enable_where(enables, queue);
         Ok(())
     }
 
@@ -233,8 +232,9 @@ impl Queues {
             let why = Refusal::BadOrder;
             return Err(Rejected { why, token });
         }
+        self.lay(blocks, queue, before, rank, token);
         let enables = self.enables_inserted(queue);
-        self.put(blocks, queue, before, rank, token, enables);
+        self.enable_where(enables, queue);
         Ok(())
     }
 }

@@ -1,6 +1,5 @@
-use Rattle.std.proofs.Common.{◌≡◌, ℕ, Option, None, Some, Err, true, false, length, refl, sym, ◌∙◌, subst}
+use Rattle.std.proofs.Common.{◌≡◌, ℕ, Option, None, Some, Err, refl, sym, ◌∙◌, subst}
 use Rattle.std.proofs.lemmas.Bool.{false≢true}
-use Rattle.std.specs.Prelude.{nat_lt}
 use Rattle.strm_data.specs.declared.refusal.Refusal.TheVariants.{NoSuchPlace}
 use Rattle.strm_mblk.specs.Calls.{Puts}
 use Rattle.strm_mblk.proofs.arena.Calls.{puts_none}

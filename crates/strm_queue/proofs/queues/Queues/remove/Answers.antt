@@ -1,10 +1,10 @@
-use Rattle.std.proofs.Common.{arith, ◌≡◌, Ok, true, length, ap, sym, ◌∙◌}
+use Rattle.std.proofs.Common.{arith, ◌≡◌, true, length, ap, sym, ◌∙◌}
 use Rattle.std.proofs.lemmas.Bool.{lt-ltb}
 use Rattle.std.proofs.lemmas.Grind.{common_steps}
 use Rattle.std.specs.Prelude.{nat_lt}
 use Rattle.strm_mblk.specs.Arena.{token_of}
 use Rattle.strm_mblk.specs.Given.{answer_map, answer_of}
-use Rattle.strm_queue.proofs.moving.Gets.{IsGot, got_others, rmvq_after, rmvq_given}
+use Rattle.strm_queue.proofs.moving.Gets.{IsGot, rmvq_after, rmvq_given}
 use Rattle.strm_queue.proofs.queues.Queues.remove.Goals as goal
 use Rattle.strm_queue.proofs.queues.Queues.remove.Goals.{After-unshelve-token}
 

@@ -1,4 +1,4 @@
-use Rattle.std.proofs.Common.{◌≡◌, ℕ, Ok, sym, ◌∙◌, subst, arith}
+use Rattle.std.proofs.Common.{◌≡◌, Ok, sym, ◌∙◌, subst, arith}
 use Rattle.strm_mblk.specs.Calls.{Takes}
 use Rattle.strm_mblk.proofs.arena.Calls.{takes_none}
 use Rattle.strm_queue.specs.QueueLooks.{queue_of}

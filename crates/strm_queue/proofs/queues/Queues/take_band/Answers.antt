@@ -1,4 +1,4 @@
-use Rattle.std.proofs.Common.{◌≡◌, Ok, length, ap, subst, sym, ◌∙◌}
+use Rattle.std.proofs.Common.{length, ap, subst, sym, ◌∙◌}
 use Rattle.std.proofs.lemmas.Bool.{cond-false, cond-true}
 use Rattle.strm_data.specs.declared.refusal.Refusal.TheVariants.{NoSuchQueue}
 use Rattle.strm_mblk.specs.Arena.{shelf_at}

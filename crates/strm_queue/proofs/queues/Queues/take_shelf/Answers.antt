@@ -1,4 +1,4 @@
-use Rattle.std.proofs.Common.{◌≡◌, ◌<◌, ◌+◌, ◌≤◌, ℕ, List, Bool, Option, ◌++◌, ◌∷◌, [], length, arith, ap, refl, subst, sym, ◌∙◌, true, inl, inr, append_assoc, length-append}
+use Rattle.std.proofs.Common.{◌≡◌, ◌<◌, ◌+◌, ℕ, List, Bool, Option, ◌++◌, ◌∷◌, [], length, arith, ap, refl, subst, sym, ◌∙◌, true, inl, inr, append_assoc, length-append}
 use Rattle.std.specs.Prelude.{filter, not}
 use Rattle.strm_links.specs.Rows.{after, first, has}
 use Rattle.strm_mblk.specs.Arena.{shelf_at}
