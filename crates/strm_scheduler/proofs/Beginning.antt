@@ -178,7 +178,7 @@ module _ (q n : ℕ) (x : PoolValue) (law : IsLawful x) (s : IsServing q n x) wh
         by_count zero does messages within =
             inr (
               ap (λ (a : Arena). weigh a.shelves) messages,
-              none_powers q n (queued_blocks_of x) law.lawful_queues s.sides (omega (arith, law.flagged, hop_within x.queues.specs law.lawful_queues q n s.next)) (queued_blocks_of w) does,
+              none_powers q n (queued_blocks_of x) law.lawful_queues (omega (arith, law.flagged, hop_within x.queues.specs law.lawful_queues q n s.next)) (queued_blocks_of w) does,
             )
         by_count (suc count) does messages within =
             let less = (forwarded_weighs q n greater (suc count) x.arena n_shelved within).less in
@@ -214,8 +214,8 @@ module _ (v x : PoolValue) (q n : ℕ) (begun : IsBegun q n v x) where
         ∙ ap (λ (o : Option ℕ). option_map_or (λ t. (all_forwarded q t (queued_blocks_of x)).1) o (queued_blocks_of x)) (ap (λ (p : PoolValue). next_of p.queues.specs q) begun.after ∙ begun.next)
         ∙ ap (λ (r : ℕ × QueuedBlocks). r.1) does
 
-    pub order_begun : Forwards q n count x w → KeepsOrder v w
-    order_begun forwards = subst (λ (p : PoolValue). KeepsOrder p w) begun.after (order_forwarded q n x begun.lawful begun.serving w count does forwards)
+    pub order_begun : AreKeptAwake v → Forwards q n count x w → KeepsOrder v w
+    order_begun kept forwards = subst (λ (p : PoolValue). KeepsOrder p w) begun.after (order_forwarded q n x begun.lawful (begun.serving kept) w count does forwards)
 
 -- ---- for the calls
 

@@ -14,7 +14,6 @@ use Rattle.strm_queue.specs.QueueCalls.{flags_left, flags_of, has_relieved, mess
 use Rattle.strm_queue.specs.QueuedBlocks.{QueuedBlocks}
 use Rattle.strm_queue.specs.QueueSpecs.{are_lawful}
 use Rattle.strm_queue.specs.Rank.{rank_of}
-use Rattle.strm_scheduler.specs.Sides.{AreSides}
 use Rattle.strm_scheduler.specs.Work.{most_powers, power, powers, times_of, weigh, work}
 use Rattle.strm_scheduler.proofs.Hops.{waker_below}
 use Rattle.strm_scheduler.proofs.Keeping.{SameRead, flags_related}
@@ -89,7 +88,7 @@ woken_powers true q s below = by_waker (waker s.specs q) refl
     by_waker (Some p) is = let less = power_less p q (below p is) in let most = enabled_powers p s in omega (arith, less, most)
 woken_powers false q s below = let some = power_some q in omega (arith, some)
 
-module _ (q n : ℕ) (v : QueuedBlocks) (lawful : are_lawful v.queues.specs ≡ true) (sides : AreSides v.queues.specs) (within : q < length v.queues.flags) where
+module _ (q n : ℕ) (v : QueuedBlocks) (lawful : are_lawful v.queues.specs ≡ true) (within : q < length v.queues.flags) where
   module _ (m : Message) (ms : List Message) where
     abbrev shelf_off : QueuedBlocks
     shelf_off = record v { arena = with_shelf q ms v.arena }
@@ -104,7 +103,7 @@ module _ (q n : ℕ) (v : QueuedBlocks) (lawful : are_lawful v.queues.specs ≡ 
     marked = with_band_wanted n m off
 
     off_powers : powers off.queues.run < power q + powers v.queues.run
-    off_powers = woken_powers (has_relieved shelf_off q) q (with_flags q (flags_left shelf_off q) v.queues) (waker_below v.queues.specs lawful sides q)
+    off_powers = woken_powers (has_relieved shelf_off q) q (with_flags q (flags_left shelf_off q) v.queues) (waker_below v.queues.specs lawful q)
 
     -- its want-to-read mark is cleared, so that the message that is put back does not enable the queue
     read_off : (flags_of marked q).read ≡ false

@@ -74,9 +74,9 @@ module _ {M : Type 0} (needs : Needs M) (m : M) where
   }
 
   -- the first queue of the run list of v left it, is held back, and was enabled again
-  pub turned : (q n : ℕ) (v x w : PoolValue) (ever : Bool) → IsBegun q n v x → IsHeldBack needs m q x ever → w ≡ with_queue_enabled q x → IsTurned needs q ever m v m w
-  turned q n v x w ever begun held after =
-      let last : w ≡ with_run (x.queues.run ++ q ∷ []) x = after ∙ enabled_last q n x begun.serving begun.once in
+  pub turned : (q n : ℕ) (v x w : PoolValue) (ever : Bool) → AreKeptAwake v → IsBegun q n v x → IsHeldBack needs m q x ever → w ≡ with_queue_enabled q x → IsTurned needs q ever m v m w
+  turned q n v x w ever kept begun held after =
+      let last : w ≡ with_run (x.queues.run ++ q ∷ []) x = after ∙ enabled_last q n x (begun.serving kept) begun.once in
       record {
         rest = x.queues.run;
         run = begun.run;

@@ -117,16 +117,17 @@ behind_next specs q p is = named (next_of specs p) (position-Some (λ s. is_some
     named (Some n) is = ap Some (eqb-true n q is)
 
 -- a waker has a smaller number than the queue
-pub waker_below : (specs : List QueueSpec) → are_lawful specs ≡ true → AreSides specs → (q p : ℕ) → waker specs q ≡ Some p → p < q
-waker_below specs lawful sides q p is = by_behind (behind specs q) refl
+pub waker_below : (specs : List QueueSpec) → are_lawful specs ≡ true → (q p : ℕ) → waker specs q ≡ Some p → p < q
+waker_below specs lawful q p = within (length specs) q
   where
-    none_within : (steps : ℕ) → behind specs q ≡ None → waker_within steps specs q ≡ None
-    none_within zero none = refl
-    none_within (suc steps) none = ap (waker_from (waker_within steps specs) specs) none
+    within : (steps q : ℕ) → waker_within steps specs q ≡ Some p → p < q
+    within zero q is = absurd (none-some p is)
+    within (suc steps) q is = by_behind (within steps) (behind specs q) refl is
+      where
+        by_service : ((k : ℕ) → waker_within steps specs k ≡ Some p → p < k) → (r : ℕ) → r < q → (so : Bool) → (if so then Some r else waker_within steps specs r) ≡ Some p → p < q
+        by_service below r less true here = omega (arith, less, same_Some r p here)
+        by_service below r less false further = let rest = below r further in omega (arith, less, rest)
 
-    by_behind : (o : Option ℕ) → behind specs q ≡ o → p < q
-    by_behind None none = absurd (none-some p (sym (none_within (length specs) none) ∙ is))
-    by_behind (Some r) some =
-        let next = behind_next specs q r some in
-        let same : r ≡ p = same_Some r p (sym (waker_is specs lawful r q next sides) ∙ is) in
-        omega (arith, (hop_ahead specs lawful r q next).greater, same)
+        by_behind : ((k : ℕ) → waker_within steps specs k ≡ Some p → p < k) → (o : Option ℕ) → behind specs q ≡ o → waker_from (waker_within steps specs) specs o ≡ Some p → p < q
+        by_behind below None none found = absurd (none-some p found)
+        by_behind below (Some r) some found = by_service below r (hop_ahead specs lawful r q (behind_next specs q r some)).greater (spec_at specs r).service found

@@ -52,99 +52,6 @@ module _ (v : PoolValue) (law : IsLawful v) (kept : AreKeptAwake v) where
     pub putq_kept : (w : PoolValue) → w ≡ value_after v (on_queues v (putq c h (queued_blocks_of v))) → AreKeptAwake w
     putq_kept w after = subst AreKeptAwake (sym after) (put_kept (has_queue (queued_blocks_of v) c))
 
-  -- ---- put back, and enabled
-
-  module _ (c : ℕ) (t : TokenValue) where
-    abbrev before : QueuedBlocks
-    before = queued_blocks_of v
-
-    -- the messages of the queue with this one, and what `putbq` leaves
-    abbrev joined : List Message
-    joined = put_ahead (rank_of v.arena.store) (message_put t.head before) (messages_on before c)
-
-    abbrev so : Bool
-    so = enables_put_back (flags_of before c) (rank_put t.head before)
-
-    abbrev back : QueuedBlocks
-    back = with_state (enabled_where so c) (with_put c t.head joined before)
-
-    abbrev back_from : Bool → Given QueuedBlocks (Unit {0})
-    back_from there = if there then Ok (tt, back) else Err NoSuchQueue
-
-    abbrev IsBack : (there : Bool) → PoolValue → Result (Unit {0}) Rejected → Type 0
-    IsBack there x r = Puts arena t (on_queues v (back_from there)) v x r
-
-    abbrev IsHeld : (there : Bool) → PoolValue → Result (Unit {0}) Rejected → Type 0
-    IsHeld there w r = Puts arena t (on_queues v (and_then (λ put. qenable c put.1) (back_from there))) v w r
-
-    specs_back : back.queues.specs ≡ v.queues.specs
-    specs_back = ap (λ (s : QueueState). s.specs) (enabled_where_grows so c v.queues).alone
-
-    module _ (x : PoolValue) (rejected : Rejected) where
-      refused_from : (there : Bool) → IsBack there x (Err rejected) → IsHeld there x (Err rejected) × (x ≡ v)
-      refused_from true put = let answer = put.answer in absurd (cc)
-      refused_from false put = (put, put.after)
-
-      pub back_refused : Puts arena t (on_queues v (putbq c t.head before)) v x (Err rejected) → Puts arena t (on_queues v (hold c t.head before)) v x (Err rejected)
-      back_refused put = (refused_from (has_queue before c) put).0
-
-      pub refused_kept : Puts arena t (on_queues v (putbq c t.head before)) v x (Err rejected) → AreKeptAwake x
-      refused_kept put = subst AreKeptAwake (sym (refused_from (has_queue before c) put).1) kept
-
-    module _ (x : PoolValue) where
-      there_from : (there : Bool) → IsBack there x (Ok tt) → (there ≡ true) × (x ≡ with_queued v back)
-      there_from true put = (refl, put.after)
-      there_from false put = let answer = put.answer in absurd (cc)
-
-      module _ (put : Puts arena t (on_queues v (putbq c t.head before)) v x (Ok tt)) where
-        there_is : has_queue before c ≡ true
-        there_is = (there_from (has_queue before c) put).0
-
-        after_is : x ≡ with_queued v back
-        after_is = (there_from (has_queue before c) put).1
-
-        pub back_there : has_queue (queued_blocks_of x) c ≡ true
-        back_there = ap (λ (p : PoolValue). has_queue (queued_blocks_of p) c) after_is ∙ ap (λ (s : List QueueSpec). nat_lt c (length s)) specs_back ∙ there_is
-
-        module _ (w : PoolValue) (enabled : w ≡ with_queue_enabled c x) where
-          given_is : hold c t.head before ≡ Ok (tt, with_state (enabled_where true c) back)
-          given_is =
-              ap (λ there. and_then (λ put. qenable c put.1) (back_from there)) there_is
-              ∙ cond-true (has_queue back c) _ _ (ap (λ (s : List QueueSpec). nat_lt c (length s)) specs_back ∙ there_is)
-
-          pub back_held : Puts arena t (on_queues v (hold c t.head before)) v w (Ok tt)
-          back_held = record {
-            after = enabled ∙ ap (with_queue_enabled c) after_is ∙ sym (ap (λ g. value_after v (on_queues v g)) given_is);
-            answer = sym (ap (λ g. or_rejected t (answer_of (on_queues v g))) given_is);
-            gone = ap (λ (p : PoolValue). held_at p.arena t.head) enabled ∙ put.gone;
-            others = subst (λ (p : PoolValue). LeavesOthers (t.head ∷ []) v.arena p.arena) (sym enabled) put.others;
-          }
-
-          others_awake : (p n : ℕ) → p ≢ c → next_of v.queues.specs p ≡ Some n → is_awake (record back { queues = with_enabled c back.queues }) p n ≡ true
-          others_awake p n other next =
-              awake_grown back (with_enabled c back.queues) (enabled_grows c back.queues) p n
-              (awake_grown (record before { arena = back.arena }) (enabled_where so c v.queues) (enabled_where_grows so c v.queues) p n
-              (awake_shelved before back.arena c joined refl refl p n other (kept.awake p n next)))
-
-          own_awake : (n : ℕ) → next_of v.queues.specs c ≡ Some n → is_awake (record back { queues = with_enabled c back.queues }) c n ≡ true
-          own_awake n next =
-              let grows = enabled_grows c back.queues in
-              awake_on_run (record back { queues = with_enabled c back.queues }) c n
-              (ap (λ (s : QueueState). (flags_at s c).noenable) grows.alone ∙ ap (λ (s : QueueState). (flags_at s c).noenable) (enabled_where_grows so c v.queues).alone
-              ∙ enabling_on before c n (kept.awake c n next))
-              (enabled_on c back.queues (ap (λ (s : List QueueSpec). (spec_at s c).service) specs_back ∙ kept.sides c ∙ ap is_some next))
-
-          pub back_kept : AreKeptAwake w
-          back_kept =
-              subst AreKeptAwake (sym (enabled ∙ ap (with_queue_enabled c) after_is))
-              (kept_by (record back { queues = with_enabled c back.queues }) (ap (λ (s : QueueState). s.specs) (enabled_grows c back.queues).alone ∙ specs_back)
-              (λ p n next.
-              elim (cases_eq p c) [
-                | inl same ↦
-                    subst (λ k. is_awake (record back { queues = with_enabled c back.queues }) k n ≡ true) (sym same) (own_awake n (subst (λ k. next_of v.queues.specs k ≡ Some n) same next))
-                | inr other ↦ others_awake p n other next
-              ]))
-
   -- ---- taken off the last queue
 
   module _ (c : ℕ) where
@@ -209,3 +116,97 @@ module _ (v : PoolValue) (law : IsLawful v) (kept : AreKeptAwake v) where
 
     pub strqset_kept : (band hiwat lowat : ℕ) (w : PoolValue) → w ≡ value_after v (on_queues v (strqset c band hiwat lowat (queued_blocks_of v))) → AreKeptAwake w
     strqset_kept band hiwat lowat w after = subst AreKeptAwake (sym after) (marked_kept band hiwat lowat (has_queue (queued_blocks_of v) c) (nat_le hiwat lowat))
+
+-- ---- put back, and enabled
+
+module _ (v : PoolValue) (law : IsLawful v) (c : ℕ) (t : TokenValue) where
+  abbrev before : QueuedBlocks
+  before = queued_blocks_of v
+
+  -- the messages of the queue with this one, and what `putbq` leaves
+  abbrev joined : List Message
+  joined = put_ahead (rank_of v.arena.store) (message_put t.head before) (messages_on before c)
+
+  abbrev so : Bool
+  so = enables_put_back (flags_of before c) (rank_put t.head before)
+
+  abbrev back : QueuedBlocks
+  back = with_state (enabled_where so c) (with_put c t.head joined before)
+
+  abbrev back_from : Bool → Given QueuedBlocks (Unit {0})
+  back_from there = if there then Ok (tt, back) else Err NoSuchQueue
+
+  abbrev IsBack : (there : Bool) → PoolValue → Result (Unit {0}) Rejected → Type 0
+  IsBack there x r = Puts arena t (on_queues v (back_from there)) v x r
+
+  abbrev IsHeld : (there : Bool) → PoolValue → Result (Unit {0}) Rejected → Type 0
+  IsHeld there w r = Puts arena t (on_queues v (and_then (λ put. qenable c put.1) (back_from there))) v w r
+
+  specs_back : back.queues.specs ≡ v.queues.specs
+  specs_back = ap (λ (s : QueueState). s.specs) (enabled_where_grows so c v.queues).alone
+
+  module _ (x : PoolValue) (rejected : Rejected) where
+    refused_from : (there : Bool) → IsBack there x (Err rejected) → IsHeld there x (Err rejected) × (x ≡ v)
+    refused_from true put = let answer = put.answer in absurd (cc)
+    refused_from false put = (put, put.after)
+
+    pub back_refused : Puts arena t (on_queues v (putbq c t.head before)) v x (Err rejected) → Puts arena t (on_queues v (hold c t.head before)) v x (Err rejected)
+    back_refused put = (refused_from (has_queue before c) put).0
+
+    pub refused_kept : Puts arena t (on_queues v (putbq c t.head before)) v x (Err rejected) → AreKeptAwake v → AreKeptAwake x
+    refused_kept put kept = subst AreKeptAwake (sym (refused_from (has_queue before c) put).1) kept
+
+  module _ (x : PoolValue) where
+    there_from : (there : Bool) → IsBack there x (Ok tt) → (there ≡ true) × (x ≡ with_queued v back)
+    there_from true put = (refl, put.after)
+    there_from false put = let answer = put.answer in absurd (cc)
+
+    module _ (put : Puts arena t (on_queues v (putbq c t.head before)) v x (Ok tt)) where
+      there_is : has_queue before c ≡ true
+      there_is = (there_from (has_queue before c) put).0
+
+      after_is : x ≡ with_queued v back
+      after_is = (there_from (has_queue before c) put).1
+
+      pub back_there : has_queue (queued_blocks_of x) c ≡ true
+      back_there = ap (λ (p : PoolValue). has_queue (queued_blocks_of p) c) after_is ∙ ap (λ (s : List QueueSpec). nat_lt c (length s)) specs_back ∙ there_is
+
+      module _ (w : PoolValue) (enabled : w ≡ with_queue_enabled c x) where
+        given_is : hold c t.head before ≡ Ok (tt, with_state (enabled_where true c) back)
+        given_is =
+            ap (λ there. and_then (λ put. qenable c put.1) (back_from there)) there_is
+            ∙ cond-true (has_queue back c) _ _ (ap (λ (s : List QueueSpec). nat_lt c (length s)) specs_back ∙ there_is)
+
+        pub back_held : Puts arena t (on_queues v (hold c t.head before)) v w (Ok tt)
+        back_held = record {
+          after = enabled ∙ ap (with_queue_enabled c) after_is ∙ sym (ap (λ g. value_after v (on_queues v g)) given_is);
+          answer = sym (ap (λ g. or_rejected t (answer_of (on_queues v g))) given_is);
+          gone = ap (λ (p : PoolValue). held_at p.arena t.head) enabled ∙ put.gone;
+          others = subst (λ (p : PoolValue). LeavesOthers (t.head ∷ []) v.arena p.arena) (sym enabled) put.others;
+        }
+
+        module _ (kept : AreKeptAwake v) where
+          others_awake : (p n : ℕ) → p ≢ c → next_of v.queues.specs p ≡ Some n → is_awake (record back { queues = with_enabled c back.queues }) p n ≡ true
+          others_awake p n other next =
+              awake_grown back (with_enabled c back.queues) (enabled_grows c back.queues) p n
+              (awake_grown (record before { arena = back.arena }) (enabled_where so c v.queues) (enabled_where_grows so c v.queues) p n
+              (awake_shelved before back.arena c joined refl refl p n other (kept.awake p n next)))
+
+          own_awake : (n : ℕ) → next_of v.queues.specs c ≡ Some n → is_awake (record back { queues = with_enabled c back.queues }) c n ≡ true
+          own_awake n next =
+              let grows = enabled_grows c back.queues in
+              awake_on_run (record back { queues = with_enabled c back.queues }) c n
+              (ap (λ (s : QueueState). (flags_at s c).noenable) grows.alone ∙ ap (λ (s : QueueState). (flags_at s c).noenable) (enabled_where_grows so c v.queues).alone
+              ∙ enabling_on before c n (kept.awake c n next))
+              (enabled_on c back.queues (ap (λ (s : List QueueSpec). (spec_at s c).service) specs_back ∙ kept.sides c ∙ ap is_some next))
+
+          pub back_kept : AreKeptAwake w
+          back_kept =
+              subst AreKeptAwake (sym (enabled ∙ ap (with_queue_enabled c) after_is))
+              (kept_by v law kept (record back { queues = with_enabled c back.queues }) (ap (λ (s : QueueState). s.specs) (enabled_grows c back.queues).alone ∙ specs_back)
+              (λ p n next.
+              elim (cases_eq p c) [
+                | inl same ↦
+                    subst (λ k. is_awake (record back { queues = with_enabled c back.queues }) k n ≡ true) (sym same) (own_awake n (subst (λ k. next_of v.queues.specs k ≡ Some n) same next))
+                | inr other ↦ others_awake p n other next
+              ]))

@@ -18,4 +18,5 @@ pub mod Unchanged
 pub mod Stepping
 pub mod Treated
 pub mod Holding
+pub mod Started
 pub mod Needing

@@ -1,5 +1,5 @@
 -- A service procedure of a module: what each of its steps leaves.
-use Rattle.std.proofs.Common.{◌≡◌, ◌≢◌, ℕ, ◌+◌, ◌<◌, ◌≤◌, ◌⊎◌, inl, inr, Bool, true, false, not, ◌&&◌, ◌||◌, List, [], ◌∷◌, drop, length, get_or, set, Option, Some, None, sym, ap, ◌∙◌, subst, arith, get_or-set_same}
+use Rattle.std.proofs.Common.{◌≡◌, ◌≢◌, ℕ, ◌+◌, ◌<◌, ◌≤◌, ◌⊎◌, inl, inr, Bool, true, false, not, ◌&&◌, ◌||◌, List, [], ◌∷◌, drop, length, get_or, set, IfSome, Option, Some, None, sym, ap, ◌∙◌, subst, arith, get_or-set_same}
 use Rattle.std.proofs.lemmas.Bool.{lt-ltb}
 use Rattle.strm_links.specs.Rows as rows
 use Rattle.strm_mblk.specs.declared.token.TokenValue.{TokenValue}
@@ -140,7 +140,7 @@ module _ (q n : ℕ) (v : PoolValue) (law : IsLawful v) (s : IsServing q n v) wh
     pub run_ended : powers w.queues.run < power q + powers v.queues.run
     run_ended =
         subst (λ (r : Bool × QueuedBlocks). powers r.1.queues.run < power q + powers v.queues.run) ended
-        (handed_powers q n (queued_blocks_of v) law.lawful_queues s.sides (omega (arith, law.flagged, hop_within v.queues.specs law.lawful_queues q n s.next)) (ap (λ (r : Bool × QueuedBlocks). r.0) ended))
+        (handed_powers q n (queued_blocks_of v) law.lawful_queues (omega (arith, law.flagged, hop_within v.queues.specs law.lawful_queues q n s.next)) (ap (λ (r : Bool × QueuedBlocks). r.0) ended))
 
 -- ---- taking, by what is kept
 
@@ -160,6 +160,11 @@ module _ (q n : ℕ) (apart : q ≢ n) (v x : PoolValue) (t : TokenValue) (g : I
     had = subst (λ (a : Arena). has a u ≡ true) (sym kept.3) (subst (λ (k : TokenValue). has x.arena k ≡ true) (sym kept.1) had);
     wishes = rest.wishes ∙ g.rest.wishes;
   }
+
+-- the message that is still held was not held before
+pub unheld_kept : (q n : ℕ) (t : TokenValue) (v x w : PoolValue) → held_at v.arena t.head ≡ None → (r : Option TokenValue) → KeepsAllowed q n t x r w → IfSome r (λ u. held_at v.arena u.head ≡ None)
+unheld_kept q n t v x w unheld None back = tt
+unheld_kept q n t v x w unheld (Some u) kept = ap (λ (k : TokenValue). held_at v.arena k.head) kept.1 ∙ unheld
 
 pub rest_joined : (v x w : PoolValue) → KeepsRest v x → KeepsRest x w → KeepsRest v w
 rest_joined v x w first second = record { specs = second.specs ∙ first.specs; marks = second.marks ∙ first.marks; wishes = second.wishes ∙ first.wishes }

@@ -1,5 +1,5 @@
 -- Serving the queues on the run list, one after another.
-use Rattle.std.specs.Prelude.{◌≡◌, ◌<◌, ◌≤◌, ℕ, zero, suc, false, nat_eq, IsTrue, length, Option, None, Some, if◌then◌else◌}
+use Rattle.std.specs.Prelude.{◌≡◌, ◌<◌, ◌≤◌, ◌⊎◌, ℕ, zero, suc, false, nat_eq, IsTrue, length, Option, None, Some, if◌then◌else◌}
 use Rattle.std.specs.Option.{option_map_or}
 use Rattle.strm_links.specs.Rows as rows
 use Rattle.strm_mblk.specs.declared.token.TokenValue.{TokenValue}
@@ -60,22 +60,26 @@ pub record IsGiven (held : ℕ) (s : Service) (t : TokenValue) (v w : PoolValue)
   pub had : IsTrue (has w.arena t)
   pub held_is : s.held ≡ still_held held (length v.queues.run) (length w.queues.run)
 
--- the first queue of the run list rests, or gave a message
-abbrev pub IsStarted : ℕ → PoolValue → Option (Service × TokenValue) → PoolValue → Type 0
-IsStarted held v None w = IsRested v w
-IsStarted held v (Some given) w = IsGiven held given.0 given.1 v w
-
--- this number of queues, one after another, were the first of the run list, and rest
-abbrev pub AreRested : ℕ → PoolValue → PoolValue → Type 0
-AreRested zero v w = w ≡ v
-AreRested (suc count) v w = (x : PoolValue) × AreRested count v x × IsRested x w
-
 -- how many queues are held back once this number of others rest: as many as before, if none does
 abbrev pub held_yet : ℕ → ℕ → ℕ
 held_yet held zero = held
 held_yet held (suc count) = 0
 
+-- This number of queues, one after another, were the first of the run list, and rest. They are not held back.
+abbrev pub AreRested : ℕ → ℕ → PoolValue → PoolValue → Type 0
+AreRested held zero v w = w ≡ v
+AreRested held (suc count) v w = (x : PoolValue) × AreRested held count v x × (held_yet held count < length x.queues.run) × IsRested x w
+
 -- Some queues rest. Then only queues that are held back are left on the run list, or another one gave a message.
 abbrev pub Starts : ℕ → PoolValue → Option (Service × TokenValue) → PoolValue → Type 0
-Starts held v None w = (count : ℕ) × AreRested count v w × (length w.queues.run ≤ held_yet held count)
-Starts held v (Some given) w = (count : ℕ) × (x : PoolValue) × AreRested count v x × (held_yet held count < length x.queues.run) × IsGiven (held_yet held count) given.0 given.1 x w
+Starts held v None w = (count : ℕ) × AreRested held count v w × (length w.queues.run ≤ held_yet held count)
+Starts held v (Some given) w = (count : ℕ) × (x : PoolValue) × AreRested held count v x × (held_yet held count < length x.queues.run) × IsGiven (held_yet held count) given.0 given.1 x w
+
+-- the first queue of the run list has no next one, to which its messages could go on
+abbrev pub IsBlocked : PoolValue → Type 0
+IsBlocked v = (q : ℕ) × (rows.first v.queues.run ≡ Some q) × (next_of v.queues.specs q ≡ None)
+
+-- As `Starts`, of any pool. If no message is given, some queues may rest, and the next one be blocked.
+abbrev pub Serves : ℕ → PoolValue → Option (Service × TokenValue) → PoolValue → Type 0
+Serves held v None w = Starts held v None w ⊎ ((count : ℕ) × AreRested held count v w × IsBlocked w)
+Serves held v (Some given) w = Starts held v (Some given) w

@@ -10,6 +10,7 @@ use Rattle.strm_pool.specs.Lawful.{IsLawful}
 use Rattle.strm_pool.specs.PoolValue.{PoolValue, has_queue, queued_blocks_of, with_queued}
 use Rattle.strm_queue.specs.QueueCalls.{flags_of, next_service}
 use Rattle.strm_scheduler.specs.Awake.{is_awake}
+use Rattle.strm_scheduler.specs.Laws.{AreKeptAwake}
 use Rattle.strm_scheduler.specs.Sides.{AreSides, next_of}
 use Rattle.strm_scheduler.specs.Work.{power, powers, weigh}
 
@@ -20,14 +21,14 @@ pub record IsServing (q n : ℕ) (v : PoolValue) : Type 0 where
   pub off : (flags_of (queued_blocks_of v) q).noenable ≡ false
   pub others : (p t : ℕ) → p ≢ q → next_of v.queues.specs p ≡ Some t → IsTrue (is_awake (queued_blocks_of v) p t)
 
--- queue q, whose next is queue n, was the first on the run list, left it, and is being served now
+-- queue q, whose next is queue n, was the first on the run list, left it, and is being served now; all others are awake if all were
 pub record IsBegun (q n : ℕ) (v x : PoolValue) : Type 0 where
   pub first : rows.first v.queues.run ≡ Some q
   pub next : next_of v.queues.specs q ≡ Some n
   pub after : x ≡ with_queued v (next_service (queued_blocks_of v)).1
   pub run : v.queues.run ≡ q ∷ x.queues.run
   pub once : rows.has q x.queues.run ≡ false
-  pub serving : IsServing q n x
+  pub serving : AreKeptAwake v → IsServing q n x
   pub behind : IsTrue (has_queue x q)
   pub ahead : IsTrue (has_queue x n)
   pub apart : q ≢ n

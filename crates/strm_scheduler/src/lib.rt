@@ -21,5 +21,5 @@ pub use passing::Passing;
 pub use service::{forward, may_go};
 pub use sides::Sides;
 pub use sides_fault::SidesFault;
-pub use starting::Service;
-pub use steps::{enable, flush, send};
+pub use starting::{Service, serve};
+pub use steps::{enable, flush, hold, send};

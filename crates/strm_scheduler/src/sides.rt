@@ -17,8 +17,8 @@ use crate::ended::Ended;
 use crate::module::Module;
 use crate::serving::serve_all;
 use crate::sides_fault::SidesFault;
-use crate::starting::{Service, start};
-use crate::steps::enable;
+use crate::starting::{Service, serve};
+use crate::steps::hold;
 use crate::treating::treat_all;
 use std::alloc::Global;
 use std::marker::Model;
@@ -186,7 +186,7 @@ impl Sides {
     pub fn serve(&mut self, held: u32) -> Option<(Service, Token)>
         ensures { Starts held self.old result self.new }
     {
-        start(&mut self.pool, held)
+        serve(&mut self.pool, held)
     }
 
     /// Puts a message back on a queue, before its equals, and enables the queue. Rejected as `NoSuchQueue`. As [`Pool::putbq`] and
@@ -196,14 +196,7 @@ impl Sides {
         ensures { Puts arena token (on_queues self.old (hold queue token.head (queued_blocks_of self.old)))
             self.old self.new result }
     {
-        self.pool.lawful();
-        match self.pool.putbq(queue, token) {
-            Ok(()) => {
-                enable(&mut self.pool, queue);
-                Ok(())
-            }
-            Err(rejected) => Err(rejected),
-        }
+        hold(&mut self.pool, queue, token)
     }
 
     /// Lends the pool to `call`, which may make and change held messages, and record wishes, but must leave the queues and the

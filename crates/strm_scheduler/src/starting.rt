@@ -1,9 +1,11 @@
 //! The start of a service.
-ghost use Rattle.std.specs.Prelude.{◌≡◌, ◌<◌, IfSome, None, [], length};
+ghost use Rattle.std.specs.Prelude.{◌≡◌, ◌⊎◌, IfSome, IsTrue, None, [], Ok, length, option_map};
+ghost use Rattle.strm_mblk.specs.Calls.{TakesAny};
+ghost use Rattle.strm_pool.specs.PoolValue.{arena, has_queue};
 ghost use Rattle.strm_scheduler.specs.Laws.{AreKeptAwake};
-ghost use Rattle.strm_scheduler.specs.Running.{IsStarted, Starts, still_held};
+ghost use Rattle.strm_scheduler.specs.Running.{IsBlocked, Serves, Starts, still_held};
 ghost use Rattle.strm_scheduler.specs.Serving.{IsBegun};
-ghost use Rattle.strm_scheduler.specs.Work.{powers};
+ghost use Rattle.strm_scheduler.specs.Steps.{with_queue_enabled};
 
 use crate::steps::enable;
 use crate::treating::take_allowed;
@@ -20,45 +22,47 @@ pub struct Service {
     pub held: u32,
 }
 
-// Serves queues, but for the last ones of the run list, until one gives a message that may go on.
-pub(crate) fn start(pool: &mut Pool, held: u32) -> Option<(Service, Token)>
-    requires { AreKeptAwake pool.old }
-    ensures awake { AreKeptAwake pool.new }
-    ensures starts { Starts held pool.old result pool.new }
+/// Serves queues of any pool, but for the last `held` ones of the run list, until one gives a message that may go on to its next
+/// queue; then the queue is enabled again. As [`Sides::serve`](crate::Sides::serve), which keeps the pool's queues awake.
+///
+/// A queue that has no next one stays first on the run list, and no message is returned. On sides there is none such.
+pub fn serve(pool: &mut Pool, held: u32) -> Option<(Service, Token)>
+    ensures awake { AreKeptAwake pool.old → AreKeptAwake pool.new }
+    ensures serves { Serves held pool.old result pool.new }
+    ensures starts { AreKeptAwake pool.old → Starts held pool.old result pool.new }
+    ensures holds { TakesAny arena (Ok (option_map (λ given. given.1.head) result, pool.new)) pool.old pool.new
+        (Ok (option_map (λ given. given.1) result)) }
 {
     let mut count = held;
     while pool.run_at(count).is_some() {
-        pool.lawful();
-        if let Some(given) = start_first(pool, count) {
-            return Some(given);
+        let enabled = count_enabled(pool);
+        let Some((queue, next)) = begin(pool) else {
+            return None;
+        };
+        if let Some(token) = take_allowed(pool, queue, next) {
+            return Some((service_of(pool, queue, next, count, enabled), token));
         }
         count = 0;
     }
     None
 }
 
-// Takes the first queue off the run list, and its first message off the queue, if it may go on. Then the queue is enabled again.
-fn start_first(pool: &mut Pool, held: u32) -> Option<(Service, Token)>
-    requires awake { AreKeptAwake pool.old }
-    requires some { 0 < length pool.old.queues.run }
-    ensures awake { AreKeptAwake pool.new }
-    ensures starts { IsStarted held pool.old result pool.new }
-    ensures falls { result ≡ None → powers pool.new.queues.run < powers pool.old.queues.run }
+// Enables a queue that gave a message again. Returns its service, by how many queues were held back, and on the run list, before.
+fn service_of(pool: &mut Pool, queue: u8, next: u8, held: u32, enabled: u32) -> Service
+    requires { IsTrue (has_queue pool.old queue) }
+    ensures pool { pool.new ≡ with_queue_enabled queue pool.old }
+    ensures service { result ≡ record {
+      queue = queue;
+      next = next;
+      held = still_held held enabled (length pool.new.queues.run);
+    } }
 {
-    let enabled = count_enabled(pool);
-    let Some((queue, next)) = begin(pool) else {
-        unreachable!()
-    };
-    let Some(token) = take_allowed(pool, queue, next) else {
-        return None;
-    };
     enable(pool, queue);
-    let service = Service {
+    Service {
         queue,
         next,
         held: still_held(held, enabled, count_enabled(pool)),
-    };
-    Some((service, token))
+    }
 }
 
 // How many queues are held back, by how many were on the run list before and are now.
@@ -80,23 +84,24 @@ fn count_enabled(pool: &Pool) -> u32
     count
 }
 
-// Takes the first queue off the run list, if any. Returns it, and its next queue.
+// Takes the first queue off the run list. Returns it, and its next queue; none if the list is empty, or the queue has no next one.
 pub(crate) fn begin(pool: &mut Pool) -> Option<(u8, u8)>
-    requires { AreKeptAwake pool.old }
     ensures begun { IfSome result (λ hop. IsBegun hop.0 hop.1 pool.old pool.new) }
-    ensures idle { result ≡ None → pool.old.queues.run ≡ [] }
+    ensures stops { result ≡ None → (pool.old.queues.run ≡ []) ⊎ IsBlocked pool.old }
+    ensures idle { AreKeptAwake pool.old → result ≡ None → pool.old.queues.run ≡ [] }
     ensures same { result ≡ None → pool.new ≡ pool.old }
 {
     pool.lawful();
-    let Some(queue) = pool.next_service() else {
+    let Some(queue) = pool.run_at(0) else {
         return None;
     };
-    pool.lawful();
     let Ok(spec) = pool.queue_spec(queue) else {
         unreachable!()
     };
     let Some(next) = spec.next else {
-        unreachable!()
+        return None;
     };
+    pool.next_service();
+    pool.lawful();
     Some((queue, next))
 }

@@ -2,7 +2,7 @@
 ghost use Rattle.std.specs.Prelude.{◌≡◌, ◌≢◌, ◌+◌, ◌-◌, ◌<◌, ◌≤◌, IsTrue, IfSome, None, false, length, option_map, true};
 ghost use Rattle.strm_scheduler.specs.Forwarding.{KeepsRest};
 ghost use Rattle.strm_scheduler.specs.Handing.{handed_on};
-ghost use Rattle.strm_mblk.specs.Arena.{has, shelf_at};
+ghost use Rattle.strm_mblk.specs.Arena.{has, held_at, shelf_at};
 ghost use Rattle.strm_pool.specs.PoolValue.{has_queue, queued_blocks_of};
 ghost use Rattle.strm_scheduler.specs.Holding.{is_spent};
 ghost use Rattle.strm_scheduler.specs.Laws.{AreKeptAwake};
@@ -173,6 +173,7 @@ pub(crate) fn take_allowed(pool: &mut Pool, queue: u8, next: u8) -> Option<Token
     requires behind { IsTrue (has_queue pool.old queue) }
     requires ahead { IsTrue (has_queue pool.old next) }
     ensures takes { TakesTo queue next pool.old result pool.new }
+    ensures unheld { IfSome result (λ t. held_at pool.old.arena t.head ≡ None) }
     ensures rest { KeepsRest pool.old pool.new }
 {
     pool.lawful();

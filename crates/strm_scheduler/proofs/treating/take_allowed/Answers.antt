@@ -1,7 +1,7 @@
 -- The message that was taken off may go on, or stands where it was.
 use Rattle.strm_scheduler.specs.Handing.{handed_on}
 use Rattle.strm_scheduler.proofs.Moving.{got, none_whole, within}
-use Rattle.strm_scheduler.proofs.Treated.{rest_joined, takes_to}
+use Rattle.strm_scheduler.proofs.Treated.{rest_joined, takes_to, unheld_kept}
 use Rattle.strm_scheduler.proofs.treating.take_allowed.Goals as goal
 
 pub returns-in-Ok-Some-clause-takes : goal.returns-in-Ok-Some-clause-takes
@@ -15,6 +15,11 @@ returns-in-Ok-Some-clause-takes c =
     let g = got v x c.args.queue c.requires.behind c.in-Ok-Some.ensures.after t given in
     takes_to c.args.queue c.args.next c.requires.apart v x t g unheld had (within v c.args.queue _ c.requires.behind c.lawful.ensures.shelves) (c.lawful.ensures.ordered c.args.queue)
     c.keep_allowed.new.pool c.keep_allowed.ensures.rest c.keep_allowed.result c.keep_allowed.ensures.keeps
+
+pub returns-in-Ok-Some-clause-unheld : goal.returns-in-Ok-Some-clause-unheld
+returns-in-Ok-Some-clause-unheld c =
+    let unheld = rw c.in-Ok-Some.field-0-is at c.in-Ok-Some.ensures.unheld in
+    unheld_kept c.args.queue c.args.next c.in-Ok-Some.token c.args.pool.now c.getq.new.self c.keep_allowed.new.pool unheld c.keep_allowed.result c.keep_allowed.ensures.keeps
 
 pub returns-in-Ok-Some-clause-rest : goal.returns-in-Ok-Some-clause-rest
 returns-in-Ok-Some-clause-rest c =

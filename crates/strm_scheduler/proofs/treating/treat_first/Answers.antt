@@ -11,7 +11,7 @@ use Rattle.strm_scheduler.proofs.Holding.{enabled_specs, kept_enabled, turned}
 use Rattle.strm_scheduler.proofs.treating.treat_first.Goals as goal
 
 pub unreachable-requires : goal.unreachable-requires
-unreachable-requires g c = omega (arith, c.requires.some, ap length (c.begin.ensures.idle c.in_default.is))
+unreachable-requires g c = omega (arith, c.requires.some, ap length (c.begin.ensures.idle c.requires.awake c.in_default.is))
 
 -- ---- the queue is held back
 
@@ -19,11 +19,11 @@ pub enable-requires : goal.enable-requires
 enable-requires g c = c.in-Some.ensures.begun.behind
 
 pub returns-in-Some-held_back-clause-awake : goal.returns-in-Some-held_back-clause-awake
-returns-in-Some-held_back-clause-awake g c = subst AreKeptAwake (sym c.enable.ensures) (kept_enabled c.in-Some.queue c.in-Some.next c.begin.new.pool c.in-Some.ensures.begun.serving)
+returns-in-Some-held_back-clause-awake g c = subst AreKeptAwake (sym c.enable.ensures) (kept_enabled c.in-Some.queue c.in-Some.next c.begin.new.pool (c.in-Some.ensures.begun.serving c.requires.awake))
 
 pub returns-in-Some-held_back-clause-turned : goal.returns-in-Some-held_back-clause-turned
 returns-in-Some-held_back-clause-turned g c =
-    turned g.M.Module.needs c.args.handler.now c.in-Some.queue c.in-Some.next c.args.pool.now c.begin.new.pool c.enable.new.pool c.in-Some-held_back.ever c.in-Some.ensures.begun
+    turned g.M.Module.needs c.args.handler.now c.in-Some.queue c.in-Some.next c.args.pool.now c.begin.new.pool c.enable.new.pool c.in-Some-held_back.ever c.requires.awake c.in-Some.ensures.begun
     c.in-Some-held_back.ensures.held c.enable.ensures
 
 pub returns-in-Some-held_back-clause-order : goal.returns-in-Some-held_back-clause-order
@@ -39,7 +39,7 @@ returns-in-Some-held_back-clause-specs g c =
 
 pub treat_queue-requires : goal.treat_queue-requires
 treat_queue-requires g c = record {
-  serving = c.in-Some.ensures.begun.serving;
+  serving = c.in-Some.ensures.begun.serving c.requires.awake;
   behind = c.in-Some.ensures.begun.behind;
   met = c.held_back.ensures.met c.in_default-held_back.is;
 }
