@@ -42,7 +42,7 @@ impl Channel {
         let mut msg = Name::default();
         done(mt::strm_mt_alloc(&self.0, u32::try_from(bytes.len()).unwrap_or(u32::MAX), &mut msg, deadline))?;
         let made = self.locked(|pool| match raw::write(pool, msg, 0, bytes) {
-            0 => raw::strm_setband(pool, msg, band),
+            0 => raw::strm::setband(pool, msg, band),
             code => code,
         });
         let sent = done(made).and_then(|()| done(mt::strm_mt_send(&self.0, 0, msg, deadline)));
@@ -99,6 +99,6 @@ impl Channel {
 
     /// strm_census
     pub fn census(&self) -> Result<Census, Refusal> {
-        self.locked(|pool| stored(|census| raw::strm_census(pool, census)))
+        self.locked(|pool| stored(|census| raw::strm::census(pool, census)))
     }
 }

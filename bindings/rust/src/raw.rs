@@ -163,13 +163,13 @@ unsafe extern "C" {
 }
 
 /// A type of a method's parameter, with that of strm.h.
-trait Argument {
+pub(crate) trait Argument {
     type InC;
     fn in_c(self) -> Self::InC;
 }
 
 /// A type that a method returns, with that which strm.h stores.
-trait Answer: Sized {
+pub(crate) trait Answer: Sized {
     type InC: Default;
     fn of(stored: Self::InC) -> Self;
 
@@ -243,14 +243,14 @@ macro_rules! calls {
     ($($(#[$section:meta])* impl Pool { $(
         $(#[$doc:meta])* $kind:ident $name:ident($($of:ident: $type:ty),*) $(-> $stored:ident: $answer:ty)?;
     )* })*) => {
-        mod strm {
+        pub(crate) mod strm {
             use super::*;
 
             // SAFETY: these are the declarations of strm.h.
             unsafe extern "C" {
                 $($(
                     #[link_name = concat!("strm_", stringify!($name))]
-                    pub(super) safe fn $name(
+                    pub(crate) safe fn $name(
                         pool: handle!($kind) $(, $of: <$type as Argument>::InC)* $(, $stored: &mut <$answer as Answer>::InC)?
                     ) -> c_int;
                 )*)*
