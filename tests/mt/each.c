@@ -1,7 +1,7 @@
 /*
- * Makes each call of strm_mt.h with each of its results, in threads that wait for one another: the lock, codes, orders, deadlines, bursts, shut queues,
- * descriptors, cancelled threads, signals, forks and system calls. The last line is 'N passed, M failed'. A call may wait for PATIENCE seconds, by
- * default 10. Behind the word `sanitizers` system calls are not counted.
+ * Makes each call of strm_mt.h with each of its results, in threads that wait for one another: the lock, codes, orders, deadlines, bursts, shut
+ * queues, descriptors, cancelled threads, signals, forks and system calls. The last line is 'N passed, M failed'. A call may wait for PATIENCE
+ * seconds, by default 10. Behind the word `sanitizers` system calls are not counted.
  *
  *     each [PATIENCE [sanitizers]]
  */
