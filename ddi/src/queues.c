@@ -193,7 +193,7 @@ PER_CALLER void put_to(queue_t *q, mblk_t *mp, const char *routine, int is_next)
 	if (is_next && ddi_frame->as.procedure == ddi_service && may_be_full(decides(q), mp->b_band))
 		check_room(decides(q), mp, routine);
 	b->owner = q->q_qinfo->qi_minfo;
-	for (struct block *next = (struct block *)mp->b_cont; next && ddi_is_held(next); next = (struct block *)next->m.b_cont)
+	for (struct block *next = (struct block *)mp->b_cont; next && next != b && ddi_is_held(next); next = (struct block *)next->m.b_cont)
 		next->owner = b->owner;
 	if (flags[0].tab && is_inside(q, 0))
 		add_later(&ddi_later, (struct later){ .q = q, .mp = mp });

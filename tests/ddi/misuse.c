@@ -138,9 +138,7 @@ static int faulty_wput(queue_t *q, mblk_t *mp)
 	case LINKS_A_RING:
 		linkb(mp, copymsg(mp));
 		mp->b_cont->b_cont = mp;
-		putq(q, mp);
-		mp->b_cont->b_cont = NULL;
-		freemsg(mp);
+		putnext(q, mp);
 		break;
 	case FREES_OTHER_SIZE:
 		kmem_free(kmem_alloc(8, KM_SLEEP), 16);
