@@ -2,10 +2,14 @@
 use Rattle.std.specs.Prelude.{◌≡◌, ℕ, ◌&&◌, min, not, ◌==◌, List, [], ◌∷◌, ◌++◌, drop, length, map, option_map, Option, None, Some, Result, Ok, Err, IfOk, MatchResult, if◌then◌else◌}
 use Rattle.strm_data.specs.declared.refusal.Refusal.{Refusal}
 use Rattle.strm_data.specs.Lending.{Edits}
+use Rattle.strm_mblk.specs.declared.token.TokenValue.{TokenValue}
 use Rattle.strm_mblk.specs.Given.{Given, answer_of, value_after}
 use Rattle.strm_queue.specs.declared.flush.Flush.{Flush}
 use Rattle.strm_queue.specs.Taking as taking
 use Rattle.strm_pool.specs.PoolValue.{PoolValue, on_queues, queued_blocks_of}
+use Rattle.strm_scheduler.specs.declared.starting.Service.{Service}
+use Rattle.strm_scheduler.specs.Laws.{AreKeptAwake}
+use Rattle.strm_scheduler.specs.Running.{Serves}
 use Rattle.strm_named.specs.declared.fault.Fault.{Fault}
 use Rattle.strm_named.specs.declared.fault.Fault.TheVariants.{Invalid, Refused}
 use Rattle.strm_named.specs.declared.name.Name.{Name}
@@ -138,3 +142,11 @@ LendsNamed {X} {R} closure lent outcome old new answer = MatchResult lent
 pub record TransfersNamed (n : Name) (outcome : Outcome ℕ) (freed : Outcome (Unit {0})) (old new other_old other_new : NamedValue) (answer : Result Name Fault) : Type 0 where
   pub there : Does one_message outcome [] other_old other_new answer
   pub here : MatchResult answer (λ made. Does no_message freed (n.head ∷ []) old new (Ok tt)) (λ fault. new ≡ old)
+
+-- Queues were served but for these held ones, as `serve` of strm_scheduler says, and perhaps one gave a message. Queues that were awake stay so.
+pub record ServesNamed (held : ℕ) (old new : NamedValue) (answer : Option (Service × Name)) : Type 0 where
+  pub given : Option (Service × TokenValue)
+  pub serves : Serves held old.pool given new.pool
+  pub service : option_map (λ g. g.0) answer ≡ option_map (λ g. g.0) given
+  pub does : Does any_message (Ok (option_map (λ g. g.1.head) given, new.pool)) [] old new (Ok (option_map (λ g. g.1) answer))
+  pub awake : AreKeptAwake old.pool → AreKeptAwake new.pool

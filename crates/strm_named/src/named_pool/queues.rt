@@ -1,9 +1,10 @@
 //! Calls on queues. Those that put a message spend its name; those that take one return a new name.
 ghost use Rattle.std.specs.Prelude.{◌≡◌, Ok, [], ◌∷◌, length};
-ghost use Rattle.strm_named.specs.NamedCalls.{Does, LeavesNames, any_message, names_of, no_message, on_name, one_message, outcome_of, some_messages, take_flushed, take_flushed_band, with_names};
+ghost use Rattle.strm_named.specs.NamedCalls.{Does, LeavesNames, ServesNamed, any_message, names_of, no_message, on_name, one_message, outcome_of, some_messages, take_flushed, take_flushed_band, with_names};
 ghost use Rattle.strm_pool.specs.PoolValue.{on_queues, queued_blocks_of};
 ghost use Rattle.strm_queue.specs.HeadCalls as by_head;
 ghost use Rattle.strm_queue.specs.QueueCalls as queues;
+ghost use Rattle.strm_scheduler.specs.Laws.{AreKeptAwake, hold};
 
 use super::NamedPool;
 use crate::fault::Fault;
@@ -11,6 +12,7 @@ use crate::name::Name;
 use crate::naming::Naming;
 use crate::tokens::{answered, taken};
 use strm_pool::{Flush, Refusal};
+use strm_scheduler::{Service, hold, serve};
 
 // The most messages that a call takes.
 const MOST_TAKEN: usize = u32::MAX as usize;
@@ -152,6 +154,33 @@ impl NamedPool {
             .pool
             .take_flushed_band(queue, band, flush, most, &mut naming);
         answered(taken)
+    }
+
+    /// Serves queues, but for the last `held` ones of the run list, until one gives a message that may go on to its next queue.
+    /// Returns the service and the message's new name; the queue is enabled again. Queues that were awake stay so. As
+    /// [`serve`] of strm_scheduler.
+    pub fn serve(&mut self, held: u32) -> Option<(Service, Name)>
+        ensures { ServesNamed held self.old self.new result }
+    {
+        match serve(&mut self.pool, held) {
+            Some((service, token)) => Some((service, self.places.give(token))),
+            None => None,
+        }
+    }
+
+    /// Puts a message back on a queue, as [`NamedPool::putbq`] does, and enables the queue. Queues that were awake stay so.
+    /// Refused as `Invalid`, then `NoSuchQueue`. As [`hold`] of strm_scheduler.
+    pub fn hold(&mut self, queue: u8, name: Name) -> Result<(), Fault>
+        ensures awake { AreKeptAwake self.old.pool → AreKeptAwake self.new.pool }
+        ensures does { Does no_message (on_name self.old name (on_queues self.old.pool
+            (hold queue name.head (queued_blocks_of self.old.pool)))) (name.head ∷ []) self.old self.new result }
+    {
+        if !self.has(name) {
+            return Err(Fault::Invalid);
+        }
+        let token = taken(&self.pool, &mut self.places, name);
+        let held = hold(&mut self.pool, queue, token);
+        self.places.spend(held)
     }
 }
 
