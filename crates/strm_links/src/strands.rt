@@ -400,11 +400,27 @@ impl Strands {
         } }
         ensures parted { IsParted self.new }
     {
-        let span = self.nodes[head as usize].span;
-        reverse_links(&mut self.nodes, head, span.len, self.first_free);
+        let len = self.len(head);
+        self.free_counted(head, len);
+    }
+
+    /// Frees the nodes of a chain as [`Strands::free`] does. `len` is their number: for a chain that is known to have one node,
+    /// no loop is compiled.
+    #[inline(always)]
+    pub fn free_counted(&mut self, head: u32, len: u32)
+        requires head { IsSome (chain_in self.old.chains head) }
+        requires len { len ≡ length (strand_at self.old head) }
+        ensures after { self.new ≡ record self.old {
+          free = reverse (strand_at self.old head) ++ self.old.free;
+          chains = slice_set self.old.chains head None;
+        } }
+        ensures parted { IsParted self.new }
+    {
+        let last = self.nodes[head as usize].span.last;
+        reverse_links(&mut self.nodes, head, len, self.first_free);
         keep(&mut self.nodes, head, Span::none());
-        self.first_free = Slot::some(span.last);
-        self.free_len += span.len;
+        self.first_free = Slot::some(last);
+        self.free_len += len;
     }
 
     /// Frees the `count` nodes after the first of a chain, in order, each to the front of the free nodes. The chain has more nodes
