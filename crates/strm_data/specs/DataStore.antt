@@ -96,6 +96,11 @@ pub record IsTakenFrom (size : ℕ) (s : DataStore) (c : ℕ) : Type 0 where
   pub some : 0 < length (free_of s c)
   pub front : take_data size s ≡ Ok (slice_index_or (free_of s c) 0 0)
 
+-- for this size data blocks of class c are taken as long as it has free ones: it fits, and no smaller class that fits has one
+pub record IsClassFor (size : ℕ) (s : DataStore) (c : ℕ) : Type 0 where
+  pub wide : size ≤ (class_spec_at s c).size
+  pub before : (k : ℕ) → k < c → size ≤ (class_spec_at s k).size → length (free_of s k) ≡ 0
+
 -- the store after d, the first free one of its class, was taken: it has type M_DATA, and keeps its bytes
 abbrev pub with_data_taken : ℕ → DataStore → DataStore
 with_data_taken d s =

@@ -1,5 +1,5 @@
 //! Data blocks by number, and the free data blocks of each size class.
-ghost use Rattle.std.specs.Prelude.{◌≡◌, ℕ, ◌+◌, ◌-◌, ◌^◌, ◌<◌, ◌≤◌, ◌++◌, IfOk, IfErr, IfSome, IsTrue, OnOk, Err, None, [], length, map, min, nat_le, take, drop, replicate, slice_get, slice_set};
+ghost use Rattle.std.specs.Prelude.{◌≡◌, ℕ, ◌+◌, ◌-◌, ◌^◌, ◌<◌, ◌≤◌, ◌++◌, IfOk, IfErr, IfSome, IsTrue, Ok, OnOk, Err, None, [], length, map, min, nat_le, take, drop, replicate, slice_get, slice_set};
 ghost use Rattle.std.specs.List.{list_any, range_with_len};
 ghost use Rattle.strm_links.specs.Rows.{holder, list_at};
 ghost use Rattle.strm_data.specs.Limits.{most_classes, most_data_block_bytes, most_data_blocks, most_references};
@@ -7,7 +7,7 @@ ghost use Rattle.strm_data.specs.declared.msg_type.MsgType.TheVariants.{MData};
 ghost use Rattle.strm_data.specs.Classes.{are_lawful, fits_a_class, total_of};
 ghost use Rattle.strm_data.specs.CountedStore.{count_of, IsInUse, IsKept, IsUnused, opening_counted, after_take, with_reference, without_reference};
 ghost use Rattle.strm_data.specs.DataLayout.{block_at, bytes_of, class_at, region_at, start_in};
-ghost use Rattle.strm_data.specs.DataStore.{capacity_of, data_block_at, class_infos, fits, take_data, with_data_reset, with_kind, with_bytes_copied, with_bytes_written, free_of, numbers_from, bytes_overwritten, IsLeast, IsTakenFrom};
+ghost use Rattle.strm_data.specs.DataStore.{capacity_of, data_block_at, class_infos, fits, take_data, with_data_reset, with_kind, with_bytes_copied, with_bytes_written, free_of, numbers_from, bytes_overwritten, IsClassFor, IsLeast, IsTakenFrom};
 
 mod lending;
 
@@ -279,9 +279,14 @@ impl Data {
         })
     }
 
-    // The first class that fits a size and has a free data block.
-    fn class_for(&self, size: u32) -> Result<u32, Refusal>
+    /// Returns the class from which `take` takes for this size: the smallest that fits the size and has a free data block.
+    /// `take_from` takes from it, as long as it has free ones. Changes nothing.
+    ///
+    /// Refused as `TooLarge` if the size is above the largest class, then as `NoData` if no data block that fits is free.
+    /// Takes at most two steps for each class.
+    pub fn class_for(&self, size: u32) -> Result<u32, Refusal>
         ensures found { IfOk result (IsTakenFrom size self.now.store) }
+        ensures class { IfOk result (IsClassFor size self.now.store) }
         ensures none { IfErr result (λ why. take_data size self.now.store ≡ Err why) }
     {
         for number in 0..self.classes.len() as u32 {
@@ -297,6 +302,14 @@ impl Data {
         })
     }
 
+    /// Returns the number of free data blocks of a class. Changes nothing.
+    pub fn free_in(&self, class: u32) -> u32
+        requires { class < length self.now.store.classes }
+        ensures { result ≡ length (free_of self.now.store class) }
+    {
+        self.free.len(class)
+    }
+
     /// Takes a data block for `size` bytes and returns its number: the first free one of the smallest class that fits the
     /// size and has a free one. The data block gets type M_DATA and one reference, and keeps its bytes.
     ///
@@ -309,14 +322,34 @@ impl Data {
         ensures room { IfOk result (λ d. size ≤ capacity_of self.old.store d) }
         ensures kept { IsKept self.new }
     {
+        self.accounts_for_blocks();
         let class = self.class_for(size)?;
+        Ok(self.take_from(class, size))
+    }
+
+    /// Takes a data block as [`Data::take`] does for this size, from the class that [`Data::class_for`] returned for it. The
+    /// class must have a free data block, and no smaller one that fits may have got one since. The size is an argument for the
+    /// contract only. Takes constant time.
+    #[inline(always)]
+    pub fn take_from(&mut self, class: u32, size: u32) -> DataNo
+        requires class { IsClassFor size self.old.store class }
+        requires some { 0 < length (free_of self.old.store class) }
+        ensures answer { take_data size self.old.store ≡ Ok result }
+        ensures after { self.new ≡ after_take self.old (take_data size self.old.store) }
+        ensures unused { IsUnused self.old result }
+        ensures room { size ≤ capacity_of self.old.store result }
+        ensures kept { IsKept self.new }
+        ensures class { IsClassFor size self.new.store class }
+        ensures left { length (free_of self.new.store class) ≡ length (free_of self.old.store class) - 1 }
+    {
+        let _ = size;
         let left = self.free.len(class) - 1;
         self.classes[class as usize].note(left);
         let number = self.free.take_front(class);
         let block = &mut self.blocks[number as usize];
         block.kind = MsgType::MData;
         block.references = 1;
-        Ok(number)
+        number
     }
 
     /// Says whether `take` would succeed for this size now. Changes nothing. Takes at most two steps for each class.

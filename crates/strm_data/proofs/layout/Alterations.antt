@@ -1,5 +1,5 @@
 -- A data block that is altered in memory: what a contract sees then, and that all is laid out as before.
-use Rattle.std.proofs.Common.{◌≡◌, ◌≢◌, ℕ, ◌+◌, ◌-◌, ◌<◌, ◌≤◌, min, List, [], ◌∷◌, length, get_or, set, map, Ok, Some, drop, refl, sym, ap, ◌∙◌, subst, arith, length-set}
+use Rattle.std.proofs.Common.{◌≡◌, ◌≢◌, ℕ, ◌+◌, ◌-◌, ◌<◌, ◌≤◌, min, List, [], ◌∷◌, length, get_or, set, map, Ok, Some, drop, refl, sym, ap, ◌∙◌, subst, arith, length-set, get_or-set_same, get_or-set_other}
 use Rattle.std.specs.Vec.{with_item}
 use Rattle.std.proofs.lemmas.Bool.{cond-true, cond-false, eq-eqb, ne_eqb}
 use Rattle.std.proofs.lemmas.List.{get_or_default, length-drop, length-map, set-get_or}
@@ -10,8 +10,9 @@ use Rattle.strm_data.specs.declared.data.DataBlock.{DataBlock}
 use Rattle.strm_data.specs.declared.msg_type.MsgType.TheVariants.{MData}
 use Rattle.strm_data.specs.CountedStore.{CountedStore, IsKept, IsUnused, count_of, after_take, with_reference, without_reference}
 use Rattle.strm_data.specs.DataLayout.{no_class, block_at, class_at, store_of_parts, store_of, IsPlaced, IsSound}
-use Rattle.strm_data.specs.DataStore.{IsLeast, IsTakenFrom, least_of, take_data, data_block_at, capacity_of, class_of, free_of, with_kind, with_data_freed, class_spec_at}
+use Rattle.strm_data.specs.DataStore.{IsClassFor, IsLeast, IsTakenFrom, least_of, take_data, data_block_at, capacity_of, class_of, free_of, with_kind, with_data_freed, with_data_taken, class_spec_at}
 use Rattle.strm_data.proofs.store.Kept.{first_unused}
+use Rattle.strm_data.proofs.store.Lawful.{IsClassFor-kept, class_there}
 use Rattle.strm_data.proofs.layout.Least.{AreAlike, AreAlike-noted, IsPlaced-alike, least_is, least_noted, seen_alike}
 use Rattle.strm_data.proofs.layout.Laid.{get_or_first, block_within, block_is, class_of_is, count_is, seen_altered, seen_recounted, IsPlaced-altered}
 
@@ -78,7 +79,7 @@ module _ (a : Inside) (v : CountedStore) (view : store_of a ≡ v) (laid : IsSou
   first_is : first (free_of v.store c) ≡ Some n
   first_is = ap (λ (s : CountedStore). first (free_of s.store c)) (sym view) ∙ is
 
-  front_is : get_or (free_of v.store c) 0 0 ≡ n
+  pub front_is : get_or (free_of v.store c) 0 0 ≡ n
   front_is = get_or_first (free_of v.store c) n first_is
 
   here : (class_of v.store n ≡ c) × IsUnused v n
@@ -93,6 +94,20 @@ module _ (a : Inside) (v : CountedStore) (view : store_of a ≡ v) (laid : IsSou
 
   pub after_is : after_take v (take_data size v.store) ≡ after_take v (Ok n)
   after_is = ap (after_take v) (found.front ∙ ap Ok front_is)
+
+  -- the class is still that for the size, and has one free data block less
+  pub class_taken : IsClassFor size v.store c → IsClassFor size (after_take v (take_data size v.store)).store c
+  class_taken for =
+      subst (λ (s : CountedStore). IsClassFor size s.store c) (sym after_is)
+      (IsClassFor-kept size v.store (with_data_taken n v.store) c refl
+      (λ k below. get_or-set_other v.store.free (class_of v.store n) k (drop 1 (free_of v.store (class_of v.store n))) [] (λ same. absurd (omega (arith, below, same, here.0)))) for)
+
+  pub left_taken : length (free_of (after_take v (take_data size v.store)).store c) ≡ length (free_of v.store c) - 1
+  left_taken =
+      subst (λ (s : CountedStore). length (free_of s.store c) ≡ length (free_of v.store c) - 1) (sym after_is)
+      (ap (λ e. length (get_or (set v.store.free e (drop 1 (free_of v.store e))) c [])) here.0
+      ∙ ap length (get_or-set_same v.store.free c (drop 1 (free_of v.store c)) [] (class_there v.store c found.some))
+      ∙ length-drop 1 (free_of v.store c))
 
   pub found_within : c < length a.classes.items
   found_within =

@@ -1,13 +1,13 @@
 -- Lawful classes, and the first that fits a size.
-use Rattle.std.proofs.Common.{ℕ, zero, suc, ◌<◌, ◌≤◌, List, [], ◌∷◌, length, get_or, arith, ◌&&◌, ◌≡◌, ◌+◌, Bool, true, false, ◌||◌, Some, Err, map, ◌++◌, drop, refl, ap, ◌∙◌, if◌then◌else◌}
+use Rattle.std.proofs.Common.{ℕ, zero, suc, ◌<◌, ◌≤◌, List, [], ◌∷◌, length, length-append, get_or, arith, ◌&&◌, ◌≡◌, ◌+◌, ◌-◌, inl, inr, Bool, true, false, ◌||◌, Some, Err, map, ◌++◌, drop, refl, ap, ◌∙◌, if◌then◌else◌}
 use Rattle.std.specs.Prelude.{IsTrue, nat_lt, nat_le, ok_or, slice_get}
-use Rattle.std.proofs.lemmas.Bool.{and_parts, ltb-true, leb-true, cond-true, cond-false, lt-leb, le-leb}
+use Rattle.std.proofs.lemmas.Bool.{and_parts, cases_lt, ltb-true, leb-true, cond-true, cond-false, lt-leb, le-leb}
 use Rattle.std.specs.List.{flat_map, zip, list_any}
-use Rattle.std.proofs.lemmas.List.{drop_more}
+use Rattle.std.proofs.lemmas.List.{drop_more, get_or_past}
 use Rattle.std.proofs.lemmas.List.Folds.{list_any_at}
 use Rattle.strm_data.specs.declared.class_spec.ClassSpec.{ClassSpec}
 use Rattle.strm_data.specs.Classes.{total_of, are_lawful, sizes_rise, each_has_blocks}
-use Rattle.strm_data.specs.DataStore.{no_class_spec, DataStore, free_of, fitting_blocks, IsTakenFrom, class_spec_at}
+use Rattle.strm_data.specs.DataStore.{no_class_spec, DataStore, free_of, fitting_blocks, IsClassFor, IsTakenFrom, class_spec_at}
 use Rattle.strm_data.specs.Limits.{most_classes, most_data_block_bytes, most_data_blocks}
 use Rattle.strm_data.specs.declared.refusal.Refusal.TheVariants.{NoData, TooLarge}
 
@@ -117,6 +117,75 @@ IsTakenFrom-found size s i in_classes in_free wide some left =
           cond-true _ (ok_or (slice_get (fitting_blocks size s) 0) NoData) (Err TooLarge) (list_any_at (λ c. nat_le size c.size) s.classes i no_class_spec in_classes fits)
           ∙ ap (λ xs. ok_or (slice_get xs 0) NoData) found ∙ ap (λ o. ok_or o NoData) (first_of_both (free_of s i) (fitting_from size s (i + 1)) some);
     }
+
+-- ---- a class for a size
+
+-- the classes from i on give no less than those n classes behind
+falls : (size : ℕ) (s : DataStore) → length s.free ≡ length s.classes → (i n : ℕ) → i + n ≤ length s.classes → length (fitting_from size s (i + n)) ≤ length (fitting_from size s i)
+falls size s lists i zero within =
+    let none : i + zero ≡ i = omega arith in
+    omega (arith, ap (λ j. length (fitting_from size s j)) none)
+falls size s lists i (suc n) within =
+    let next : i + suc n ≡ (i + n) + 1 = omega arith in
+    let one = ap length (fitting_from-here size s (i + n) no_class_spec (omega (arith, within)) (omega (arith, within, lists)))
+    ∙ length-append (if_fits size (class_spec_at s (i + n), free_of s (i + n))) (fitting_from size s ((i + n) + 1)) in
+    omega (arith, falls size s lists i n (omega (arith, within)), one, ap (λ j. length (fitting_from size s j)) next)
+
+-- if the classes before c give nothing, those that fit have no free data block
+pub none_before : (size : ℕ) (s : DataStore) → length s.free ≡ length s.classes → (c k : ℕ) → k < c → c ≤ length s.classes → fitting_blocks size s ≡ fitting_from size s c
+    → size ≤ (class_spec_at s k).size → length (free_of s k) ≡ 0
+none_before size s lists c k below within found wide =
+    let start : fitting_blocks size s ≡ fitting_from size s 0 = refl in
+    let here = ap length (fitting_from-here size s k no_class_spec (omega (arith, below, within)) (omega (arith, below, within, lists)))
+    ∙ length-append (if_fits size (class_spec_at s k, free_of s k)) (fitting_from size s (k + 1)) in
+    let all : length (if_fits size (class_spec_at s k, free_of s k)) ≡ length (free_of s k) = ap length (cond-true _ (free_of s k) [] (le-leb size _ wide)) in
+    let from_start : 0 + k ≡ k = omega arith in
+    let to_class : (k + 1) + (c - (k + 1)) ≡ c = omega (arith, below) in
+    omega (
+      arith,
+      here,
+      all,
+      ap length start,
+      ap length found,
+      falls size s lists 0 k (omega (arith, below, within)),
+      ap (λ j. length (fitting_from size s j)) from_start,
+      falls size s lists (k + 1) (c - (k + 1)) (omega (arith, below, within)),
+      ap (λ j. length (fitting_from size s j)) to_class,
+    )
+
+-- the search goes on to class c if those before it give nothing
+pub fitting_to : (size : ℕ) (s : DataStore) → length s.free ≡ length s.classes → (c : ℕ) → c ≤ length s.classes
+    → ((k : ℕ) → k < c → if_fits size (class_spec_at s k, free_of s k) ≡ []) → fitting_blocks size s ≡ fitting_from size s c
+fitting_to size s lists zero within none = refl
+fitting_to size s lists (suc c) within none =
+    let next : c + 1 ≡ suc c = omega arith in
+    fitting_from_next size s c no_class_spec (omega (arith, within)) (omega (arith, within, lists)) (none c (omega arith))
+    (fitting_to size s lists c (omega (arith, within)) (λ k below. none k (omega (arith, below))))
+    ∙ ap (fitting_from size s) next
+
+-- a class with a free data block is there
+pub class_there : (s : DataStore) (c : ℕ) → 0 < length (free_of s c) → c < length s.free
+class_there s c some = elim (cases_lt c (length s.free)) [
+  | inl there ↦ there
+  | inr past ↦ absurd (omega (arith, some, ap length (get_or_past s.free c [] past)))
+]
+
+-- from a class for a size the size takes, if it has a free data block
+pub IsTakenFrom-class : (size : ℕ) (s : DataStore) → length s.free ≡ length s.classes → (c : ℕ) → IsClassFor size s c → 0 < length (free_of s c) → IsTakenFrom size s c
+IsTakenFrom-class size s lists c is some =
+    let there = class_there s c some in
+    IsTakenFrom-found size s c (omega (arith, there, lists)) there is.wide some
+    (fitting_to size s lists c (omega (arith, there, lists)) (λ k below. elim (cases_lt (class_spec_at s k).size size) [
+      | inl small ↦ if_fits-small size (class_spec_at s k) (free_of s k) small
+      | inr wide ↦ if_fits-empty size (class_spec_at s k) (free_of s k) (is.before k below wide)
+    ]))
+
+-- a store whose classes are the same, and whose free lists before class c are the same, has the class for a size still
+pub IsClassFor-kept : (size : ℕ) (s t : DataStore) (c : ℕ) → t.classes ≡ s.classes → ((k : ℕ) → k < c → free_of t k ≡ free_of s k) → IsClassFor size s c → IsClassFor size t c
+IsClassFor-kept size s t c classes free is = record {
+  wide = omega (arith, is.wide, ap (λ (cs : List ClassSpec). (get_or cs c no_class_spec).size) classes);
+  before = λ k below wide. ap length (free k below) ∙ is.before k below (omega (arith, wide, ap (λ (cs : List ClassSpec). (get_or cs k no_class_spec).size) classes));
+}
 
 -- a test on what a function gives
 pub list_any-map : {X Y : Type 0} (f : X → Y) (p : Y → Bool) (xs : List X) → list_any p (map f xs) ≡ list_any (λ x. p (f x)) xs

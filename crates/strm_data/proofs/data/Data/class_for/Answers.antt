@@ -1,9 +1,10 @@
-use Rattle.std.proofs.Common.{◌≡◌, ◌<◌, length, get_or, ap, sym, ◌∙◌, subst, arith}
+use Rattle.std.proofs.Common.{◌≡◌, ◌<◌, ◌≤◌, length, get_or, ap, sym, ◌∙◌, subst, arith}
 use Rattle.std.proofs.lemmas.List.{get_or_default, length-map, get_or-map}
 use Rattle.strm_data.specs.declared.data.Class.{Class}
+use Rattle.strm_data.specs.CountedStore.{CountedStore}
 use Rattle.strm_data.specs.DataLayout.{store_of, no_class}
-use Rattle.strm_data.specs.DataStore.{IsTakenFrom, free_of, no_class_spec}
-use Rattle.strm_data.proofs.store.Lawful.{if_fits-small, if_fits-empty, fitting_from_next, IsTakenFrom-found}
+use Rattle.strm_data.specs.DataStore.{IsClassFor, IsTakenFrom, class_spec_at, free_of, no_class_spec}
+use Rattle.strm_data.proofs.store.Lawful.{if_fits-small, if_fits-empty, fitting_from_next, none_before, IsTakenFrom-found}
 use Rattle.strm_data.proofs.data.Data.class_for.Goals as goal
 use Rattle.strm_data.proofs.data.Data.class_for.Goals.{After-index-class, else-class-size-via-then-class-size+else-len-gt0, else-class-size-via-else-class-size}
 
@@ -28,6 +29,17 @@ returns-then-len-gt0-clause-found c =
     subst (λ s. IsTakenFrom c.args.size s.store c.loop-number.number) c.self.view_is
     (IsTakenFrom-found c.args.size (store_of c.self.inside).store c.loop-number.number (in_classes at) (in_free at)
     (rw (spec_is at) c.if-class-size.true) (omega (arith, c.if-len-gt0.true, c.len.ensures)) c.loop-number.invariant)
+
+pub returns-then-len-gt0-clause-class : goal.returns-then-len-gt0-clause-class
+returns-then-len-gt0-clause-class c =
+    let at = (goal.at.returns-then-len-gt0-clause-class c).After-index-class in
+    let s = (store_of c.self.inside).store in
+    let fits : c.args.size ≤ (class_spec_at s c.loop-number.number).size = rw (spec_is at) c.if-class-size.true in
+    subst (λ (s : CountedStore). IsClassFor c.args.size s.store c.loop-number.number) c.self.view_is
+    (record {
+      wide = fits;
+      before = λ k below wide. none_before c.args.size s c.self.invariant.kept.lists c.loop-number.number k below (omega (arith, in_classes at)) c.loop-number.invariant wide;
+    })
 
 pub loop-number-preserved : goal.loop-number-preserved
 loop-number-preserved c =
