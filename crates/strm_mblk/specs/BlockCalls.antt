@@ -1,14 +1,15 @@
 -- What each call on blocks of messages does to the arena. A call gets the head of a message instead of its token.
-use Rattle.std.specs.Prelude.{ℕ, ◌+◌, ◌-◌, Bool, ◌==◌, nat_lt, List, [], ◌∷◌, length, map, take, drop, Option, None, Some, Result, Ok, Err, ok_or, slice_get, slice_set, count_by, if◌then◌else◌}
+use Rattle.std.specs.Prelude.{ℕ, ◌+◌, ◌-◌, ◌≤◌, Bool, ◌==◌, nat_lt, List, [], ◌∷◌, length, map, take, drop, Option, None, Some, Result, Ok, Err, ok_or, slice_get, slice_set, count_by, if◌then◌else◌}
 use Rattle.std.specs.List.{list_all, list_any, zip}
 use Rattle.std.specs.Result.{is_ok}
 use Rattle.strm_data.specs.declared.msg_type.MsgType.{MsgType}
 use Rattle.strm_data.specs.declared.refusal.Refusal.{Refusal}
 use Rattle.strm_data.specs.declared.refusal.Refusal.TheVariants.{TooLarge, NoMblk, RefMax, NoSuchBlock, Shared, NoRoom}
 use Rattle.strm_data.specs.Classes.{fits_a_class}
-use Rattle.strm_data.specs.DataStore.{DataStore, capacity_of, take_data, with_data_taken, with_kind, with_bytes_written}
+use Rattle.strm_data.specs.DataStore.{DataStore, IsClassFor, capacity_of, free_of, take_data, with_data_taken, with_kind, with_bytes_written}
 use Rattle.strm_data.specs.Limits.{most_references}
 use Rattle.strm_mblk.specs.declared.block_info.BlockInfo.{BlockInfo}
+use Rattle.strm_mblk.specs.declared.blocks.Supply.{Supply}
 use Rattle.strm_mblk.specs.Arena.{Arena, message_at, references_to, with_free_left, with_held, with_message, without_held}
 use Rattle.strm_mblk.specs.Block.{Block, Message, bytes_of_block, head_of, uses_data, kind_of, new_block}
 use Rattle.strm_mblk.specs.Freeing.{with_block_freed}
@@ -33,6 +34,12 @@ allocb size a = if fits_a_class size a.store.classes then allocb_from a.free siz
 -- whether `allocb` would succeed for this size now
 abbrev pub testb : ℕ → Arena → Bool
 testb size a = is_ok (allocb size a)
+
+-- as many calls of `allocb` for this size as the supply says take free message blocks, and data blocks of its class
+pub record IsSupplied (size : ℕ) (a : Arena) (supply : Supply) : Type 0 where
+  pub class : IsClassFor size a.store supply.class
+  pub data_blocks : supply.count ≤ length (free_of a.store supply.class)
+  pub message_blocks : supply.count ≤ length a.free
 
 -- these blocks with other numbers
 abbrev pub blocks_renumbered : List ℕ → List Block → List Block

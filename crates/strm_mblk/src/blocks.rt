@@ -1,10 +1,11 @@
 //! Message blocks by number, the messages that they make, and the calls on them.
-ghost use Rattle.std.specs.Prelude.{◌≡◌, ◌+◌, ◌^◌, ◌<◌, ◌≤◌, IfOk, IfSome, IsTrue, Some, None, is_some, length, option_copied, slice_get};
+ghost use Rattle.std.specs.Prelude.{◌≡◌, ◌+◌, ◌-◌, ◌^◌, ◌<◌, ◌≤◌, IfErr, IfOk, IfSome, IsTrue, Err, Ok, Some, None, is_some, length, option_copied, slice_get};
 ghost use Rattle.std.specs.List.{All};
 ghost use Rattle.strm_data.specs.Classes.{are_lawful, fits_a_class};
 ghost use Rattle.strm_data.specs.DataStore.{class_infos, class_region};
 ghost use Rattle.strm_data.specs.CountedStore.{IsKept};
 ghost use Rattle.strm_mblk.specs.Arena.{IsLeastFree, IsParted, IsWithin, blocks_in, census_of, counted_in, has, held_at, message_at, opening_arena, token_of, with_least_reset};
+ghost use Rattle.strm_mblk.specs.BlockCalls.{IsSupplied};
 ghost use Rattle.strm_mblk.specs.Calls.{Gives, itself};
 ghost use Rattle.strm_mblk.specs.NodeLists.{nodes_at};
 ghost use Rattle.strm_mblk.specs.Given.{answer_of};
@@ -38,6 +39,15 @@ use strm_data::{ClassInfo, ClassSpec, Data, Refusal};
 
 /// The number of a message block. Message blocks are numbered from 0 on.
 pub type BlockNo = u32;
+
+/// Says for how many calls of `allocb` for one size a class has data blocks, and message blocks are free.
+#[derive(Clone, Copy, Debug)]
+pub struct Supply {
+    /// The class of the data blocks.
+    pub class: u32,
+    /// The number of calls.
+    pub count: u32,
+}
 
 /// Message blocks over data blocks. Each message block is free or in one message. A message is held or on a shelf. A held
 /// message has a token, unless that was lost. The number of its first block, its head, identifies it. Calls with a token,
@@ -270,16 +280,46 @@ impl Blocks {
     pub fn allocb(&mut self, size: u32) -> Result<Token, Refusal>
         ensures { Gives itself None (model.allocb size self.old) self.old self.new result }
     {
-        if self.chains.free_len() == 0 {
+        let supply = self.supply(size)?;
+        Ok(self.allocb_from(size, supply))
+    }
+
+    /// Returns the class from which `allocb` takes a data block for this size, and for how many calls: as long as the class has
+    /// data blocks and message blocks are free. Changes nothing.
+    ///
+    /// Refused as `allocb` would be. Takes at most two steps for each class.
+    #[inline(always)]
+    pub fn supply(&self, size: u32) -> Result<Supply, Refusal>
+        ensures supply { IfOk result (IsSupplied size self.now) }
+        ensures some { IfOk result (λ supply. 0 < supply.count) }
+        ensures refused { IfErr result (λ why. model.allocb size self.now ≡ Err why) }
+    {
+        let free = self.chains.free_len();
+        if free == 0 {
             if self.data.has_class_for(size) {
                 return Err(Refusal::NoMblk);
             }
             return Err(Refusal::TooLarge);
         }
-        let data_number = self.data.take(size)?;
+        let class = self.data.class_for(size)?;
+        let count = free.min(self.data.free_in(class));
+        Ok(Supply { class, count })
+    }
+
+    /// Makes a message as [`Blocks::allocb`] does for this size, from a supply that `supply` returned, and returns its token.
+    /// Each such call leaves the supply one call less; no other call may come between. So a burst chooses the class once. The
+    /// size and the count are for the contract only. Takes constant time.
+    #[inline(always)]
+    pub fn allocb_from(&mut self, size: u32, supply: Supply) -> Token
+        requires supply { IsSupplied size self.old supply }
+        requires some { 0 < supply.count }
+        ensures gives { Gives itself None (model.allocb size self.old) self.old self.new (Ok result) }
+        ensures supply { IsSupplied size self.new (record supply { count = supply.count - 1 }) }
+    {
+        let data_number = self.data.take_from(supply.class, size);
         let head = self.chains.begin_all(1);
         self.blocks[head as usize] = Fields::over(data_number);
-        Ok(self.token_of(head, 1))
+        self.token_of(head, 1)
     }
 
     /// Says whether `allocb` would succeed for this size now. Changes nothing. Takes at most two steps for each class.

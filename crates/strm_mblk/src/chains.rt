@@ -191,17 +191,18 @@ impl Chains {
         self.strands.take_out(head, place).unwrap()
     }
 
-    // Frees the blocks of a held message, first to last, each to the front of the free list.
+    // Frees the blocks of a held message, first to last, each to the front of the free list. `blocks` is their number.
     #[inline(always)]
-    pub(crate) fn free(&mut self, head: u32)
-        requires { IsSome (held_in self.old.held head) }
+    pub(crate) fn free_counted(&mut self, head: u32, blocks: u32)
+        requires head { IsSome (held_in self.old.held head) }
+        requires blocks { blocks ≡ length (nodes_at self.old head) }
         ensures after { self.new ≡ record self.old {
           free = reverse (nodes_at self.old head) ++ self.old.free;
           held = slice_set self.old.held head None;
         } }
         ensures parted { IsNodesParted self.new }
     {
-        self.strands.free(head);
+        self.strands.free_counted(head, blocks);
     }
 
     // Frees the `count` blocks after the first of a held message, in order, each to the front of the free list. The other

@@ -12,7 +12,7 @@ mod token;
 
 pub use block_info::BlockInfo;
 pub use block_place::{BlockPlace, Shape, Shaped};
-pub use blocks::{BlockNo, Blocks};
+pub use blocks::{BlockNo, Blocks, Supply};
 pub use census::Census;
 pub use limits::MOST_MESSAGE_BLOCKS;
 pub use rejected::Rejected;

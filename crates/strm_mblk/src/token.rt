@@ -62,6 +62,18 @@ impl Token {
         let Token { value: _ } = self;
     }
 
+    /// Returns the same token. `head` is its head; code that knows the head then need not read it from the token.
+    #[inline(always)]
+    pub fn at(self, head: u32) -> Token
+        requires { head ≡ self.head }
+        ensures { result ≡ self }
+    {
+        let Token { value } = self;
+        Token {
+            value: TokenValue { head, ..value },
+        }
+    }
+
     /// Returns the id of the pool that gave the token.
     pub fn pool(&self) -> u32
         ensures { result ≡ self.now.pool }

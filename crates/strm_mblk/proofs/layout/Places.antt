@@ -150,6 +150,11 @@ pub token_held : (id : ℕ) (s : CountedStore) (fields : List Fields) (v : NodeL
     → held_in v.held u.head ≡ Some (nodes_at v u.head)
 token_held id s fields v a is t u same had = grind (arith, common_steps, token_nodes)
 
+-- it has as many blocks as the token says
+pub token_counted : (id : ℕ) (s : CountedStore) (fields : List Fields) (v : NodeLists) (a : Arena) → arena_of id s.store fields v ≡ a → (t u : TokenValue) → u ≡ t → has a t ≡ true
+    → u.blocks ≡ length (nodes_at v u.head)
+token_counted id s fields v a is t u same had = grind (arith, common_steps, token_nodes)
+
 -- and the data blocks that it uses are those of as many blocks as the token says
 pub token_named : (id : ℕ) (s : CountedStore) (fields : List Fields) (v : NodeLists) (a : Arena) → arena_of id s.store fields v ≡ a → (t u : TokenValue) → u ≡ t → has a t ≡ true
     → take u.blocks (data_used_by fields (nodes_at v u.head)) ≡ data_used_by fields (nodes_at v u.head)

@@ -68,15 +68,39 @@ impl Blocks {
         requires { IsTrue (has self.old token) }
         ensures { Spends itself token (freemsg token.head self.old) self.old self.new }
     {
+        if token.blocks() == 1 {
+            self.free_counted(token, 1);
+        } else {
+            self.free_apart(token);
+        }
+    }
+
+    // Frees a message of more than one block. Compiled apart, so that most calls of `free_held` have no loop.
+    #[inline(never)]
+    fn free_apart(&mut self, token: Token)
+        requires { IsTrue (has self.old token) }
+        ensures { Spends itself token (freemsg token.head self.old) self.old self.new }
+    {
+        let blocks = token.blocks();
+        self.free_counted(token, blocks);
+    }
+
+    // Frees a message with this number of blocks.
+    #[inline(always)]
+    fn free_counted(&mut self, token: Token, blocks: u32)
+        requires had { IsTrue (has self.old token) }
+        requires blocks { blocks ≡ token.blocks }
+        ensures { Spends itself token (freemsg token.head self.old) self.old self.new }
+    {
         let token = token.spend();
         drop_references(
             &self.chains,
             &self.blocks,
             &mut self.data,
             token.head,
-            token.blocks,
+            blocks,
         );
-        self.chains.free(token.head);
+        self.chains.free_counted(token.head, blocks);
     }
 
     /// Frees the first block of a message, to the front of the free list. If its data block loses its last reference, it

@@ -85,6 +85,8 @@ pub(super) enum Row {
     Sizes(Name, u32, u32),
     // Whether a message can be made for a size.
     Fits(u32, bool),
+    // The class of a supply for a size, and for how many messages it is.
+    Supply(u32, Result<(u32, u32), Refusal>),
     // What `class_info` returns of a size class.
     Class(u8, Option<ClassInfo>),
     // The number of free data blocks of each of the first two classes.
@@ -334,6 +336,7 @@ impl Served {
             Row::References(references) => self.bench.assert_references(rt, references),
             Row::Stored(number, bytes) => self.bench.assert_stored(rt, number, bytes),
             Row::Fits(size, fits) => self.bench.assert_fits(rt, size, fits),
+            Row::Supply(size, answer) => self.bench.assert_supply(rt, size, answer),
             Row::Class(class, info) => self.bench.assert_class(rt, class, info),
             Row::FreeData(first, second) => self.bench.assert_free_data(rt, [first, second]),
             Row::Census(free, queued, held) => self.bench.assert_census(rt, free, queued, held),

@@ -2,7 +2,8 @@ use super::CLASSES;
 use super::bench::Bench;
 use super::forged::forged;
 use super::rows::Row::{
-    Allocb, Census, Class, Dupb, Fits, FreeData, Freemsg, Has, Heads, References, Says, Told,
+    Allocb, Census, Class, Dupb, Fits, FreeData, Freemsg, Has, Heads, References, Says, Supply,
+    Told,
 };
 use super::rows::{A, B, C, D, Row, serve};
 use std::alloc::Global;
@@ -45,6 +46,17 @@ impl Bench {
         self.assert_is(rt, &self.blocks.testb(size), &fits);
     }
 
+    // Asserts the class of a supply for a size, and for how many messages it is.
+    pub(super) fn assert_supply(
+        &self,
+        rt: &impl Abort,
+        size: u32,
+        answer: Result<(u32, u32), Refusal>,
+    ) {
+        let given = self.blocks.supply(size).map(|it| (it.class, it.count));
+        self.assert_is(rt, &given, &answer);
+    }
+
     // Asserts what `class_info` returns of a class.
     pub(super) fn assert_class(&self, rt: &impl Abort, class: u8, info: Option<ClassInfo>) {
         self.assert_is(rt, &self.blocks.class_info(class), &info);
@@ -65,21 +77,28 @@ impl Bench {
 }
 
 // A small message takes a large data block if no small one is free; a duplicate takes none. `allocb` reports `TooLarge`
-// before `NoMblk`, and `NoMblk` before `NoData`. `testb` says whether `allocb` would succeed.
+// before `NoMblk`, and `NoMblk` before `NoData`. `testb` says whether `allocb` would succeed, and `supply` how often from one class.
 const SMALLEST_TAKEN: &[Row] = &[
+    Supply(16, Ok((0, 1))),
+    Supply(17, Ok((1, 2))),
     Allocb(16, Ok(A)),
+    Supply(16, Ok((1, 2))),
     Allocb(1, Ok(B)),
+    Supply(1, Ok((1, 1))),
     Told(B, 0, Ok((MsgType::MData, 0, 0, 64, 1))),
     Fits(0, true),
     Fits(64, true),
     Fits(65, false),
     Allocb(17, Ok(C)),
     Allocb(1, Err(Refusal::NoData)),
+    Supply(1, Err(Refusal::NoData)),
     Fits(0, false),
     Fits(64, false),
     Dupb(A, Ok(D)),
     Allocb(1, Err(Refusal::NoMblk)),
     Allocb(65, Err(Refusal::TooLarge)),
+    Supply(1, Err(Refusal::NoMblk)),
+    Supply(65, Err(Refusal::TooLarge)),
     Says(A, 1, 0, 1),
     Says(B, 1, 1, 1),
     Says(C, 1, 2, 1),
@@ -106,6 +125,7 @@ const NO_MESSAGE_BLOCK: &[Row] = &[
     FreeData(Some(0), Some(2)),
     Fits(0, false),
     Freemsg(A),
+    Supply(0, Ok((1, 1))),
     Freemsg(B),
     Freemsg(C),
     Freemsg(D),

@@ -1,0 +1,78 @@
+use Rattle.std.proofs.Common.{◌≡◌, ℕ, [], ◌∷◌, None, ap, ◌∙◌, arith, length, subst, sym, set, refl}
+use Rattle.std.specs.Prelude.{take}
+use Rattle.std.proofs.lemmas.List.{length-drop}
+use Rattle.strm_links.specs.Rows.{first}
+use Rattle.strm_data.specs.CountedStore.{after_take}
+use Rattle.strm_mblk.specs.declared.blocks.Supply.{Supply}
+use Rattle.strm_mblk.specs.Arena.{Arena}
+use Rattle.strm_mblk.specs.Block.{new_block}
+use Rattle.strm_mblk.specs.BlockCalls.{IsSupplied, blocks_renumbered}
+use Rattle.strm_mblk.specs.BlocksLayout.{arena_in, arena_of}
+use Rattle.strm_mblk.specs.Messages.{blocks_of}
+use Rattle.strm_mblk.specs.NodeLists.{NodeLists}
+use Rattle.strm_mblk.proofs.Lists.{first_rest}
+use Rattle.strm_mblk.proofs.making.Begun.{IsAllocated, allocates, taken_fits, begin_room}
+use Rattle.strm_mblk.proofs.arena.Frame.{leaves_allocb}
+use Rattle.strm_mblk.proofs.arena.Calls.{gives}
+use Rattle.strm_mblk.proofs.layout.Shown.{parted_inside, still_whole}
+use Rattle.strm_mblk.proofs.blocks.Blocks.allocb_from.Goals.{After-index_mut}
+use Rattle.strm_mblk.proofs.blocks.Blocks.allocb_from.Goals as goal
+
+-- the supply is that of the blocks in memory
+supplied : (a b : Arena) → a ≡ b → (size : ℕ) (supply : Supply) → IsSupplied size b supply → IsSupplied size a supply
+supplied a b view size supply is = subst (λ x. IsSupplied size x supply) (sym view) is
+
+pub take_from-data_number-requires-clause-class : goal.take_from-data_number-requires-clause-class
+take_from-data_number-requires-clause-class c = (supplied (arena_in c.self.inside) c.args.self.now c.self.view_is c.args.size c.args.supply c.requires.supply).class
+
+pub take_from-data_number-requires-clause-some : goal.take_from-data_number-requires-clause-some
+take_from-data_number-requires-clause-some c =
+    omega (arith, c.requires.some, (supplied (arena_in c.self.inside) c.args.self.now c.self.view_is c.args.size c.args.supply c.requires.supply).data_blocks)
+
+pub begin_all-head-requires-clause-enough : goal.begin_all-head-requires-clause-enough
+begin_all-head-requires-clause-enough c =
+    omega (arith, c.requires.some, (supplied (arena_in c.self.inside) c.args.self.now c.self.view_is c.args.size c.args.supply c.requires.supply).message_blocks)
+
+pub index_mut-requires : goal.index_mut-requires
+index_mut-requires c =
+    omega (arith, begin_room c.self.inside.id c.self.inside.data c.self.inside.blocks.items c.self.inside.chains c.self.invariant.filled c.begin_all-head.result c.begin_all-head.ensures.answer)
+
+abbrev new_arena : After-index_mut → Arena
+new_arena c = arena_of c.self.inside.id c.take_from-data_number.new.self.store (set c.self.inside.blocks.items c.begin_all-head.result c.over.result) c.begin_all-head.new.self
+
+is_allocated : (c : After-index_mut) → IsAllocated c.args.self.now c.take_from-data_number.new.self (set c.self.inside.blocks.items c.begin_all-head.result c.over.result) c.begin_all-head.new.self c.self.inside.id c.args.size c.begin_all-head.result c.take_from-data_number.result
+is_allocated c =
+    subst (λ a. IsAllocated a c.take_from-data_number.new.self (set c.self.inside.blocks.items c.begin_all-head.result c.over.result) c.begin_all-head.new.self c.self.inside.id c.args.size c.begin_all-head.result c.take_from-data_number.result) c.self.view_is
+    (allocates c.self.inside.id c.self.inside.data c.self.inside.blocks.items c.self.inside.chains c.self.invariant.filled c.begin_all-head.result (c.begin_all-head.ensures.answer)
+    c.take_from-data_number.result c.take_from-data_number.new.self c.begin_all-head.new.self c.over.result c.take_from-data_number.ensures.unused c.take_from-data_number.ensures.kept (c.take_from-data_number.ensures.after ∙ ap (after_take c.self.inside.data) c.take_from-data_number.ensures.answer) c.begin_all-head.ensures.after c.begin_all-head.ensures.parted c.over.ensures
+    c.args.size (taken_fits c.args.size c.take_from-data_number.result c.self.inside.data.store c.take_from-data_number.ensures.answer) c.take_from-data_number.ensures.answer)
+
+pub invariant_of-self : goal.invariant_of-self
+invariant_of-self c =
+    let is = is_allocated (goal.at.invariant_of-self c).After-index_mut in
+    still_whole c.self.inside _ c.args.self.now c.self.invariant c.self.view_is refl is.begun.filled is.begun.shelved
+
+pub token_of-requires : goal.token_of-requires
+token_of-requires c =
+    let n = c.begin_all-head.result in
+    let is = is_allocated (goal.at.token_of-requires c).After-index_mut in
+    let free = first_rest c.args.self.now.free n (ap (λ (a : Arena). first a.free) (sym c.self.view_is) ∙ c.begin_all-head.ensures.answer) in
+    sym (ap (λ o. length (blocks_of o)) is.begun.held ∙ ap (λ ns. length (blocks_renumbered (take 1 ns) (new_block n c.take_from-data_number.result ∷ []))) free)
+
+pub returns-clause-gives : goal.returns-clause-gives
+returns-clause-gives c =
+    let is = is_allocated (goal.at.returns-clause-gives c).After-index_mut in
+    let parted = parted_inside c.self.inside c.self.invariant c.args.self.now c.self.view_is in
+    gives c.args.self.now (new_arena (goal.at.returns-clause-gives c).After-index_mut) None _ c.token_of.result c.begin_all-head.result _ is.done c.token_of.ensures is.begun.held is.begun.absent tt (leaves_allocb c.args.self.now parted c.args.size)
+
+free_left : {v w : NodeLists} → v ≡ w → length v.free ≡ length w.free
+free_left is = ap (λ (v : NodeLists). length v.free) is
+
+pub returns-clause-supply : goal.returns-clause-supply
+returns-clause-supply c =
+    let was = supplied (arena_in c.self.inside) c.args.self.now c.self.view_is c.args.size c.args.supply c.requires.supply in
+    record {
+      class = c.take_from-data_number.ensures.class;
+      data_blocks = omega (arith, was.data_blocks, c.take_from-data_number.ensures.left);
+      message_blocks = omega (arith, was.message_blocks, free_left c.begin_all-head.ensures.after, length-drop 1 c.self.inside.chains.free);
+    }
