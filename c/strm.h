@@ -20,11 +20,10 @@
  *   - held: said of a message that has a valid name, and of its blocks. A message on a queue is not
  *     held.
  *   - place: of a block, counted from 0 in its message; of a message, from 0 on its queue.
- *   - service procedure: your code for an enabled queue. Mostly it takes messages off the queue
- *     until strm_getq or strm_getq_n returns STRM_NONE, or until strm_bcanput sets *yes to 0 and it
- *     puts one back. If it stops for another reason while messages are left, call strm_qenable when
- *     it can go on. Call strm_next_service in a loop, and run the service procedure of the queue
- *     that this returns (examples/c/service.c).
+ *   - service procedure: your code for an enabled queue, which strm_next_service returns
+ *     (examples/c/service.c). It takes messages off the queue until strm_getq or strm_getq_n returns
+ *     STRM_NONE, or until strm_bcanput sets *yes to 0 and it puts one back. If it stops for another
+ *     reason, call strm_qenable when it can go on. strm_serve is a loop over such procedures.
  *   - read place, write place: where the bytes of a message block begin and end in its data block.
  *     Each message block has its own.
  *   - room, headroom: bytes of the data block after the write place, and before the read place.
@@ -416,6 +415,13 @@ struct strm_band_info {
 	uint32_t bytes;			/* bytes of its messages; those of high priority count with band 0 */
 	uint32_t full;			/* 1 if bytes is at the high water mark or above */
 	uint32_t wanted;		/* 1 if strm_bcanput found it full, and bytes stayed above the low water mark since */
+};
+
+/* The service of a queue that gave a message. Since 0.6.0. */
+struct strm_service {
+	uint32_t queue;			/* the queue */
+	uint32_t next;			/* its next queue, to which the message may go on */
+	uint32_t held;			/* how many queues, those just before this one at the end of the run list, are held back */
 };
 
 /* The water marks of a band, in bytes. */
@@ -1085,6 +1091,26 @@ int strm_enableok(struct strm_pool *pool, uint32_t queue);
  * Not in STREAMS.
  */
 int strm_next_service(struct strm_pool *pool, uint32_t *queue);
+
+/*
+ * Serves queues until one gives a message that may go on to its next queue: one of high priority,
+ * or whose band has room there by strm_bcanput. Takes it off, and enables the queue again. Other
+ * queues rest. Then strm_putq on service->next passes the message on, strm_putq on another queue
+ * replies, strm_freemsg drops it, strm_hold puts it back. The last `held` queues of the run list
+ * are not served: begin with 0, and go on with service->held + 1 if only strm_hold was called
+ * since, otherwise with 0. Returns STRM_NONE if no other queue is enabled, or if the first one has
+ * no next queue; it stays there. No wake-up is lost if exactly the queues with a next queue have a
+ * service procedure. Since 0.6.0.
+ * Not in STREAMS.
+ */
+int strm_serve(struct strm_pool *pool, uint32_t held, struct strm_service *service, struct strm_msg *msg);
+
+/*
+ * Puts a message back as strm_putbq does, and enables the queue as strm_qenable does: if no block is
+ * free, for instance. Since 0.6.0.
+ * Not in STREAMS.
+ */
+int strm_hold(struct strm_pool *pool, uint32_t queue, struct strm_msg msg);
 
 /* Returns the queue at a place of the run list, or STRM_NONE if there is none. Not in STREAMS. */
 int strm_run_at(const struct strm_pool *pool, uint32_t place, uint32_t *queue);

@@ -60,6 +60,9 @@ struct strm_reader {
 	CALL(noenable, (struct strm_pool *pool, uint32_t queue), (pool, queue), 1) \
 	CALL(enableok, (struct strm_pool *pool, uint32_t queue), (pool, queue), 1) \
 	CALL(next_service, (struct strm_pool *pool, uint32_t *queue), (pool, queue), queue != NULL) \
+	CALL(serve, (struct strm_pool *pool, uint32_t held, struct strm_service *service, struct strm_msg *msg), \
+		(pool, held, service, msg), service != NULL && msg != NULL && (void *)service != (void *)msg) \
+	CALL(hold, (struct strm_pool *pool, uint32_t queue, struct strm_msg msg), (pool, queue, msg), 1) \
 	CALL(bufcall, (struct strm_pool *pool, uint32_t size, uint32_t *id), (pool, size, id), id != NULL) \
 	CALL(unbufcall, (struct strm_pool *pool, uint32_t id), (pool, id), 1) \
 	CALL(take_ready, (struct strm_pool *pool, struct strm_wish *wish), (pool, wish), wish != NULL) \

@@ -1020,7 +1020,8 @@ static inline union value of_pointer(const void *at)
 	const struct strm_block_shape *: "at length type band", struct strm_block_place *: "data at length capacity", struct strm_queued *: "head type band bytes blocks", \
 	struct strm_marks *: "hiwat lowat", struct strm_wish *: "id size", struct strm_queue_spec *: "hiwat lowat service next", \
 	struct strm_census *: "free queued held", struct strm_class_info *: "size free total", \
-	struct strm_queue_info *: "msgs bytes read noenable enabled", struct strm_band_info *: "bytes full wanted", default: "")
+	struct strm_queue_info *: "msgs bytes read noenable enabled", struct strm_band_info *: "bytes full wanted", \
+	struct strm_service *: "queue next held", default: "")
 #define FIELDS(x) (sizeof *_Generic((x), struct strm_msg: "", uint32_t: "", int32_t: "", size_t: "", void *: "", const void *: "", default: (x)) / 4)
 #define FORM(x) { KIND(x), FIELDS(x), NAMES(x) },
 #define VALUE(x) _Generic((x), struct strm_msg: of_msg, uint32_t: of_number, int32_t: of_number, size_t: of_number, default: of_pointer)(x),
@@ -1044,7 +1045,7 @@ static inline union value of_pointer(const void *at)
 
 /* Whether a message that a call returns is new, or one of its parts, and no message of a queue or a name that was there. */
 #define IS_NEW(call) (strncmp(#call, "getq", 4) != 0 && strncmp(#call, "rmvq", 4) != 0 && strncmp(#call, "takeq", 5) != 0 \
-	&& strcmp(#call, "name_at") != 0)
+	&& strcmp(#call, "name_at") != 0 && strcmp(#call, "serve") != 0)
 
 #define OWN(call, arguments) { "strm_" #call "(", sizeof "strm_" #call, IS_NEW(call), COUNT arguments, { FORMS arguments } }
 

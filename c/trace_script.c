@@ -445,6 +445,17 @@ static void tell_by_place(struct traced *traced, const struct traced_call *call,
 	strm_script_call(traced, &other, named, code);
 }
 
+/* A message that is put back, and whose queue is then enabled. */
+static void tell_held(struct traced *traced, const struct traced_call *call, const union value *values, int code)
+{
+	const struct traced_call put = { "strm_putbq(", sizeof "strm_putbq", 0, 3, { call->forms[0], call->forms[1], call->forms[2] } };
+	const struct traced_call enable = { "strm_qenable(", sizeof "strm_qenable", 0, 2, { call->forms[0], call->forms[1] } };
+
+	strm_script_call(traced, &put, values, code);
+	if (code == STRM_OK)
+		strm_script_call(traced, &enable, values, code);
+}
+
 /* A script reads as many bytes as a line shows. */
 static void tell_read(struct traced *traced, const union value *values, size_t count)
 {
@@ -547,7 +558,9 @@ void strm_script_before(struct traced *traced, const struct traced_call *call, c
 		seek(traced, (uint32_t)values[call->count - 2].number);
 	else if (strncmp(name, "takeq", 5) == 0)
 		line_up(traced, (uint32_t)values[1].number);
-	if (traced->msgs + most_returned(traced, call, values, name) > MOST_MSGS + 1)
+	if (strcmp(name, "serve") == 0)
+		strm_script_end(traced, "strm_serve looks at several queues");
+	else if (traced->msgs + most_returned(traced, call, values, name) > MOST_MSGS + 1)
 		strm_script_end(traced, "more than 24 messages are held");
 	else if (++traced->calls > MOST_CALLS)
 		strm_script_end(traced, "there are 100,000 calls");
@@ -569,6 +582,8 @@ void strm_script_call(struct traced *traced, const struct traced_call *call, con
 		recipe++;
 	if (length > 2 && strcmp(name + length - 2, "_n") == 0 && code >= STRM_NONE)
 		tell_several(traced, call, values, code);
+	else if (strcmp(name, "hold") == 0 && code >= STRM_NONE)
+		tell_held(traced, call, values, code);
 	else if (strncmp(name, "takeq", 5) == 0 && code == STRM_OK)
 		tell_taken(traced, call, values);
 	else if ((strcmp(name, "insq_at") == 0 || strcmp(name, "rmvq_msg") == 0) && code >= STRM_NONE)

@@ -394,6 +394,7 @@ public:
     using queue_view::queue_view;
     [[gnu::always_inline]] void put(message&& msg, STRM_REPORT) { msg.hand_over(to, at_, strm_putq, number_); }
     void put_back(message&& msg, STRM_REPORT) { msg.hand_over(to, at_, strm_putbq, number_); }
+    void hold(message&& msg, STRM_REPORT) { msg.hand_over(to, at_, strm_hold, number_); }
     void insert(uint32_t place, message&& msg, STRM_REPORT) { msg.hand_over(to, at_, strm_insq, number_, place); }
     void insq_at(uint32_t before, message&& msg, STRM_REPORT) { msg.hand_over(to, at_, strm_insq_at, number_, before); }
     optional<message> get(STRM_REPORT) {
@@ -457,6 +458,8 @@ public:
     }
     message rmvq_msg(uint32_t head, STRM_REPORT) { return message::given(to, at_.get(), strm_rmvq_msg, head); }
     optional<uint32_t> next_service(STRM_REPORT) { return found<uint32_t>(to, strm_next_service); }
+    /* The message is empty if no queue gives one. */
+    message serve(uint32_t held, strm_service& service, STRM_REPORT) { return message::given(to, at_.get(), strm_serve, held, &service); }
     optional<uint32_t> run_at(uint32_t place, STRM_REPORT) const { return found<uint32_t>(to, strm_run_at, place); }
     uint32_t bufcall(uint32_t size, STRM_REPORT) { return stored<uint32_t>(to, strm_bufcall, size); }
     void unbufcall(uint32_t id, STRM_REPORT) { to(strm_unbufcall(handle(), id)); }

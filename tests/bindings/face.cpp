@@ -248,6 +248,15 @@ reply apply_by(lent& it, lent& other, const call& call, strm::report to) {
     case MESSAGE: return told_of(it, call, x.info(to));
     case PUTQ: return queue.put(std::move(x), to), reply_of(DONE);
     case PUTBQ: return queue.put_back(std::move(x), to), reply_of(DONE);
+    case HOLD: return queue.hold(std::move(x), to), reply_of(DONE);
+    case SERVE: {
+        strm_service service;
+        strm::message msg = pool.serve(call.place, service, to);
+        if (!msg)
+            return reply_of(NOTHING);
+        it.put(call.y, std::move(msg));
+        return told_of(it, call, service);
+    }
     case INSQ: return queue.insert(call.place, std::move(x), to), reply_of(DONE);
     case INSQ_AT: return queue.insq_at(call.number, std::move(x), to), reply_of(DONE);
     case LINKB: return x.linkb(std::move(it.take(call.z)), to), reply_of(DONE);

@@ -22,7 +22,8 @@ const TOLD_NAME: u32 = 15;
 const TOLD_IOV: u32 = 16;
 const TOLD_SPEC: u32 = 20;
 const TOLD_COUNT: u32 = 24;
-const REFUSED: u32 = 25;
+const TOLD_SERVICE: u32 = 25;
+const REFUSED: u32 = 26;
 
 #[repr(C)]
 pub struct Form {
@@ -301,6 +302,12 @@ impl Face {
             "freemsg" => done(self.spent(call.x, pool.freemsg(x))?),
             "putq" => done(self.spent(call.x, pool.putq(queue, x))?),
             "putbq" => done(self.spent(call.x, pool.putbq(queue, x))?),
+            "hold" => done(self.spent(call.x, pool.hold(queue, x))?),
+            "serve" => {
+                let Some((service, msg)) = pool.serve(place)? else { return Ok(told(NOTHING, &[])) };
+                self.put(call.y, msg)?;
+                told(TOLD_SERVICE, &[service.queue, service.next, service.held])
+            }
             "insq" => done(self.spent(call.x, pool.insq(queue, place, x))?),
             "blocks" => {
                 let mut infos = [BlockInfo::default(); MOST_ITEMS];

@@ -124,6 +124,8 @@
 		IS(DONE) | IS(EMPTY) | NOT(STRM_NO_SUCH_QUEUE) | NOT(STRM_NO_SUCH_PLACE) | NOT(STRM_BAD_ORDER)) \
 	CALL(RMVQ_MSG, rmvq_msg, "ey", (pool, c->number, a->y), 3, IS(DONE) | NOT(STRM_NO_SUCH_PLACE)) \
 	LOOK(QUEUE_SPEC, queue_spec, "q", (pool, c->queue, TO(struct strm_queue_spec)), 1, IS(TOLD_SPEC) | NOT(STRM_NO_SUCH_QUEUE)) \
+	CALL(SERVE, serve, "ky", (pool, c->place, TO(struct strm_service), a->y), 8, IS(TOLD_SERVICE) | IS(NOTHING)) \
+	CALL(HOLD, hold, "qX", (pool, c->queue, a->x), 2, IS(DONE) | IS(EMPTY) | NOT(STRM_NO_SUCH_QUEUE)) \
 	LOOK(RUN_AT, run_at, "k", (pool, c->place, TO(uint32_t)), 1, IS(TOLD_QUEUE) | IS(NOTHING)) \
 	LOOK(WISH_AT, wish_at, "k", (pool, c->place, TO(struct strm_wish)), 1, IS(TOLD_READY) | IS(NOTHING)) \
 	LOOK(CLASS_INFO, class_info, "k", (pool, c->place, TO(struct strm_class_info)), 1, IS(TOLD_CLASS) | IS(NOTHING)) \
@@ -178,7 +180,7 @@ struct call {
 	KIND(TOLD_QUEUE, "queue", 1) KIND(TOLD_MARKS, "marks", 2) KIND(TOLD_CENSUS, "census", 3) KIND(TOLD_BLOCKS, "blocks", 0) \
 	KIND(TOLD_NAME, "name", 0) KIND(TOLD_IOV, "iov", 0) KIND(TOLD_PLACE, "place", 4) KIND(TOLD_QUEUED, "queued", 5) KIND(TOLD_HEAD, "head", 1) \
 	KIND(TOLD_SPEC, "spec", 4) KIND(TOLD_CLASS, "class", 3) KIND(TOLD_STATE, "state", 5) KIND(TOLD_BAND, "band", 3) \
-	KIND(TOLD_COUNT, "count", 0) KIND(REFUSED, "refused", 1)
+	KIND(TOLD_COUNT, "count", 0) KIND(TOLD_SERVICE, "service", 3) KIND(REFUSED, "refused", 1)
 
 #define NAME(kind, word, numbers) kind,
 enum kind { KINDS(NAME) KINDS_OF_REPLY };

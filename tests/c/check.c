@@ -67,7 +67,9 @@ void open_scene(struct scene *scene, struct strm_pool *pool, struct strm_pool *o
 	ANSWERS(strm_linkb(pool, scene->x, empty), STRM_OK);
 	ANSWERS(strm_linkb(pool, scene->x, message(pool, "too")), STRM_OK);
 	scene->z = message(pool, "tail");
-	ANSWERS(strm_putq(pool, 0, message(pool, "nil")), STRM_OK);
+	empty = message(pool, "nil");
+	ANSWERS(strm_setband(pool, empty, 1), STRM_OK);
+	ANSWERS(strm_putq(pool, 0, empty), STRM_OK);
 	scene->queued = message(pool, "one");
 	ANSWERS(strm_linkb(pool, scene->queued, message(pool, "1")), STRM_OK);
 	ANSWERS(strm_putq(pool, 0, scene->queued), STRM_OK);

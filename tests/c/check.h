@@ -28,8 +28,8 @@ struct strm_msg message(struct strm_pool *pool, const char *bytes);
 int same_name(struct strm_msg a, struct strm_msg b);
 
 /*
- * Two pools, of which the first has 16 message blocks, two classes, two wishes and two queues. Queue 0 has two messages, and its next is queue
- * 1, whose band 0 is full and wanted. Both are enabled. Message x is held, with the blocks `held`, one without bytes, and `too`; z is held, too.
+ * Two pools, of which the first has 16 message blocks, two classes, two wishes and two queues. Queue 0 has three messages, the first of band 1,
+ * and its next is queue 1, whose band 0 is full and wanted. Both are enabled. Message x is held, with the blocks `held`, one without bytes, and `too`; z is held, too.
  * The call is done if it is made as set_call puts it there.
  */
 #define MBLKS 16

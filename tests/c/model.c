@@ -1262,6 +1262,10 @@ static struct reply act_on_queue(struct model *v, const struct call *call)
 	switch (call->verb) {
 	case PUTQ: case PUTBQ:
 		return put(v, call);
+	case HOLD:
+		put(v, call);
+		enabled(v, call->queue);
+		return reply_of(DONE);
 	case INSQ:
 		return inserted(v, call);
 	case INSQ_AT:
@@ -1322,6 +1326,48 @@ static struct reply served_next(struct model *v)
 	v->run_count--;
 	memmove(v->run, v->run + 1, v->run_count * sizeof *v->run);
 	return reply;
+}
+
+/* Takes the first message off a queue that is served into the register, if it may go on; otherwise it is put back. */
+static int has_given(struct model *v, const struct call *call, uint32_t queue)
+{
+	struct call single = *call;
+	uint32_t rank;
+
+	single.verb = GETQ;
+	single.queue = queue;
+	if (got(v, &single).kind == NOTHING)
+		return 0;
+	rank = rank_of(v->registers[call->y]);
+	if (rank == 256 || asked_for_room(v, v->queues[queue].spec.next, rank).kind == YES)
+		return 1;
+	single.verb = PUTBQ;
+	single.x = call->y;
+	put(v, &single);
+	return 0;
+}
+
+/* Serves all but the last queues of the run list, as many as the call's place says, until one gives a message. */
+static struct reply served(struct model *v, const struct call *call)
+{
+	struct reply reply = reply_of(TOLD_SERVICE);
+	uint32_t held = call->place, before, queue;
+
+	for (; v->run_count > held; held = 0) {
+		queue = v->run[0];
+		before = v->run_count;
+		if (v->queues[queue].spec.next == STRM_NO_QUEUE)
+			break;
+		served_next(v);
+		if (!has_given(v, call, queue))
+			continue;
+		enabled(v, queue);
+		reply.numbers[0] = queue;
+		reply.numbers[1] = v->queues[queue].spec.next;
+		reply.numbers[2] = v->run_count == before ? held : 0;
+		return reply;
+	}
+	return reply_of(NOTHING);
 }
 
 static void wish_removed(struct model *v, uint32_t place)
@@ -1470,6 +1516,8 @@ static struct reply act_on_pool(struct model *v, const struct call *call)
 		return reply_of(DONE);
 	case SERVICE:
 		return served_next(v);
+	case SERVE:
+		return served(v, call);
 	case BUFCALL:
 		return wished(v, call);
 	case UNBUFCALL: case READY:
@@ -1550,7 +1598,7 @@ static struct reply applied(struct model *v, struct model *other, const struct c
 		return other->registers[call->y] != NULL ? reply_of(TAKEN) : transferred(v, other, call);
 	if (names(verb, "q"))
 		return act_on_queue(v, call);
-	if (names(verb, "xXy") && !names(verb, "e"))
+	if (names(verb, "xXy") && !names(verb, "e") && verb != SERVE)
 		return act_on_messages(v, call);
 	return act_on_pool(v, call);
 }

@@ -118,6 +118,8 @@ int main(void)
 	strm_rmvq_msg(&pool, msgs[7].head, &out);
 	strm_insq_at(&pool, 1, STRM_NO_HEAD, out);
 	strm_rmvq_msg(&pool, 99, &out);
+	strm_hold(&pool, 2, msgs[5]);
+	strm_hold(&pool, 0, msgs[5]);	/* strm_putbq and strm_qenable */
 	strm_close(&pool);
 	return 0;
 }

@@ -116,6 +116,7 @@ QueueInfo = NamedTuple("QueueInfo", [("msgs", int), ("bytes", int), ("read", int
 BandInfo = NamedTuple("BandInfo", [("bytes", int), ("full", int), ("wanted", int)])
 Marks = NamedTuple("Marks", [("hiwat", int), ("lowat", int)])
 Wish = NamedTuple("Wish", [("id", int), ("size", int)])
+Service = NamedTuple("Service", [("queue", int), ("next", int), ("held", int)])
 # The name of a message, which may be kept. `Pool.adopt` makes a message of it.
 Name = NamedTuple("Name", [("pool", int), ("head", int), ("stamp", int)])
 
@@ -154,7 +155,7 @@ CALLS: Dict[str, str] = {
     "first_queued": "pu*", "last_queued": "pu*", "queued_after": "pu*", "queued_before": "pu*", "queue_of": "pu*", "queued_bytes": "puu**",
     "queued_iov": "puu*z*", "flushq": "Puu", "flushband": "Puuu", "allocb_n": "Pu*z*", "freemsg_n": "P*z*", "putq_n": "Pu*z*", "getq_n": "Pu*z*",
     "takeq": "Puu*z*", "takeq_band": "Puuu*z*", "bcanput": "Puu*", "strqset": "Puuuu", "strqget": "puu*", "qenable": "Pu", "noenable": "Pu",
-    "enableok": "Pu", "next_service": "P*", "run_at": "pu*", "bufcall": "Pu*", "unbufcall": "Pu", "take_ready": "P*", "wish_at": "pu*",
+    "enableok": "Pu", "next_service": "P*", "serve": "Pu**", "hold": "Pum", "run_at": "pu*", "bufcall": "Pu*", "unbufcall": "Pu", "take_ready": "P*", "wish_at": "pu*",
     "queue_spec": "pu*", "census": "p*", "class_info": "pu*", "least_free_blocks": "p*", "least_free": "pu*", "reset_least": "P",
     "queue_info": "pu*", "band_info": "puu*", "shape_all": "Pm*z",
 }
@@ -310,6 +311,11 @@ class Pool:
     def next_service(self) -> Optional[Queue]:
         """Takes the first queue off the run list."""
         return None if (number := self._found("next_service")) is None else self.queues[number]
+
+    def serve(self, held: int = 0) -> Optional[Tuple[Service, Message]]:
+        """Serves queues, but for the last `held` ones of the run list, until one gives a message that may go on to its next queue."""
+        room, msg = (ctypes.c_uint32 * 3)(), _Msg()
+        return (Service._make(room), Message(self, msg)) if self._change("serve", held, room, ctypes.byref(msg)) else None
 
     def run_at(self, place: int) -> Optional[int]:
         return self._found("run_at", place)
@@ -648,6 +654,9 @@ class Queue:
     def put_back(self, msg: Message) -> None:
         """strm_putbq"""
         msg._hand_over("putbq", self.number, of=self.pool)
+
+    def hold(self, msg: Message) -> None:
+        msg._hand_over("hold", self.number, of=self.pool)
 
     def insert(self, place: int, msg: Message) -> None:
         """strm_insq"""

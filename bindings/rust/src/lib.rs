@@ -358,6 +358,8 @@ structs! {
     Marks { hiwat: u32, lowat: u32, }
     /// A wish: `struct strm_wish`.
     Wish { id: u32, size: u32, }
+    /// The service of a queue that gave a message: `struct strm_service`.
+    Service { queue: u32, next: u32, held: u32, }
 }
 
 /// A pool. It is closed when it is dropped.
@@ -565,6 +567,13 @@ impl Pool {
         handed(msg, result)
     }
 
+    /// Puts a message back on a queue, before those of its rank, and enables the queue.
+    #[inline]
+    pub fn hold(&mut self, queue: u32, msg: Message) -> Result<(), Rejected> {
+        let result = done(raw::strm_hold(&mut self.handle, queue, msg.0));
+        handed(msg, result)
+    }
+
     /// Puts a message at a place of a queue.
     #[inline]
     pub fn insq(&mut self, queue: u32, place: u32, msg: Message) -> Result<(), Rejected> {
@@ -628,6 +637,13 @@ impl Pool {
     #[inline]
     pub fn strqset(&mut self, queue: u32, band: u32, marks: Marks) -> Result<(), Refusal> {
         done(raw::strm_strqset(&mut self.handle, queue, band, marks.hiwat, marks.lowat))
+    }
+
+    /// Serves queues, but for the last `held` ones of the run list, until one gives a message that may go on to its next queue.
+    #[inline]
+    pub fn serve(&mut self, held: u32) -> Result<Option<(Service, Message)>, Refusal> {
+        found(|given: &mut (Service, Name)| raw::strm_serve(&mut self.handle, held, &mut given.0, &mut given.1))
+            .map(|given| given.map(|(service, name)| (service, Message(name))))
     }
 }
 

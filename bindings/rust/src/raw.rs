@@ -11,7 +11,7 @@ use core::ops::Deref;
 use core::slice;
 
 use crate::{done, found, stored, BlockInfo, BlockPlace, BlockShape, Census, ClassInfo, ClassSpec, Config, Flush, Marks, Message, MsgType};
-use crate::{Name, Pool, Queued, Refusal, Wish};
+use crate::{Name, Pool, Queued, Refusal, Service, Wish};
 
 /// A pool's handle, as `struct strm_pool` of strm.h.
 #[derive(Debug)]
@@ -141,6 +141,8 @@ unsafe extern "C" {
     pub(crate) safe fn strm_transfer(pool: &mut Handle, other: &mut Handle, msg: Name, moved: &mut Name) -> c_int;
     pub(crate) safe fn strm_putq(pool: &mut Handle, queue: u32, msg: Name) -> c_int;
     pub(crate) safe fn strm_putbq(pool: &mut Handle, queue: u32, msg: Name) -> c_int;
+    pub(crate) safe fn strm_hold(pool: &mut Handle, queue: u32, msg: Name) -> c_int;
+    pub(crate) safe fn strm_serve(pool: &mut Handle, held: u32, service: &mut Service, msg: &mut Name) -> c_int;
     pub(crate) safe fn strm_insq(pool: &mut Handle, queue: u32, place: u32, msg: Name) -> c_int;
     pub(crate) safe fn strm_insq_at(pool: &mut Handle, queue: u32, before: u32, msg: Name) -> c_int;
     fn strm_read_queued(pool: &Handle, queue: u32, place: u32, at: u32, into: *mut c_void, length: usize, count: &mut usize) -> c_int;

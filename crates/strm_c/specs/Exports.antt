@@ -8,11 +8,15 @@ use Rattle.strm_mblk.specs.Block.{Message, bytes_of, size_of}
 use Rattle.strm_mblk.specs.Given.{Given, answer_of, value_after}
 use Rattle.strm_queue.specs.QueueLooks.{queued_message}
 use Rattle.strm_pool.specs.PoolValue.{PoolValue, queued_blocks_of}
+use Rattle.strm_scheduler.specs.declared.starting.Service.{Service}
+use Rattle.strm_scheduler.specs.Laws.{AreKeptAwake}
 use Rattle.strm_named.specs.declared.name.Name.{Name}
-use Rattle.strm_named.specs.NamedCalls.{Outcome, Shape, answer_told, named_after, names_of, one_message, with_names}
+use Rattle.strm_named.specs.NamedCalls.{Outcome, ServesNamed, Shape, answer_told, named_after, names_of, one_message, with_names}
 use Rattle.strm_named.specs.NamedValue.{KeepsNames, NamedValue, Renames, is_valid, with_pool}
 use Rattle.strm_c.specs.declared.code.Code.TheVariants.{BadArgument, NotOpen}
+use Rattle.strm_c.specs.declared.layout.StrmService.{StrmService}
 use Rattle.strm_c.specs.Codes.{Answer, number_of, number_returned, answer_of_result, answer_of_refusable, value_written}
+use Rattle.strm_c.specs.InC.{service_told}
 
 -- the pool of a handle, if the handle is open
 abbrev pub Held : Type 0
@@ -60,6 +64,19 @@ abbrev pub Takes : {X Z : Type 0} → (X → Answer Z) → (PoolValue → X × P
 Takes tells taken old new number was is =
     Leaves (λ v. with_pool v (taken v.pool).1) (λ v. tells (taken v.pool).0) old new number was is
     × WhileOpen KeepsNames old new
+
+-- ---- the scheduler
+
+-- the queues of the pool that were awake stay so, if the handle is open
+abbrev pub KeepsAwake : Held → Held → Type 0
+KeepsAwake = WhileOpen (λ v w. AreKeptAwake v.pool → AreKeptAwake w.pool)
+
+-- A call that serves queues, but for these held ones.
+abbrev pub ServesHeld : ℕ → Seen (StrmService × Name)
+ServesHeld held None new number was is = (new ≡ None) × ((number ≡ number_of NotOpen) × (is ≡ was))
+ServesHeld held (Some v) new number was is =
+    (w : NamedValue) × (answer : Option (Service × Name)) × ServesNamed held v w answer
+    × ((new ≡ Some w) × ((number ≡ number_returned (service_told answer)) × (is ≡ value_written was (service_told answer))))
 
 -- ---- a call on two pools
 

@@ -1,5 +1,5 @@
 -- Numbers and structs of strm.h, and what they mean.
-use Rattle.std.specs.Prelude.{ℕ, Bool, true, false, ◌&&◌, ◌==◌, nat_lt, List, map, Option, None, Some, Ok, if◌then◌else◌, slice_get, unwrap_or}
+use Rattle.std.specs.Prelude.{ℕ, Bool, true, false, ◌&&◌, ◌==◌, nat_lt, List, map, Option, None, Some, Ok, Err, if◌then◌else◌, slice_get, unwrap_or}
 use Rattle.std.specs.List.{list_all}
 use Rattle.std.specs.Option.{is_some, option_map_or}
 use Rattle.strm_data.specs.declared.class_info.ClassInfo.{ClassInfo}
@@ -19,8 +19,10 @@ use Rattle.strm_queue.specs.declared.queue_info.QueueInfo.{QueueInfo}
 use Rattle.strm_queue.specs.declared.queue_spec.QueueSpec.{QueueSpec}
 use Rattle.strm_queue.specs.declared.queued_info.QueuedInfo.{QueuedInfo}
 use Rattle.strm_pool.specs.PoolValue.{Wish}
+use Rattle.strm_scheduler.specs.declared.starting.Service.{Service}
 use Rattle.strm_named.specs.declared.name.Name.{Name}
 use Rattle.strm_c.specs.Codes.{Answer}
+use Rattle.strm_c.specs.declared.code.Code.TheVariants.{Nothing}
 use Rattle.strm_c.specs.declared.layout.StrmBandInfo.{StrmBandInfo}
 use Rattle.strm_c.specs.declared.layout.StrmBlockInfo.{StrmBlockInfo}
 use Rattle.strm_c.specs.declared.layout.StrmBlockPlace.{StrmBlockPlace}
@@ -30,6 +32,7 @@ use Rattle.strm_c.specs.declared.layout.StrmMarks.{StrmMarks}
 use Rattle.strm_c.specs.declared.layout.StrmQueueInfo.{StrmQueueInfo}
 use Rattle.strm_c.specs.declared.layout.StrmQueueSpec.{StrmQueueSpec}
 use Rattle.strm_c.specs.declared.layout.StrmQueued.{StrmQueued}
+use Rattle.strm_c.specs.declared.layout.StrmService.{StrmService}
 use Rattle.strm_c.specs.declared.layout.StrmBlockShape.{StrmBlockShape}
 use Rattle.strm_c.specs.declared.layout.StrmWish.{StrmWish}
 
@@ -144,3 +147,11 @@ no_name = record { pool = 0; head = 0; stamp = 0 }
 -- two names; the second is that of no message if there is only one
 abbrev pub both : Name × Option Name → Answer (Name × Name)
 both names = Ok (names.0, unwrap_or names.1 no_name)
+
+-- the service of a queue and the name of the message that it gave, if it gave one
+abbrev pub service_in_c : Service → StrmService
+service_in_c s = record { queue = s.queue; next = s.next; held = s.held }
+
+abbrev pub service_told : Option (Service × Name) → Answer (StrmService × Name)
+service_told None = Err Nothing
+service_told (Some given) = Ok (service_in_c given.0, given.1)

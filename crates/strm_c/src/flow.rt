@@ -1,18 +1,21 @@
 //! Calls on flow control and on the run list.
-ghost use Rattle.std.specs.Prelude.{◌≡◌, Ok};
+ghost use Rattle.std.specs.Prelude.{◌≡◌, [], ◌∷◌, Ok};
 ghost use Rattle.strm_mblk.specs.Given.{answer_of};
 ghost use Rattle.strm_queue.specs.QueueCalls as queues;
 ghost use Rattle.strm_pool.specs.PoolValue.{on_queues, queued_blocks_of, with_queued};
+ghost use Rattle.strm_scheduler.specs.Laws.{hold};
+ghost use Rattle.strm_named.specs.NamedCalls.{no_message, on_name};
 ghost use Rattle.strm_c.specs.Codes.{any_or_nothing, answer_of_refusable};
-ghost use Rattle.strm_c.specs.Exports.{Asks, DoesOnPool, Ranged, Takes};
+ghost use Rattle.strm_c.specs.Exports.{Asks, CallsNamed, DoesOnPool, KeepsAwake, Ranged, ServesHeld, Takes};
 ghost use Rattle.strm_c.specs.InC.{band_of, flag, marks_in_c, capped_number};
 
-use crate::answer::{coded_refusal, number, present, put};
+use crate::answer::{coded, coded_refusal, number, present, put};
 use crate::code::Code;
 use crate::handle::StrmPool;
-use crate::layout::StrmMarks;
+use crate::layout::{StrmMarks, StrmService};
 use crate::numbers::{band_of, capped_number};
 use crate::reader::StrmReader;
+use strm_named::Name;
 
 /// Stores 1 in `yes` if a band has room at the target of a queue, otherwise 0. As [`NamedPool::bcanput`] of strm_named. A band
 /// above 255 is a `BadArgument`.
@@ -150,4 +153,44 @@ pub extern "C" fn strm_c_run_at(pool: &mut StrmReader, place: u32, queue: &mut u
     };
     let answer = view.named().pool().run_at(place);
     put(present(answer).map(u32::from), queue)
+}
+
+/// Serves queues, but for the last `held` ones of the run list, until one gives a message that may go on. Stores the service in
+/// `service`, and the message's name in `msg`. As [`NamedPool::serve`] of strm_named. Returns `Nothing` if none gives one.
+#[unsafe(no_mangle)]
+pub extern "C" fn strm_c_serve(
+    pool: &mut StrmPool,
+    held: u32,
+    service: &mut StrmService,
+    msg: &mut Name,
+) -> i32
+    ensures { ServesHeld held pool.old.at.named pool.new.at.named result
+        (service.old, msg.old) (service.new, msg.new) }
+{
+    let Some(named) = pool.named_mut() else {
+        return Code::NotOpen.number();
+    };
+    match named.serve(held) {
+        Some((given, name)) => {
+            *service = StrmService::of(given);
+            *msg = name;
+            0
+        }
+        None => Code::Nothing.number(),
+    }
+}
+
+/// Puts a message back on a queue, and enables the queue. As [`NamedPool::hold`] of strm_named.
+#[unsafe(no_mangle)]
+pub extern "C" fn strm_c_hold(pool: &mut StrmPool, queue: u32, msg: Name) -> i32
+    ensures awake { KeepsAwake pool.old.at.named pool.new.at.named }
+    ensures does { CallsNamed no_message Ok (λ v. on_name v msg
+        (on_queues v.pool (hold (capped_number queue) msg.head (queued_blocks_of v.pool)))) (msg.head ∷ [])
+        pool.old.at.named pool.new.at.named result tt tt }
+{
+    let Some(named) = pool.named_mut() else {
+        return Code::NotOpen.number();
+    };
+    let answer = named.hold(capped_number(queue), msg);
+    number(coded(answer))
 }

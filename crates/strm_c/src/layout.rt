@@ -1,6 +1,6 @@
 //! The structs of strm.h, field by field, and how values of the pool are stored in them.
 ghost use Rattle.std.specs.Prelude.{◌≡◌, ◌&&◌};
-ghost use Rattle.strm_c.specs.InC.{band_in_c, block_in_c, census_in_c, class_in_c, marks_in_c, is_shape, place_in_c, queue_in_c, queued_in_c, shape_of, spec_in_c, wish_in_c};
+ghost use Rattle.strm_c.specs.InC.{band_in_c, block_in_c, census_in_c, class_in_c, marks_in_c, is_shape, place_in_c, queue_in_c, queued_in_c, service_in_c, shape_of, spec_in_c, wish_in_c};
 
 use crate::numbers::{band_of, number_of_next, type_of};
 use strm_mblk::Shaped;
@@ -8,6 +8,7 @@ use strm_pool::{
     BandInfo, BlockInfo, BlockPlace, Census, ClassInfo, Marks, MsgType, QueueInfo, QueueSpec,
     QueuedInfo, Shape,
 };
+use strm_scheduler::Service;
 
 /// A size class of a configuration.
 #[repr(C)]
@@ -101,6 +102,18 @@ pub struct StrmQueued {
     pub bytes: u32,
     /// The number of its blocks, 1 or more.
     pub blocks: u32,
+}
+
+/// The service of a queue that gave a message.
+#[repr(C)]
+#[derive(Clone, Copy, Debug)]
+pub struct StrmService {
+    /// The queue.
+    pub queue: u32,
+    /// Its next queue, to which the message may go on.
+    pub next: u32,
+    /// How many queues, those just before this one at the end of the run list, are held back.
+    pub held: u32,
 }
 
 /// The number of messages and bytes on a queue, and its marks.
@@ -238,6 +251,19 @@ impl StrmQueued {
             band: u32::from(queued.band),
             bytes: queued.size,
             blocks: queued.blocks,
+        }
+    }
+}
+
+impl StrmService {
+    // A service as the struct of C.
+    pub(crate) fn of(service: Service) -> StrmService
+        ensures { result ≡ service_in_c service }
+    {
+        StrmService {
+            queue: u32::from(service.queue),
+            next: u32::from(service.next),
+            held: service.held,
         }
     }
 }

@@ -42,7 +42,8 @@ pub use code::Code;
 pub use handle::StrmPool;
 pub use layout::{
     StrmBandInfo, StrmBlockInfo, StrmBlockPlace, StrmBlockShape, StrmCensus, StrmClassInfo,
-    StrmClassSpec, StrmIov, StrmMarks, StrmQueueInfo, StrmQueueSpec, StrmQueued, StrmWish,
+    StrmClassSpec, StrmIov, StrmMarks, StrmQueueInfo, StrmQueueSpec, StrmQueued, StrmService,
+    StrmWish,
 };
 pub use lending::{Lender, end, join, lend, lend_to_two, look_by_two, split, take_back};
 pub use parts::Parts;
