@@ -52,7 +52,6 @@
 namespace strm {
 using std::optional;
 
-/* ---- refusals */
 enum class refusal {
     too_large = STRM_TOO_LARGE, no_mblk = STRM_NO_MBLK, no_data = STRM_NO_DATA, ref_max = STRM_REF_MAX,
     no_such_block = STRM_NO_SUCH_BLOCK, shared = STRM_SHARED, no_room = STRM_NO_ROOM, too_short = STRM_SHORT,
@@ -358,7 +357,6 @@ private:
 };
 inline strm::blocks message::blocks() const noexcept { return strm::blocks(*this); }
 
-/* ---- queues */
 /* The looks at a queue: `size` is strm_qsize, `spec` strm_queue_spec, `info` strm_queue_info, and `band` strm_band_info. */
 class queue_view {
 public:
@@ -417,7 +415,6 @@ public:
     void enableok(STRM_REPORT) { to(strm_enableok(handle(), number_)); }
 };
 
-/* ---- pools */
 /* A pool, which its constructor opens, by strm_open_with if there is an allocator. */
 class pool {
 public:

@@ -155,9 +155,9 @@ CALLS: Dict[str, str] = {
     "first_queued": "pu*", "last_queued": "pu*", "queued_after": "pu*", "queued_before": "pu*", "queue_of": "pu*", "queued_bytes": "puu**",
     "queued_iov": "puu*z*", "flushq": "Puu", "flushband": "Puuu", "allocb_n": "Pu*z*", "freemsg_n": "P*z*", "putq_n": "Pu*z*", "getq_n": "Pu*z*",
     "takeq": "Puu*z*", "takeq_band": "Puuu*z*", "bcanput": "Puu*", "strqset": "Puuuu", "strqget": "puu*", "qenable": "Pu", "noenable": "Pu",
-    "enableok": "Pu", "next_service": "P*", "serve": "Pu**", "hold": "Pum", "run_at": "pu*", "bufcall": "Pu*", "unbufcall": "Pu", "take_ready": "P*", "wish_at": "pu*",
+    "enableok": "Pu", "next_service": "P*", "run_at": "pu*", "bufcall": "Pu*", "unbufcall": "Pu", "take_ready": "P*", "wish_at": "pu*",
     "queue_spec": "pu*", "census": "p*", "class_info": "pu*", "least_free_blocks": "p*", "least_free": "pu*", "reset_least": "P",
-    "queue_info": "pu*", "band_info": "puu*", "shape_all": "Pm*z",
+    "queue_info": "pu*", "band_info": "puu*", "shape_all": "Pm*z", "serve": "Pu**", "hold": "Pum",
 }
 _KINDS: Dict[str, Any] = {
     **dict.fromkeys("Pp*", ctypes.c_void_p), "m": _Msg, "u": ctypes.c_uint32, "i": ctypes.c_int32, "z": ctypes.c_size_t, "b": ctypes.c_char_p,
@@ -191,7 +191,6 @@ def _text_of(call: str, *args: Any) -> str:
 
 
 def version() -> str:
-    """The version of the library."""
     return _text_of("strm_version")
 
 
@@ -251,8 +250,7 @@ class Pool:
         return "<Pool {}: free={} queued={} held={}>".format(self.id, *self.census()) if self.is_open() else f"<Pool {self.id}, closed>"
 
     @staticmethod
-    def memory(mblks: int, classes: Sequence[Tuple[int, int]], queues: Sequence[QueueSpec], bufcalls: int = 0, first_id: int = 1,
-               id: int = 1) -> int:
+    def memory(mblks: int, classes: Sequence[Tuple[int, int]], queues: Sequence[QueueSpec], bufcalls: int = 0, first_id: int = 1, id: int = 1) -> int:
         bytes = ctypes.c_size_t()
         _call("memory", ctypes.byref(_with_config(id, mblks, classes, queues, bufcalls, first_id)), ctypes.byref(bytes))
         return bytes.value
@@ -309,7 +307,6 @@ class Pool:
         return self._made("rmvq_msg", head)
 
     def next_service(self) -> Optional[Queue]:
-        """Takes the first queue off the run list."""
         return None if (number := self._found("next_service")) is None else self.queues[number]
 
     def serve(self, held: int = 0) -> Optional[Tuple[Service, Message]]:
@@ -465,7 +462,6 @@ class Message:
         return Name(self._msg.pool, self._msg.head, self._msg.stamp)
 
     def has(self) -> bool:
-        """Whether the pool has the message."""
         return self.pool._number("has", self._msg) == 1
 
     def size(self) -> int:
@@ -606,15 +602,15 @@ class Message:
 
 
 class Queue:
-    """A queue of a pool. Its `size` is strm_qsize, `spec` strm_queue_spec, `info` strm_queue_info, and `band` strm_band_info."""
+    """A queue of a pool. Its `size` is strm_qsize, `spec` strm_queue_spec, `info` strm_queue_info, and `band` strm_band_info. `put`, `put_back`,
+    `get`, `insert` and `remove` are strm_putq, strm_putbq, strm_getq, strm_insq and strm_rmvq."""
 
     def __init__(self, pool: Pool, number: int) -> None:
         self.pool, self.number = pool, number
 
     def __repr__(self) -> str:
-        if not self.pool.is_open():
-            return f"<Queue {self.number} of a closed pool>"
-        return "<Queue {}: msgs={} bytes={} read={} noenable={} enabled={}>".format(self.number, *self.info())
+        state = ": msgs={} bytes={} read={} noenable={} enabled={}".format(*self.info()) if self.pool.is_open() else " of a closed pool"
+        return f"<Queue {self.number}{state}>"
 
     def __iter__(self) -> Iterator[Queued]:
         """What the messages on it are like."""
@@ -648,37 +644,32 @@ class Queue:
         return self.pool._told(BandInfo, "band_info", self.number, band)
 
     def put(self, msg: Message) -> None:
-        """strm_putq"""
         msg._hand_over("putq", self.number, of=self.pool)
 
     def put_back(self, msg: Message) -> None:
-        """strm_putbq"""
         msg._hand_over("putbq", self.number, of=self.pool)
 
     def hold(self, msg: Message) -> None:
         msg._hand_over("hold", self.number, of=self.pool)
 
     def insert(self, place: int, msg: Message) -> None:
-        """strm_insq"""
         msg._hand_over("insq", self.number, place, of=self.pool)
 
     def insq_at(self, before: Optional[int], msg: Message) -> None:
         msg._hand_over("insq_at", self.number, 2**32 - 1 if before is None else before, of=self.pool)
 
     def get(self) -> Optional[Message]:
-        """strm_getq"""
         return self.pool._given("getq", self.number)
 
     def remove(self, place: int) -> Message:
-        """strm_rmvq"""
         return self.pool._made("rmvq", self.number, place)
 
     def put_n(self, msgs: Sequence[Message]) -> int:
-        """strm_putq_n. Returns the number of messages that were put."""
+        """Returns the number of messages that were put."""
         return self.pool._all("putq_n", msgs, self.number)
 
     def get_n(self, count: int) -> List[Message]:
-        """strm_getq_n. As many messages as there are, up to `count`."""
+        """As many messages as there are, up to `count`."""
         return self.pool._several("getq_n", count, self.number)
 
     def takeq(self, count: int, flush: int = Flush.ALL) -> List[Message]:
