@@ -90,8 +90,7 @@ impl Pool {
         self.wishes.lawful();
     }
 
-    /// Law: whatever bytes a pool's data blocks have, it is lawful. So a program may write bytes where calls lent them. Does
-    /// nothing.
+    /// Law: a pool stays lawful if its data blocks get other bytes, as many as before. Does nothing.
     pub fn lawful_with_any_bytes(&self)
         ensures { (blocks : List DataBlock) → DifferInBytes self.now.arena.store.blocks blocks
             → IsLawful (with_data_blocks blocks self.now) }
