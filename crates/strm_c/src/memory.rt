@@ -17,7 +17,7 @@ const POOL: usize = 908;
 
 const MESSAGE_BLOCK: usize = 64;
 
-const QUEUE: usize = 5280;
+const QUEUE: usize = 5288;
 
 const CLASS: usize = 44;
 
