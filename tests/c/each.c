@@ -1963,7 +1963,7 @@ static int is_awake(const struct strm_pool *pool, uint32_t q)
 /* The next drawn number, below `most`. */
 static uint32_t drawn(uint32_t *state, uint32_t most)
 {
-	*state = *state * 1664525u + 1013904223u;
+	*state = (uint32_t)(((uint64_t)*state * 1664525u + 1013904223u) & 0xFFFFFFFFu);
 	return (*state >> 8) % most;
 }
 
