@@ -126,7 +126,7 @@ static void fill(queue_t *q, size_t size, int band)
 /* A band is full from its high water mark on, and no other one is then. */
 static void test_full(void)
 {
-	strhead_t *head;
+	strhead_t *head = NULL;
 	queue_t *q;
 
 	CHECK(str_init(NULL) == 0 && str_open(&echoinfo, 0, 0, &head) == 0);
@@ -334,7 +334,7 @@ static void test_rest(void)
 	static struct module_info minfo = { 6, "resting", 0, INFPSZ, 1024, 128 };
 	static struct qinit side = { .qi_putp = putq, .qi_srvp = resting_wsrv, .qi_minfo = &minfo };
 	static struct streamtab resting = { &side, &side, 0, 0 };
-	strhead_t *head;
+	strhead_t *head = NULL;
 
 	CHECK(str_init(NULL) == 0 && str_open(&resting, 0, 0, &head) == 0);
 	resting_fails = 1;
