@@ -231,7 +231,7 @@ static void wake(_Atomic uint32_t *word, int who)
 	syscall(SYS_futex, word, FUTEX_WAKE_BITSET, WRITERS, NULL, NULL, who);
 }
 
-/* Writes the lines of the records that are in a chunk. Returns whether it is filled. What another writer has told is told again, but not written. */
+/* Writes the lines of the records that are in a chunk. Returns whether it is filled. Makes the lines of another writer again, but does not write them. */
 static int write_chunk(uint32_t number)
 {
 	struct chunk *chunk = &ring->chunks[number % CHUNKS];

@@ -5,8 +5,8 @@
  *     peer WORK ROUNDS TURNS [shared|own THREADS]
  *     peer WORK ROUNDS TURNS queued MESSAGES BYTES
  *
- * Threads share one pool, or each has its own. Or this number of messages with so many bytes each are on the queue. Each runs on a core of its own, as far as there are enough. Status 3 says that the peer has no such
- * work.
+ * Threads share one pool, or each has its own; each runs on its own core, if there are enough. Or MESSAGES messages of BYTES bytes each are on
+ * the queue. Status 3 says that the peer has no such work.
  */
 #define _GNU_SOURCE
 #include "peer.h"
