@@ -20,11 +20,10 @@
  *   - held: said of a message that has a valid name, and of its blocks. A message on a queue is not
  *     held.
  *   - place: of a block, counted from 0 in its message; of a message, from 0 on its queue.
- *   - service procedure: your code for an enabled queue. Mostly it takes messages off the queue
- *     until strm_getq or strm_getq_n returns STRM_NONE, or until strm_bcanput sets *yes to 0 and it
- *     puts one back. If it stops for another reason while messages are left, call strm_qenable when
- *     it can go on. Call strm_next_service in a loop, and run the service procedure of the queue
- *     that this returns (examples/c/service.c).
+ *   - service procedure: your code for an enabled queue, which strm_next_service returns
+ *     (examples/c/service.c). It takes messages off the queue until strm_getq or strm_getq_n returns
+ *     STRM_NONE, or until strm_bcanput sets *yes to 0 and it puts one back. If it stops for another
+ *     reason, call strm_qenable when it can go on. strm_serve is a loop over such procedures.
  *   - read place, write place: where the bytes of a message block begin and end in its data block.
  *     Each message block has its own.
  *   - room, headroom: bytes of the data block after the write place, and before the read place.
@@ -46,12 +45,13 @@
  *   - wish (bufcall): a recorded request for a message block and a data block. strm_take_ready
  *     returns the wish, not the blocks.
  *   - look: a call that changes nothing in the pool. Its handle is `const`. Looks are strm_testb,
- *     strm_read, strm_size, strm_msgdsize, strm_message, strm_block, strm_blocks, strm_bytes,
- *     strm_iov, strm_place, strm_region, strm_has, strm_name_at, strm_qsize, strm_queued_at,
- *     strm_read_queued, strm_first_queued, strm_last_queued, strm_queued_after,
- *     strm_queued_before, strm_queue_of, strm_queue_spec, strm_strqget, strm_run_at, strm_wish_at,
- *     strm_census, strm_class_info, strm_least_free_blocks, strm_least_free, strm_queue_info,
- *     strm_band_info, strm_report, strm_is_open.
+ *     strm_read, strm_size, strm_msgdsize, strm_message, strm_block, strm_blocks,
+ *     strm_block_number, strm_bytes, strm_iov, strm_place, strm_region, strm_has and strm_name_at.
+ *     So are strm_qsize, strm_queued_at, strm_read_queued, strm_first_queued, strm_last_queued,
+ *     strm_queued_after, strm_queued_before, strm_queue_of, strm_queued_bytes, strm_queued_iov,
+ *     strm_queue_spec, strm_strqget, strm_run_at, strm_wish_at, strm_census, strm_class_info,
+ *     strm_least_free_blocks, strm_least_free, strm_queue_info, strm_band_info, strm_report and
+ *     strm_is_open.
  *
  *
  * Results
@@ -79,11 +79,12 @@
  *      both handles of strm_transfer are the same one.
  *   3. STRM_INVALID: a name is not valid.
  *   4. STRM_NO_SUCH_QUEUE: the call names a queue that the pool does not have.
- *   5. The refusals that the call's comment lists, in that order.
+ *   5. The refusals that the call's comment lists, in that order. STRM_NO_SUCH_PLACE also says that
+ *      no queued message has the head.
  *
  * With STRM_NONE nothing is stored through pointers, except that strm_freeb and strm_unlinkb set
  * *rest to STRM_NO_MSG. After any code but STRM_OK and STRM_NONE, the pool, names, and what
- * pointers lead to are unchanged, except *count as below.
+ * pointers lead to are unchanged, but *count of strm_takeq, strm_takeq_band and _n calls is 0.
  *
  * A call whose name ends in _n makes `length` single calls, or fewer, up to the first that does not
  * return STRM_OK. It returns the code of the first one, or STRM_OK if `length` is 0, whatever the
@@ -128,15 +129,17 @@
  *     it, calls that meet often end the program by SIGILL, or they damage the pool unnoticed.
  *     ThreadSanitizer seldom reports them, since the library has no instrumentation. Different
  *     pools may be used at the same time.
- *   - Nothing is written through a pointer that strm_bytes, strm_iov or strm_region returns.
- *     Nothing is read through it from the beginning of the next call with that pool that is no
- *     look; a look leaves it good, and so does strm_room, strm_edit or strm_window. So a thread
- *     that shares the pool holds its lock from before the call until it has read there, without a
- *     gap; a read lock is enough. The pointer is passed to no call with the same pool, such as
- *     strm_write: copy the bytes by strm_read first. A call with another pool may get it.
+ *   - Nothing is written through a pointer that strm_bytes, strm_iov, strm_queued_bytes or
+ *     strm_queued_iov returns. Nothing is read through it from the beginning of the next call with
+ *     that pool that is neither a look nor strm_room, strm_edit or strm_window. So a thread that
+ *     shares the pool holds its lock from before the call until it has read there, without a gap; a
+ *     read lock is enough. The pointer is passed to no call with the same pool, such as strm_write:
+ *     copy the bytes by strm_read first. A call with another pool may get it.
  *   - The same is true of a pointer that strm_room, strm_edit or strm_window returns, but bytes may
  *     be written there too, as many as the call counted. They are then the bytes that the data
  *     block has. While a thread writes there, it holds the lock as for a call that is no look.
+ *   - Bytes at an address of strm_region are read at any time between calls. They are written there
+ *     only when strm_window would allow it, with the same locks, but without that call.
  *   - No call is made from a signal handler. An interrupt handler makes calls only while no other
  *     call runs.
  *   - Calls use SSE registers. Code that may not, as in most kernels, saves these before a call and
@@ -196,8 +199,8 @@ extern "C" {
 #endif
 
 /* The version of this header, as a text and as a number. */
-#define STRM_VERSION "0.5.0"
-#define STRM_VERSION_NUMBER 5000
+#define STRM_VERSION "0.6.0"
+#define STRM_VERSION_NUMBER 6000
 
 enum {
 	STRM_OK = 0,			/* done */
@@ -414,6 +417,13 @@ struct strm_band_info {
 	uint32_t wanted;		/* 1 if strm_bcanput found it full, and bytes stayed above the low water mark since */
 };
 
+/* The service of a queue that gave a message. Since 0.6.0. */
+struct strm_service {
+	uint32_t queue;			/* the queue */
+	uint32_t next;			/* its next queue, to which the message may go on */
+	uint32_t held;			/* how many queues, those just before this one at the end of the run list, are held back */
+};
+
 /* The water marks of a band, in bytes. */
 struct strm_marks {
 	uint32_t hiwat;
@@ -623,6 +633,14 @@ int strm_block(const struct strm_pool *pool, struct strm_msg msg, uint32_t place
  */
 int strm_blocks(const struct strm_pool *pool, struct strm_msg msg, uint32_t from, struct strm_block_info *into, size_t length,
 	size_t *count);
+
+/*
+ * Returns the number that the block at `place` has among all message blocks of the pool, until it is
+ * freed. Since 0.6.0.
+ * Refused as STRM_NO_SUCH_BLOCK.
+ * STREAMS: b_cont; a number replaces the pointer.
+ */
+int strm_block_number(const struct strm_pool *pool, struct strm_msg msg, uint32_t place, uint32_t *number);
 
 /* Sets *yes to 1 if the name is valid, else to 0. It never returns STRM_INVALID. Not in STREAMS. */
 int strm_has(const struct strm_pool *pool, struct strm_msg msg, uint32_t *yes);
@@ -868,7 +886,7 @@ int strm_insq(struct strm_pool *pool, uint32_t queue, uint32_t place, struct str
 
 /*
  * Puts a message on a queue as strm_insq does, before the message there whose first block is
- * `before`, or last if that is STRM_NO_HEAD. Takes constant time. Since 0.4.0.
+ * `before`, or last if that is STRM_NO_HEAD. Since 0.4.0.
  * Refused as STRM_NO_SUCH_PLACE if no message on this queue begins with that block; STRM_BAD_ORDER.
  * STREAMS: insq; a number replaces the pointer.
  */
@@ -889,9 +907,8 @@ int strm_getq(struct strm_pool *pool, uint32_t queue, struct strm_msg *msg);
 int strm_rmvq(struct strm_pool *pool, uint32_t queue, uint32_t place, struct strm_msg *msg);
 
 /*
- * Takes the message whose first block is `head` off its queue, and settles the queue. Takes
- * constant time. Since 0.4.0.
- * Refused as STRM_NO_SUCH_PLACE if no message on a queue begins with that block.
+ * Takes the message with this head off its queue, and settles the queue. Since 0.4.0.
+ * Refused as STRM_NO_SUCH_PLACE.
  * STREAMS: rmvq, whose caller also passes the queue; settling differs as at strm_getq.
  */
 int strm_rmvq_msg(struct strm_pool *pool, uint32_t head, struct strm_msg *msg);
@@ -915,41 +932,55 @@ int strm_read_queued(const struct strm_pool *pool, uint32_t queue, uint32_t plac
 	size_t *count);
 
 /*
- * Returns the number of the first block of the first message on a queue, or STRM_NONE if the queue
- * is empty.
+ * Returns the head of the first message on a queue, or STRM_NONE if the queue is empty.
  * STREAMS: q_first.
  */
 int strm_first_queued(const struct strm_pool *pool, uint32_t queue, uint32_t *head);
 
 /*
- * Returns the number of the first block of the last message on a queue, or STRM_NONE if the queue
- * is empty. Since 0.4.0.
+ * Returns the head of the last message on a queue, or STRM_NONE if the queue is empty. Since 0.4.0.
  * STREAMS: q_last.
  */
 int strm_last_queued(const struct strm_pool *pool, uint32_t queue, uint32_t *head);
 
 /*
- * Returns the number of the first block of the next message on the same queue, after the message
- * whose first block is `head`; or STRM_NONE if that is the last one.
- * Refused as STRM_NO_SUCH_PLACE if no message on a queue begins with that block.
+ * Returns the head of the message after the one with the head `head`, on the same queue; or
+ * STRM_NONE if that is the last one.
+ * Refused as STRM_NO_SUCH_PLACE.
  * STREAMS: b_next.
  */
 int strm_queued_after(const struct strm_pool *pool, uint32_t head, uint32_t *after);
 
 /*
- * Returns the number of the first block of the message before the one whose first block is `head`,
- * on the same queue; or STRM_NONE if that is the first one. Since 0.4.0.
- * Refused as STRM_NO_SUCH_PLACE if no message on a queue begins with that block.
+ * Returns the head of the message before the one with the head `head`, on the same queue; or
+ * STRM_NONE if that is the first one. Since 0.4.0.
+ * Refused as STRM_NO_SUCH_PLACE.
  * STREAMS: b_prev.
  */
 int strm_queued_before(const struct strm_pool *pool, uint32_t head, uint32_t *before);
 
 /*
- * Returns the queue that has the message whose first block is `head`. Since 0.4.0.
- * Refused as STRM_NO_SUCH_PLACE if no message on a queue begins with that block.
+ * Returns the queue that has the message with this head. Since 0.4.0.
+ * Refused as STRM_NO_SUCH_PLACE.
  * Not in STREAMS.
  */
 int strm_queue_of(const struct strm_pool *pool, uint32_t head, uint32_t *queue);
+
+/*
+ * Sets *bytes and *length as strm_bytes does, for a block of the queued message with this head.
+ * Since 0.6.0.
+ * Refused as STRM_NO_SUCH_PLACE, STRM_NO_SUCH_BLOCK.
+ * STREAMS: b_rptr and b_wptr.
+ */
+int strm_queued_bytes(const struct strm_pool *pool, uint32_t head, uint32_t place, const uint8_t **bytes, size_t *length);
+
+/*
+ * Fills an array as strm_iov does, for blocks of the queued message with this head. Since 0.6.0.
+ * Refused as STRM_NO_SUCH_PLACE.
+ * Not in STREAMS.
+ */
+int strm_queued_iov(const struct strm_pool *pool, uint32_t head, uint32_t from, struct strm_iov *into, size_t length,
+	size_t *count);
 
 /*
  * Frees messages of a queue, front to back: all, or those with data (STRM_FLUSHALL,
@@ -1060,6 +1091,26 @@ int strm_enableok(struct strm_pool *pool, uint32_t queue);
  * Not in STREAMS.
  */
 int strm_next_service(struct strm_pool *pool, uint32_t *queue);
+
+/*
+ * Serves queues until one gives a message that may go on to its next queue: one of high priority,
+ * or whose band has room there by strm_bcanput. Takes it off, and enables the queue again. Other
+ * queues rest. Then strm_putq on service->next passes the message on, strm_putq on another queue
+ * replies, strm_freemsg drops it, strm_hold puts it back. The last `held` queues of the run list
+ * are not served: begin with 0, and go on with service->held + 1 if only strm_hold was called
+ * since, otherwise with 0. Returns STRM_NONE if no other queue is enabled, or if the first one has
+ * no next queue; it stays there. No wake-up is lost if exactly the queues with a next queue have a
+ * service procedure. Since 0.6.0.
+ * Not in STREAMS.
+ */
+int strm_serve(struct strm_pool *pool, uint32_t held, struct strm_service *service, struct strm_msg *msg);
+
+/*
+ * Puts a message back as strm_putbq does, and enables the queue as strm_qenable does: if no block is
+ * free, for instance. Since 0.6.0.
+ * Not in STREAMS.
+ */
+int strm_hold(struct strm_pool *pool, uint32_t queue, struct strm_msg msg);
 
 /* Returns the queue at a place of the run list, or STRM_NONE if there is none. Not in STREAMS. */
 int strm_run_at(const struct strm_pool *pool, uint32_t place, uint32_t *queue);
