@@ -1,17 +1,19 @@
 -- Calls that alter a block.
-use Rattle.std.proofs.Common.{◌≡◌, ℕ, ◌+◌, ◌^◌, ◌<◌, ◌≤◌, List, length, Option, None, Ok, Some, refl, ap, ◌∙◌, arith, set, sym, subst, get_or-set_same, ◌-◌, Bool, true, false, ◌&&◌, ◌||◌, [], ◌∷◌, ◌++◌, drop, take, get_or, inl, inr, get_or-set_other, suc, length-set, Result, Err, map}
+use Rattle.std.proofs.Common.{◌≡◌, ℕ, zero, ◌+◌, ◌^◌, ◌<◌, ◌≤◌, List, length, Option, None, Ok, Some, refl, ap, ◌∙◌, arith, set, sym, subst, get_or-set_same, ◌-◌, Bool, true, false, ◌&&◌, ◌||◌, [], ◌∷◌, ◌++◌, drop, take, get_or, inl, inr, get_or-set_other, suc, length-set, Result, Err, map}
 use Rattle.std.specs.Prelude.{ok_or, slice_get, ◌⊎◌, count_by, min, nat_lt, not, option_map}
 use Rattle.std.proofs.lemmas.Option.{same_Some, slice_get-get_or, slice_get-map}
 use Rattle.std.proofs.lemmas.Bool.{cases_eq, cases_lt, false≢true, lt-ltb, cases_Bool, cond-true, cond-false, le-ltb}
-use Rattle.std.proofs.Math.Seq.{drop-nil, take-nil}
-use Rattle.std.proofs.lemmas.List.{length-drop, set-get_or, set_past, take-append-drop}
+use Rattle.std.proofs.Math.Bool.{or-false}
+use Rattle.std.proofs.Math.Seq.{drop-nil, take-length, take-nil}
+use Rattle.std.proofs.lemmas.List.{drop_all, length-drop, set-get_or, set_past, take-append-drop}
+use Rattle.std.proofs.lemmas.List.Sums.{sum_by-append}
 use Rattle.std.proofs.Math.Nat.{min-le_left, min-le_right}
 use Rattle.strm_data.specs.declared.refusal.Refusal.TheVariants.{NoSuchBlock, NoRoom, Shared}
 use Rattle.strm_data.specs.DataStore.{capacity_of, DataStore, data_block_at, no_data_block, with_bytes_written, DataBlock, with_kind, times}
 use Rattle.strm_data.specs.CountedStore.{CountedStore, IsKept}
 use Rattle.strm_mblk.specs.declared.blocks.Fields.{Fields}
 use Rattle.strm_mblk.specs.Arena.{Arena, message_at, with_message, held_at, references_to, shelved_blocks, without_held, has}
-use Rattle.strm_mblk.specs.Block.{Block, Message, uses_data, kind_of}
+use Rattle.strm_mblk.specs.Block.{Block, Message, uses_data, kind_of, size_of}
 use Rattle.strm_mblk.specs.BlockCalls.{block_found, own_block, with_bytes, with_block}
 use Rattle.strm_mblk.specs.BlocksLayout.{Suits, IsFilled, IsPlaced, arena_of, block_at, block_of, no_fields, fields_at, fields_shaped, message_of, with_shapes}
 use Rattle.strm_mblk.specs.NodeLists.{NodeLists, nodes_at}
@@ -102,6 +104,25 @@ module _ (id : ℕ) (s : CountedStore) (fields : List Fields) (v : NodeLists) (f
     pub data_there : x.data_number ≡ b.data_number → x.data_number < length s.store.blocks
     data_there same = subst (λ d. d < length s.store.blocks) (ap (λ (c : Block). c.data_number) block_is ∙ sym same) is_at.placed.there
 
+-- ==== bytes of a message from a place on
+
+-- what a walk from a place on finds it finds from the block on that has the place, if it finds nothing in the blocks before
+pub from_block : {X : Type 0} (f : ℕ → Message → X) (IsFit : Block → Type 0) → ((at : ℕ) (b : Block) (m : Message) → IsFit b → b.len ≤ at → f at (b ∷ m) ≡ f (at - b.len) m)
+    → (m : Message) → ((k : ℕ) (b : Block) → slice_get m k ≡ Some b → IsFit b) → (k skip at : ℕ) → size_of (take k m) + skip ≡ at → f at m ≡ f skip (drop k m)
+from_block f IsFit next m fit zero skip at is = ap (λ n. f n m) (omega (arith, is))
+from_block f IsFit next [] fit (suc k) skip at is = ap (λ n. f n []) (omega (arith, is))
+from_block f IsFit next (b ∷ m) fit (suc k) skip at is =
+    let size = sum_by-append (λ (c : Block). c.len) (b ∷ []) (take k m) in
+    next at b m (fit 0 b refl) (omega (arith, is, size)) ∙ from_block f IsFit next m (λ j. fit (suc j)) k skip (at - b.len) (omega (arith, is, size))
+
+-- a message is its first blocks and the others
+pub size_parts : (m : Message) (k : ℕ) → size_of m ≡ size_of (take k m) + size_of (drop k m)
+size_parts m k = sym (ap size_of (take-append-drop k m)) ∙ sum_by-append (λ (c : Block). c.len) (take k m) (drop k m)
+
+-- and those from a block on are it and those after it
+pub size_next : (m : Message) (k : ℕ) (b : Block) → slice_get m k ≡ Some b → size_of (drop k m) ≡ b.len + size_of (drop (k + 1) m)
+size_next m k b is = omega (arith, ap size_of (drop_from m k b is), sum_by-append (λ (c : Block). c.len) (b ∷ []) (drop (k + 1) m))
+
 -- ==== bytes are written over those of a message, block by block
 
 -- what is written is within the places of its block
@@ -147,6 +168,53 @@ touches_nothing a at [] = refl
 touches_nothing a at (b ∷ bs) =
     let none : bytes_within at 0 b ≡ 0 = omega (arith, min-le_left 0 (b.len - at)) in
     ap (λ n. (nat_lt 0 n && nat_lt 1 (references_to a b.data_number)) || touches_shared a (at - b.len) (0 - n) bs) none ∙ touches_nothing a (at - b.len) bs
+
+-- ---- all n bytes are in one block
+
+-- a block with no byte from a place on is passed
+touches_past : (a : Arena) (n at : ℕ) (b : Block) (m : Message) → b.len ≤ at → touches_shared a at n (b ∷ m) ≡ touches_shared a (at - b.len) n m
+touches_past a n at b m past =
+    let none : bytes_within at n b ≡ 0 = omega (arith, past) in
+    let left : n - 0 ≡ n = omega arith in
+    ap (λ k. (nat_lt 0 k && nat_lt 1 (references_to a b.data_number)) || touches_shared a (at - b.len) (n - k) m) none ∙ ap (λ k. touches_shared a (at - b.len) k m) left
+
+overwritten_past : (bytes : List ℕ) (s : DataStore) (at : ℕ) (b : Block) (m : Message) → b.len ≤ at → store_overwritten at bytes (b ∷ m) s ≡ store_overwritten (at - b.len) bytes m s
+overwritten_past bytes s at b m past =
+    let none : bytes_within at (length bytes) b ≡ 0 = omega (arith, past) in
+    (λ i. store_overwritten (at - b.len) (drop (none i) bytes) m (with_bytes_written b.data_number (b.offset + min at b.len) (take (none i) bytes) s))
+    ∙ ap (store_overwritten (at - b.len) bytes m) (unwritten s b.data_number (b.offset + min at b.len))
+
+module _ (m : Message) (k : ℕ) (b : Block) (is : slice_get m k ≡ Some b) (skip at : ℕ) (before : size_of (take k m) + skip ≡ at) (bytes : List ℕ) (inside : skip + length bytes ≤ b.len) where
+  -- the message has them
+  pub one_long : at + length bytes ≤ size_of m
+  one_long = omega (arith, inside, before, size_parts m k, size_next m k b is)
+
+  all : bytes_within skip (length bytes) b ≡ length bytes
+  all = omega (arith, inside)
+
+  -- they are shared if there are any and its data block is
+  pub one_touched : (a : Arena) → touches_shared a at (length bytes) m ≡ (nat_lt 0 (length bytes) && nat_lt 1 (references_to a b.data_number))
+  one_touched a =
+      let many = nat_lt 1 (references_to a b.data_number) in
+      let behind = drop (k + 1) m in
+      let none : length bytes - length bytes ≡ 0 = omega arith in
+      from_block (λ p bs. touches_shared a p (length bytes) bs) (λ c. Unit {0}) (λ p c bs fit past. touches_past a (length bytes) p c bs past) m (λ j c found. tt) k skip at before
+      ∙ touches_next m k b is a skip (length bytes)
+      ∙ ap (λ n. (nat_lt 0 n && many) || touches_shared a (skip - b.len) (length bytes - n) behind) all
+      ∙ ap (λ n. (nat_lt 0 (length bytes) && many) || touches_shared a (skip - b.len) n behind) none
+      ∙ ap (λ t. (nat_lt 0 (length bytes) && many) || t) (touches_nothing a (skip - b.len) behind)
+      ∙ or-false (nat_lt 0 (length bytes) && many)
+
+  -- they alone are written
+  pub one_overwritten : (s : DataStore) → store_overwritten at bytes m s ≡ with_bytes_written b.data_number (b.offset + skip) bytes s
+  one_overwritten s =
+      let behind = drop (k + 1) m in
+      let short : min skip b.len ≡ skip = omega (arith, inside) in
+      from_block (λ p bs. store_overwritten p bytes bs s) (λ c. Unit {0}) (λ p c bs fit past. overwritten_past bytes s p c bs past) m (λ j c found. tt) k skip at before
+      ∙ overwritten_next m k b is s skip bytes
+      ∙ (λ i. store_overwritten (skip - b.len) (drop (all i) bytes) behind (with_bytes_written b.data_number (b.offset + short i) (take (all i) bytes) s))
+      ∙ (λ i. store_overwritten (skip - b.len) (drop_all (length bytes) bytes (omega arith) i) behind (with_bytes_written b.data_number (b.offset + skip) (take-length bytes i) s))
+      ∙ overwritten_nothing (skip - b.len) behind (with_bytes_written b.data_number (b.offset + skip) bytes s)
 
 either : (b c : Bool) → (b || c) ≡ false → (b ≡ false) × (c ≡ false)
 either true c is = absurd cc

@@ -10,4 +10,4 @@ mod making
 mod Trimming
 mod Reading
 pub mod pulling
-pub mod shelving
+pub mod Shelving

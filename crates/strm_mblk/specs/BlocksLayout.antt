@@ -1,5 +1,5 @@
 -- How `Blocks` lays out message blocks. No public clause cites this module.
-use Rattle.std.specs.Prelude.{◌≡◌, ℕ, ◌+◌, ◌^◌, ◌<◌, ◌≤◌, Bool, List, [], ◌∷◌, length, map, Some, option_map, slice_get, slice_index_or, slice_set, nat_lt}
+use Rattle.std.specs.Prelude.{◌≡◌, ℕ, ◌+◌, ◌^◌, ◌<◌, ◌≤◌, Bool, List, [], ◌∷◌, length, map, take, Some, option_map, slice_get, slice_index_or, slice_set, nat_lt}
 use Rattle.strm_data.specs.CountedStore.{CountedStore, IsKept, count_of, without_reference, with_reference}
 use Rattle.strm_data.specs.DataStore.{DataStore, capacity_of, times}
 use Rattle.std.specs.List.{list_any}
@@ -9,6 +9,7 @@ use Rattle.strm_mblk.specs.declared.block_place.Shape.{Shape}
 use Rattle.strm_mblk.specs.declared.blocks.Blocks.TheInside.{Inside}
 use Rattle.strm_mblk.specs.declared.blocks.Fields.{Fields}
 use Rattle.strm_mblk.specs.declared.blocks.finding.Found.{Found}
+use Rattle.strm_mblk.specs.declared.blocks.finding.Start.{Start}
 use Rattle.strm_mblk.specs.Arena.{Arena, message_at, references_to, shelved_blocks}
 use Rattle.strm_mblk.specs.Block as model
 use Rattle.strm_mblk.specs.NodeLists.{NodeLists, IsNodesParted}
@@ -127,6 +128,12 @@ pub record IsReadable (strands : StrandLists) (fields : List Fields) (s : Counte
   pub listed : length fields ≡ length strands.chains
   pub placed : (n : ℕ) → n < length fields → IsPlaced s.store (fields_at fields n)
   pub kept : IsKept s
+
+-- byte `at` of the message that begins with `head` is byte `r.at` of its blocks from block `r.block` on, whose number is `r.node`
+pub record IsStart (strands : StrandLists) (fields : List Fields) (head at : ℕ) (r : Start) : Type 0 where
+  pub begins : slice_get (strand_at strands head) r.block ≡ Some r.node
+  pub there : r.node < length strands.chains
+  pub before : model.size_of (take r.block (message_of fields (strand_at strands head))) + r.at ≡ at
 
 -- every message block, free ones too, has its places inside a data block, and the stored counts are the numbers of references
 pub record IsFilled (s : CountedStore) (fields : List Fields) (lists : NodeLists) (arena : Arena) : Type 0 where

@@ -19,7 +19,6 @@ mod purse;
 mod reading;
 mod removal;
 mod rows;
-mod shelf;
 mod shelves;
 mod tokens;
 mod transfers;

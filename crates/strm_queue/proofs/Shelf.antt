@@ -18,7 +18,7 @@ use Rattle.strm_data.specs.declared.refusal.Refusal.TheVariants.{NoSuchPlace}
 use Rattle.strm_mblk.specs.Given.{answer_map}
 use Rattle.strm_mblk.proofs.arena.Counts.{blocks_in_adds, times-all, head_counts, number_is}
 use Rattle.strm_mblk.proofs.Lists.{drop_from, one_most, count_adds}
-use Rattle.strm_mblk.proofs.shelving.Shelving.{none_begins, parted_adds}
+use Rattle.strm_mblk.proofs.Shelving.{none_begins, parted_adds}
 use Rattle.strm_mblk.proofs.arena.Stands.{heads_apart, shelf_of-there}
 use Rattle.strm_queue.specs.QueueLooks.{info_of_message}
 use Rattle.std.proofs.lemmas.Grind.{common_steps}

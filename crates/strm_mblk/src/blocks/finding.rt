@@ -1,19 +1,21 @@
-//! Blocks of held messages by place: how calls find them, change their bytes and move their places.
+//! Blocks of messages by place, or by a byte: how calls find them, change their bytes and move their places.
 ghost use Rattle.std.specs.Prelude.{◌≡◌, ◌+◌, ◌<◌, ◌≤◌, ℕ, IfOk, IsTrue, Some, length, slice_get};
 ghost use Rattle.std.specs.Fn.{FnOnceReturnsAtMut, FnOnceTakesAtMut};
 ghost use Rattle.strm_data.specs.DataStore.{bytes_at, capacity_of};
 ghost use Rattle.strm_data.specs.Lending.{Edits};
+ghost use Rattle.strm_links.specs.StrandLists.{strand_at};
 ghost use Rattle.strm_mblk.specs.Arena.{has, message_at};
 ghost use Rattle.strm_mblk.specs.Block.{Block};
 ghost use Rattle.strm_mblk.specs.BlockCalls as model;
 ghost use Rattle.strm_mblk.specs.BlockCalls.{info_of};
-ghost use Rattle.strm_mblk.specs.BlocksLayout.{IsFoundIn, IsPlaced, Suits, block_of, block_of_found};
+ghost use Rattle.strm_mblk.specs.BlocksLayout.{IsFoundIn, IsPlaced, IsStart, Suits, block_of, block_of_found};
 ghost use Rattle.strm_mblk.specs.Given.{answer_map};
 
 use super::{Blocks, Fields, node_at};
 use crate::block_info::BlockInfo;
 use crate::token::Token;
 use strm_data::Refusal;
+use strm_links::Strands;
 
 // A block of a held message, with the capacity of its data block.
 #[derive(Clone, Copy, Debug)]
@@ -21,6 +23,45 @@ pub(super) struct Found {
     pub(super) node: u32,
     pub(super) fields: Fields,
     pub(super) capacity: u32,
+}
+
+// Where the bytes of a message from some byte on begin: the number of a block, its place in the message, and the place there.
+#[derive(Clone, Copy, Debug)]
+pub(super) struct Start {
+    pub(super) node: u32,
+    pub(super) block: u32,
+    pub(super) at: u32,
+}
+
+// Finds the block that has byte `at` of a message, held or on a shelf, or if none has, the last block. Takes a step for each
+// block before it. Most messages have one block, for which no loop runs.
+#[inline(always)]
+pub(super) fn find_byte(strands: &Strands, blocks: &[Fields], head: u32, at: u32) -> Start
+    requires begins { slice_get (strand_at strands.now head) 0 ≡ Some head }
+    requires there { head < length strands.now.chains }
+    requires listed { length blocks.now ≡ length strands.now.chains }
+    ensures { IsStart strands.now blocks.now head at result }
+{
+    let last = strands.len(head) - 1;
+    let mut node = head;
+    let mut skip = at;
+    for block in 0..last {
+        let len = blocks[node as usize].len;
+        if skip < len {
+            return Start {
+                node,
+                block,
+                at: skip,
+            };
+        }
+        skip -= len;
+        node = strands.next(node).unwrap_or(u32::MAX);
+    }
+    Start {
+        node,
+        block: last,
+        at: skip,
+    }
 }
 
 impl Blocks {

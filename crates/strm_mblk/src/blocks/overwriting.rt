@@ -9,6 +9,7 @@ ghost use Rattle.strm_mblk.specs.Calls.{Alters, itself};
 ghost use Rattle.strm_mblk.specs.InPlace as model;
 ghost use Rattle.strm_mblk.specs.NodeLists.{nodes_at};
 
+use super::finding::find_byte;
 use super::{Blocks, Fields};
 use crate::chains::Chains;
 use crate::token::Token;
@@ -101,14 +102,9 @@ impl Blocks {
         false
     }
 
-    /// Writes `bytes` over those of a message, from byte `at` on. Places count over all blocks. All bytes are written or
-    /// none. All else stays unchanged.
-    ///
-    /// Refused as `Short` if `at` and the number of bytes to write are together more than the message has. Then refused as
-    /// `Shared` if another message block, also one of this message, refers to the data block of one of the bytes. On an
-    /// error nothing changes. Takes at most three steps for each block up to the last one that is written, and a copy of the
-    /// bytes. In STREAMS, modules do this by hand (`b_rptr`, `b_cont`).
-    pub fn overwrite(&mut self, token: &Token, at: u32, bytes: &[u8]) -> Result<(), Refusal>
+    // Does what `overwrite` does, block by block. Compiled apart, so that most calls of `overwrite` have no loop.
+    #[inline(never)]
+    fn overwrite_across(&mut self, token: &Token, at: u32, bytes: &[u8]) -> Result<(), Refusal>
         requires { IsTrue (has self.old token.now) }
         ensures { Alters itself token.now token.now (model.overwrite token.now.head at bytes.now self.old)
             self.old self.new result }
@@ -128,6 +124,30 @@ impl Blocks {
             at,
             bytes,
         );
+        Ok(())
+    }
+
+    /// Writes `bytes` over those of a message, from byte `at` on. Places count over all blocks. All bytes are written or
+    /// none. All else stays unchanged.
+    ///
+    /// Refused as `Short` if `at` and the number of bytes to write are together more than the message has. Then refused as
+    /// `Shared` if another message block, also one of this message, refers to the data block of one of the bytes. On an
+    /// error nothing changes. Takes at most four steps for each block up to the last one that is written, and a copy of the
+    /// bytes. In STREAMS, modules do this by hand (`b_rptr`, `b_cont`).
+    pub fn overwrite(&mut self, token: &Token, at: u32, bytes: &[u8]) -> Result<(), Refusal>
+        requires { IsTrue (has self.old token.now) }
+        ensures { Alters itself token.now token.now (model.overwrite token.now.head at bytes.now self.old)
+            self.old self.new result }
+    {
+        let start = find_byte(self.chains.strands(), &self.blocks, token.head(), at);
+        let fields = self.blocks[start.node as usize];
+        if start.at as usize + bytes.len() > fields.len as usize {
+            return self.overwrite_across(token, at, bytes);
+        }
+        if bytes.len() > 0 && self.data.count(fields.data_number) > 1 {
+            return Err(Refusal::Shared);
+        }
+        self.write_data(fields.data_number, fields.offset + start.at, bytes);
         Ok(())
     }
 }

@@ -1,4 +1,6 @@
-ghost use Rattle.std.specs.Prelude.{◌<◌, length};
+ghost use Rattle.std.specs.Prelude.{◌<◌, IsSome, IsTrue, length};
+ghost use Rattle.std.specs.Option.{ForSome};
+ghost use Rattle.strm_mblk.specs.Shelves.{is_on, shelf_of};
 
 use super::assert_is;
 use super::bench::Bench;
@@ -6,10 +8,44 @@ use super::rows::Row::{
     Allocb, Census, Freemsg, Head, Heads, OfBytes, Says, Setband, Settype, Shelve, Sizes, Unshelve,
 };
 use super::rows::{A, B, DONE, Row, serve};
-use super::shelf::is_on;
 use std::process::Abort;
 use strm_data::{ClassSpec, MsgType};
-use strm_mblk::{Blocks, TokenValue};
+use strm_mblk::{BlockNo, Blocks, MOST_MESSAGE_BLOCKS, TokenValue};
+
+// The head of the first message.
+fn first(blocks: &Blocks, shelf: u8) -> Option<BlockNo>
+    requires { shelf < length blocks.now.shelves }
+    ensures { ForSome result (λ head. IsTrue (is_on blocks.now shelf head)) }
+{
+    blocks.first(shelf)
+}
+
+// The head of the message after this one.
+fn behind(blocks: &Blocks, shelf: u8, head: BlockNo) -> Option<BlockNo>
+    requires { IsTrue (is_on blocks.now shelf head) }
+    ensures { ForSome result (λ next. IsTrue (is_on blocks.now shelf next)) }
+{
+    blocks.after(head)
+}
+
+// Whether a message with this head is on the shelf.
+fn is_on(blocks: &Blocks, shelf: u8, head: BlockNo) -> bool
+    requires { shelf < length blocks.now.shelves }
+    ensures there { IsTrue result → IsTrue (is_on blocks.now shelf head) }
+    ensures some { IsTrue result → IsSome (shelf_of blocks.now head) }
+{
+    let mut at = first(blocks, shelf);
+    for _message in 0..=MOST_MESSAGE_BLOCKS {
+        let Some(found) = at else {
+            return false;
+        };
+        if found == head {
+            return blocks.is_shelved(head);
+        }
+        at = behind(blocks, shelf, found);
+    }
+    false
+}
 
 // Asserts that `at` is this head on the shelf, after the head `ahead`. Returns the head of the next message.
 fn next_head(

@@ -1,7 +1,7 @@
 use Rattle.std.proofs.Common.{ap, arith, sym, ◌∙◌}
 use Rattle.strm_links.specs.Rows.{has, after}
 use Rattle.strm_mblk.specs.Shelves.{heads_at}
-use Rattle.strm_mblk.proofs.shelving.Shelving.{heads_at-seen, is_head}
+use Rattle.strm_mblk.proofs.Shelving.{heads_at-seen, is_head}
 use Rattle.strm_mblk.proofs.blocks.Blocks.after.Goals as goal
 
 pub after-requires : goal.after-requires

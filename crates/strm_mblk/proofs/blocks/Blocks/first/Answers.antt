@@ -1,7 +1,7 @@
 use Rattle.std.proofs.Common.{ap, sym, ◌∙◌}
 use Rattle.strm_links.specs.Rows.{first}
 use Rattle.strm_mblk.specs.Shelves.{heads_at}
-use Rattle.strm_mblk.proofs.shelving.Shelving.{heads_at-seen}
+use Rattle.strm_mblk.proofs.Shelving.{heads_at-seen}
 use Rattle.strm_mblk.proofs.blocks.Blocks.first.Goals as goal
 
 pub returns : goal.returns

@@ -4,7 +4,7 @@ use Rattle.std.proofs.lemmas.List.{get_or_read}
 use Rattle.strm_mblk.specs.declared.blocks.Fields.{Fields}
 use Rattle.strm_mblk.specs.Block.{Block}
 use Rattle.strm_mblk.specs.BlocksLayout.{no_fields}
-use Rattle.strm_mblk.proofs.shelving.Shelving.{is_head}
+use Rattle.strm_mblk.proofs.Shelving.{is_head}
 use Rattle.strm_mblk.proofs.blocks.Blocks.head_band.Goals as goal
 
 pub index-requires : goal.index-requires

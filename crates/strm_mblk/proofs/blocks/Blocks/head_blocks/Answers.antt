@@ -5,7 +5,7 @@ use Rattle.strm_links.specs.Chains.{chain_in}
 use Rattle.strm_links.specs.StrandLists.{strand_at}
 use Rattle.strm_mblk.specs.BlocksLayout.{block_at}
 use Rattle.strm_mblk.proofs.chaining.Parted.{there_is}
-use Rattle.strm_mblk.proofs.shelving.Shelving.{IsHead, is_head}
+use Rattle.strm_mblk.proofs.Shelving.{IsHead, is_head}
 use Rattle.strm_mblk.proofs.blocks.Blocks.head_blocks.Goals as goal
 use Rattle.strm_mblk.proofs.blocks.Blocks.head_blocks.Goals.{After-strands}
 

@@ -6,7 +6,7 @@ use Rattle.strm_mblk.specs.declared.blocks.Fields.{Fields}
 use Rattle.strm_mblk.specs.Arena.{Arena}
 use Rattle.strm_mblk.specs.Block.{kind_of}
 use Rattle.strm_mblk.specs.BlocksLayout.{fields_at, no_fields}
-use Rattle.strm_mblk.proofs.shelving.Shelving.{IsHead, is_head}
+use Rattle.strm_mblk.proofs.Shelving.{IsHead, is_head}
 use Rattle.strm_mblk.proofs.blocks.Blocks.head_kind.Goals.{After-index}
 use Rattle.strm_mblk.proofs.blocks.Blocks.head_kind.Goals as goal
 

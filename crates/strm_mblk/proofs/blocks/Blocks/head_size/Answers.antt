@@ -4,8 +4,8 @@ use Rattle.strm_links.specs.StrandLists.{strand_at}
 use Rattle.strm_mblk.specs.Block.{len_counted, size_of}
 use Rattle.strm_mblk.specs.BlocksLayout.{IsSummable, message_of}
 use Rattle.strm_mblk.proofs.Reading.{all_counted, summable}
-use Rattle.strm_mblk.proofs.shelving.HeadSize.{small}
-use Rattle.strm_mblk.proofs.shelving.Shelving.{IsHead, is_head}
+use Rattle.strm_mblk.proofs.Shelving.{small}
+use Rattle.strm_mblk.proofs.Shelving.{IsHead, is_head}
 use Rattle.strm_mblk.proofs.blocks.Blocks.head_size.Goals as goal
 use Rattle.strm_mblk.proofs.blocks.Blocks.head_size.Goals.{After-deref}
 

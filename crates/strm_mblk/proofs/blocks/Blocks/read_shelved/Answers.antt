@@ -6,7 +6,7 @@ use Rattle.strm_mblk.specs.Arena.{Arena}
 use Rattle.strm_mblk.specs.Block.{bytes_of, size_of}
 use Rattle.strm_mblk.specs.BlocksLayout.{IsReadable, message_of}
 use Rattle.strm_mblk.specs.Shelves.{shelved_message}
-use Rattle.strm_mblk.proofs.shelving.Shelving.{IsHead, is_head}
+use Rattle.strm_mblk.proofs.Shelving.{IsHead, is_head}
 use Rattle.strm_mblk.proofs.blocks.Blocks.read_shelved.Goals as goal
 use Rattle.strm_mblk.proofs.blocks.Blocks.read_shelved.Goals.{After-deref}
 

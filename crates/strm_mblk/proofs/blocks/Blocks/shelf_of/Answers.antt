@@ -1,7 +1,7 @@
 use Rattle.std.proofs.Common.{◌≡◌, ℕ, Option, None, Some, refl, sym, ap, ◌∙◌, arith}
 use Rattle.std.specs.Prelude.{is_some}
 use Rattle.strm_mblk.specs.Shelves.{shelf_of}
-use Rattle.strm_mblk.proofs.shelving.Shelving.{is_head, shelf_of-seen}
+use Rattle.strm_mblk.proofs.Shelving.{is_head, shelf_of-seen}
 use Rattle.strm_mblk.proofs.blocks.Blocks.shelf_of.Goals as goal
 
 pub shelf_of-requires : goal.shelf_of-requires

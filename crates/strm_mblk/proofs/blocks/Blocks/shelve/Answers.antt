@@ -7,7 +7,7 @@ use Rattle.strm_mblk.specs.Block.{Message}
 use Rattle.strm_mblk.specs.BlocksLayout.{arena_in, arena_of}
 use Rattle.strm_mblk.specs.Frame.{LeavesOthers}
 use Rattle.strm_mblk.specs.Shelves.{heads_at, shelve}
-use Rattle.strm_mblk.proofs.shelving.Shelving.{heads_at-seen, shelve_filled, shelve_queued, shelve_shows, shelving_room}
+use Rattle.strm_mblk.proofs.Shelving.{heads_at-seen, shelve_filled, shelve_queued, shelve_shows, shelving_room}
 use Rattle.strm_mblk.proofs.arena.Counts.{IsHad, had_message}
 use Rattle.strm_mblk.proofs.arena.Frame.{none_at, others_one}
 use Rattle.strm_mblk.proofs.blocks.Blocks.shelve.Goals.{After-len-blocks, After-self-1, After-shelve}

@@ -11,7 +11,7 @@ use Rattle.strm_mblk.specs.Block.{bytes_of_block}
 use Rattle.strm_mblk.specs.BlocksLayout.{block_at, no_fields}
 use Rattle.strm_mblk.specs.Given.{answer_map}
 use Rattle.strm_mblk.specs.Shelves.{shelved_message}
-use Rattle.strm_mblk.proofs.shelving.Shelving.{IsHead, is_head}
+use Rattle.strm_mblk.proofs.Shelving.{IsHead, is_head}
 use Rattle.strm_mblk.proofs.blocks.Blocks.shelved_bytes.Goals.{After-strands, After-node_of}
 use Rattle.strm_mblk.proofs.blocks.Blocks.shelved_bytes.Goals as goal
 

@@ -11,7 +11,7 @@ use Rattle.strm_mblk.specs.Frame.{LeavesOthers}
 use Rattle.strm_mblk.specs.Shelves.{heads_at, unshelve}
 use Rattle.strm_mblk.proofs.layout.Places.{held_nodes}
 use Rattle.strm_mblk.proofs.layout.Shown.{message_at-seen}
-use Rattle.strm_mblk.proofs.shelving.Shelving.{IsUnshelved, heads_at-seen, unshelves}
+use Rattle.strm_mblk.proofs.Shelving.{IsUnshelved, heads_at-seen, unshelves}
 use Rattle.strm_mblk.proofs.arena.Counts.{token_had}
 use Rattle.strm_mblk.proofs.arena.Frame.{others_one}
 use Rattle.strm_mblk.proofs.blocks.Blocks.unshelve.Goals.{After-from, After-unshelve}

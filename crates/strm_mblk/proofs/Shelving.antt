@@ -1,5 +1,5 @@
 -- Messages on shelves, as a contract sees them, where they are put there and where they leave.
-use Rattle.std.proofs.Common.{◌≡◌, ℕ, zero, suc, ◌+◌, ◌<◌, ◌≤◌, Bool, true, false, not, ◌==◌, List, [], ◌∷◌, ◌++◌, map, length, get_or, set, Option, Some, None, refl, sym, ap, ◌∙◌, subst, inl, inr, arith, if◌then◌else◌, length-set, get_or-set_same}
+use Rattle.std.proofs.Common.{◌≡◌, ℕ, zero, suc, ◌+◌, ◌<◌, ◌≤◌, Bool, true, false, not, ◌==◌, List, [], ◌∷◌, ◌++◌, map, length, get_or, set, Option, Some, None, refl, sym, ap, ◌∙◌, subst, inl, inr, arith, if◌then◌else◌, length-set, get_or-set_same, ◌*◌, length-append}
 use Rattle.std.proofs.lemmas.Option.{slice_get-map}
 use Rattle.std.specs.Prelude.{count_by, filter, is_some, option_map, slice_get}
 use Rattle.std.proofs.lemmas.List.Elements.{filter-append}
@@ -14,17 +14,18 @@ use Rattle.strm_data.specs.CountedStore.{CountedStore}
 use Rattle.strm_data.specs.DataStore.{DataStore}
 use Rattle.strm_mblk.specs.declared.blocks.Fields.{Fields}
 use Rattle.strm_mblk.specs.Arena.{Arena, held_at, message_at, shelf_at, shelved_blocks}
-use Rattle.strm_mblk.specs.Block.{Block, Message, head_of}
+use Rattle.strm_mblk.specs.Block.{Block, Message, head_of, size_of}
 use Rattle.strm_mblk.specs.BlocksLayout.{IsFilled, IsPlaced, arena_of, block_at, fields_at, message_of}
-use Rattle.strm_mblk.specs.Messages.{blocks_of, put_before_head, shelf_in, with_head, without_head}
+use Rattle.strm_mblk.specs.Messages.{blocks_of, put_before_head, shelf_in, with_head, without_head, blocks_on}
 use Rattle.strm_mblk.specs.NodeLists.{IsNodesParted, NodeLists, head_node, heads_on, nodes_at, shelf_with, shelved_nodes}
 use Rattle.strm_mblk.specs.Shelves.{head_block, heads_at, shelf_of, shelve, shelved_message, unshelve}
 use Rattle.strm_mblk.proofs.Lists.{IsAdditive, count_adds, flat_map-set_adds, length_adds}
 use Rattle.strm_mblk.proofs.arena.Counts.{blocks_in_adds, head_counts, held_within, not_held, number_is, once, within}
 use Rattle.strm_mblk.proofs.joining.Linkb.{moved_filled}
-use Rattle.strm_mblk.proofs.layout.Shown.{all_there, counted, law_parted, message_at-seen, shelf_at-seen}
+use Rattle.strm_mblk.proofs.layout.Shown.{all_there, counted, law_parted, message_at-seen, shelf_at-seen, len_most, size_most, shelved-seen}
 use Rattle.strm_mblk.specs.Limits.{most_message_blocks}
 use Rattle.std.proofs.lemmas.Grind.{common_steps}
+use Rattle.strm_data.specs.Limits.{most_data_block_bytes}
 
 -- ---- what a contract sees
 
@@ -423,3 +424,48 @@ module _ (id : ℕ) (s : CountedStore) (fields : List Fields) (v : NodeLists) (f
 
   pub is_head : (a : Arena) → arena_of id s.store fields v ≡ a → (h : ℕ) → is_some (shelf_of a h) ≡ true → IsHead s fields v a h
   is_head a is h some = subst (λ b. IsHead s fields v b h) is (heads_there h (ap (λ b. is_some (shelf_of b h)) is ∙ some))
+
+-- a message of a shelf is among all of it
+among_row : (ms : List (List ℕ)) (k : ℕ) → length (get_or ms k []) ≤ length (flat_map (λ m. m) ms)
+among_row [] k = omega arith
+among_row (x ∷ xs) zero = omega (arith, length-append x (flat_map (λ m. m) xs))
+among_row (x ∷ xs) (suc k) = omega (arith, length-append x (flat_map (λ m. m) xs), among_row xs k)
+
+-- and among all shelves
+among_rows : (shelves : List (List (List ℕ))) (q k : ℕ) → length (get_or (shelf_in shelves q) k []) ≤ length (blocks_on shelves)
+among_rows [] q k = omega arith
+among_rows (ms ∷ shelves) zero k = omega (arith, among_row ms k, length-append (flat_map (λ m. m) ms) (blocks_on shelves))
+among_rows (ms ∷ shelves) (suc q) k = omega (arith, among_rows shelves q k, length-append (flat_map (λ m. m) ms) (blocks_on shelves))
+
+module _ (id : ℕ) (s : CountedStore) (fields : List Fields) (v : NodeLists) (filled : IsFilled s fields v (arena_of id s.store fields v)) (a : Arena) (is : arena_of id s.store fields v ≡ a) (h : ℕ) (some : is_some (shelf_of a h) ≡ true) where
+  head : IsHead s fields v a h
+  head = is_head id s fields v filled a is h some
+
+  -- no message on a shelf has more blocks than all
+  few_blocks : length (shelved_message a h) ≤ length (shelved_blocks a)
+  few_blocks =
+      omega (
+        arith,
+        ap length head.message,
+        length-map head.nodes (block_at fields),
+        ap length head.at,
+        among_rows v.shelves head.shelf head.place,
+        ap length (shelved-seen id s.store fields v),
+        length-map (blocks_on v.shelves) (block_at fields),
+        ap (λ x. length (shelved_blocks x)) is,
+      )
+
+  -- the most bytes that it has
+  pub small : size_of (shelved_message a h) ≤ most_message_blocks * most_data_block_bytes
+  small = omega (
+    arith,
+    few_blocks,
+    ap length head.message,
+    length-map head.nodes (block_at fields),
+    ap size_of head.message,
+    size_most fields head.nodes (len_most id s fields v filled),
+    ap (λ x. length (shelved_blocks x)) is,
+    all_there id s fields v filled,
+    filled.few,
+    filled.listed,
+  )

@@ -1,3 +1,0 @@
--- Messages on shelves.
-pub mod Shelving
-pub mod HeadSize
