@@ -28,7 +28,9 @@ pub use regs::Regs;
 pub use reply::Reply;
 pub use short_list::{ClassSpecs, Octets, QueueSpecs, ShortList};
 pub use strm_data::{ClassInfo, ClassSpec, MsgType, Refusal};
-pub use strm_mblk::{BlockInfo, BlockPlace, Blocks, Census, Rejected, Shape, Token, TokenValue};
+pub use strm_mblk::{
+    BlockInfo, BlockPlace, Blocks, Census, Rejected, Shape, Supply, Token, TokenValue,
+};
 pub use strm_queue::{
     BANDS, BandInfo, Flush, MOST_QUEUES, Marks, QueueInfo, QueueSpec, QueuedInfo, Queues, Receiver,
 };

@@ -1,9 +1,10 @@
 //! Calls on messages that tokens are for: each makes the call of strm_mblk with its name.
-ghost use Rattle.std.specs.Prelude.{Ok, Some, ◌≡◌, ◌-◌, ◌++◌, None, IsTrue, drop, length, min, take};
+ghost use Rattle.std.specs.Prelude.{Ok, Err, Some, ◌≡◌, ◌-◌, ◌<◌, ◌++◌, None, IfErr, IfOk, IsTrue, drop, length, min, take};
 ghost use Rattle.std.specs.Option.{option_map_or};
 ghost use Rattle.strm_mblk.specs.Arena.{has, message_at};
 ghost use Rattle.strm_mblk.specs.Block.{bytes_of, data_size_of, size_of};
 ghost use Rattle.strm_mblk.specs.BlockCalls as blocks;
+ghost use Rattle.strm_mblk.specs.BlockCalls.{IsSupplied};
 ghost use Rattle.strm_mblk.specs.Calls.{Alters, Frees, Gives, Joins, Parts, Spends, Transfers, Unlinks};
 ghost use Rattle.strm_mblk.specs.Freeing as freeing;
 ghost use Rattle.strm_mblk.specs.Given.{answer_of, given_nothing};
@@ -17,7 +18,7 @@ use crate::regs::Regs;
 use crate::short_list::Octets;
 use arrayvec::ArrayVec;
 use strm_data::{MsgType, Refusal};
-use strm_mblk::{BlockInfo, Rejected, Token};
+use strm_mblk::{BlockInfo, Rejected, Supply, Token};
 
 impl Pool {
     /// Makes a message of one block for `size` bytes. Refused as `TooLarge`, `NoMblk`, then `NoData`. As [`Blocks::allocb`]
@@ -26,7 +27,32 @@ impl Pool {
     pub fn allocb(&mut self, size: u32) -> Result<Token, Refusal>
         ensures { Gives arena None (on_arena self.old (blocks.allocb size self.old.arena)) self.old self.new result }
     {
-        self.blocks.allocb(size)
+        let supply = self.supply(size)?;
+        Ok(self.allocb_from(size, supply))
+    }
+
+    /// Returns the class from which `allocb` takes a data block for this size, and for how many calls. Refused as `allocb`
+    /// would be. As [`Blocks::supply`] of strm_mblk.
+    #[inline(always)]
+    pub fn supply(&self, size: u32) -> Result<Supply, Refusal>
+        ensures supply { IfOk result (IsSupplied size self.now.arena) }
+        ensures some { IfOk result (λ supply. 0 < supply.count) }
+        ensures refused { IfErr result (λ why. blocks.allocb size self.now.arena ≡ Err why) }
+    {
+        self.blocks.supply(size)
+    }
+
+    /// Makes a message as `allocb` does for this size, from a supply that `supply` returned, and returns its token. Each such
+    /// call leaves the supply one call less. So a burst chooses the class once. As [`Blocks::allocb_from`] of strm_mblk.
+    #[inline(always)]
+    pub fn allocb_from(&mut self, size: u32, supply: Supply) -> Token
+        requires supply { IsSupplied size self.old.arena supply }
+        requires some { 0 < supply.count }
+        ensures gives { Gives arena None (on_arena self.old (blocks.allocb size self.old.arena))
+            self.old self.new (Ok result) }
+        ensures supply { IsSupplied size self.new.arena (record supply { count = supply.count - 1 }) }
+    {
+        self.blocks.allocb_from(size, supply)
     }
 
     /// Says whether `allocb` would succeed for this size now. As [`Blocks::testb`] of strm_mblk.

@@ -4,7 +4,7 @@ use super::{assert_reply, classes, opened, queues, register};
 use std::alloc::Global;
 use std::process::Abort;
 use strm_pool::{
-    BlockInfo, BlockPlace, Call, MsgType, Pool, Refusal, Reg, Regs, Rejected, Reply, Token,
+    BlockInfo, BlockPlace, Call, MsgType, Pool, Refusal, Reg, Regs, Rejected, Reply, Supply, Token,
 };
 
 // A pool and its registers.
@@ -201,6 +201,20 @@ impl Bench {
             self.pool.freemsg(token);
             panic!(rt; "a taken register");
         }
+    }
+
+    // Makes as many messages for a size as the pool supplies, and puts their tokens into registers from b on. Returns the
+    // class of the supply, and the number of messages.
+    pub(super) fn supplied(&mut self, rt: &impl Abort, size: u32) -> Result<(u32, u32), Refusal> {
+        let supply = self.pool.supply(size)?;
+        let mut place = 0u8;
+        for made in 0..supply.count {
+            let count = supply.count.wrapping_sub(made);
+            let token = self.pool.allocb_from(size, Supply { count, ..supply });
+            place = place.wrapping_add(1);
+            self.hold(rt, register(rt, place), token);
+        }
+        Ok((supply.class, supply.count))
     }
 
     // The type and the band of a block of a register's message.

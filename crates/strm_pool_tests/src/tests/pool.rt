@@ -2,7 +2,7 @@ use super::bench::Bench;
 use super::{SIZES, reg};
 use std::alloc::Global;
 use std::process::Abort;
-use strm_pool::Call;
+use strm_pool::{Call, Refusal};
 
 // A bench with a pool of this id and four message blocks, and a message in register a.
 fn holding(rt: &impl Abort, alloc: Global, id: u32) -> Bench {
@@ -92,5 +92,19 @@ fn lends_its_parts(rt: HostRuntime) {
     let mut one = holding(&rt, rt.alloc(), 7);
     one.done(&rt, &[Call::Dupb(a, b), Call::Putq(0, b)], &[Some(0), None]);
     one.assert_lent(&rt, 1, 2);
+    one.end();
+}
+
+// A supply is as long as its class has data blocks, and as message blocks are free.
+#[test]
+fn makes_messages_from_a_supply(rt: HostRuntime) {
+    let mut one = holding(&rt, rt.alloc(), 7);
+    assert!(rt; one.supplied(&rt, 17) == Ok((1, 2)));
+    one.done(&rt, &[], &[Some(0), Some(1), Some(2), None]);
+    assert!(rt; one.supplied(&rt, 17) == Err(Refusal::NoData));
+    let mut one = one.drained();
+    assert!(rt; one.supplied(&rt, 1) == Ok((0, 4)));
+    assert!(rt; one.supplied(&rt, 1) == Err(Refusal::NoMblk));
+    assert!(rt; one.supplied(&rt, 65) == Err(Refusal::TooLarge));
     one.end();
 }
