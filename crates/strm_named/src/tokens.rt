@@ -28,7 +28,7 @@ pub(crate) fn taken(pool: &Pool, places: &mut Places, name: Name) -> Token
     ensures places { places.new ≡ without_token name.head places.old }
 {
     let _ = pool;
-    places.take(name.head)
+    places.take(name.head).at(name.head)
 }
 
 // Takes the tokens of two valid names out of their places.

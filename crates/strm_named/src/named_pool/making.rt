@@ -1,6 +1,7 @@
 //! Calls that make messages and return their names, and calls that free messages.
-ghost use Rattle.std.specs.Prelude.{[], ◌∷◌, Ok};
+ghost use Rattle.std.specs.Prelude.{◌-◌, ◌<◌, [], ◌∷◌, Ok};
 ghost use Rattle.strm_mblk.specs.BlockCalls as blocks;
+ghost use Rattle.strm_mblk.specs.BlockCalls.{IsSupplied};
 ghost use Rattle.strm_mblk.specs.Freeing as freeing;
 ghost use Rattle.strm_mblk.specs.Given.{given_nothing};
 ghost use Rattle.strm_named.specs.NamedCalls.{Does, TransfersNamed, any_message, on_name, one_message, outcome_of, no_message};
@@ -10,7 +11,7 @@ use super::NamedPool;
 use crate::fault::Fault;
 use crate::name::Name;
 use crate::tokens::{lent, taken};
-use strm_pool::Rejected;
+use strm_pool::{Rejected, Supply};
 
 impl NamedPool {
     /// Makes a message of one block for `size` bytes, and returns its name. Refused as `TooLarge`, `NoMblk`, then `NoData`. As
@@ -20,8 +21,24 @@ impl NamedPool {
         ensures { Does one_message (outcome_of (on_arena self.old.pool (blocks.allocb size self.old.pool.arena)))
             [] self.old self.new result }
     {
-        let given = self.pool.allocb(size);
-        self.places.answer(given)
+        match self.pool().supply(size) {
+            Ok(supply) => Ok(self.allocb_from(size, supply)),
+            Err(why) => Err(Fault::Refused(why)),
+        }
+    }
+
+    /// Makes a message as `allocb` does for this size, from a supply that the pool returned, and returns its name. As
+    /// [`Blocks::allocb_from`] of strm_mblk.
+    #[inline(always)]
+    pub fn allocb_from(&mut self, size: u32, supply: Supply) -> Name
+        requires supply { IsSupplied size self.old.pool.arena supply }
+        requires some { 0 < supply.count }
+        ensures does { Does one_message (outcome_of (on_arena self.old.pool (blocks.allocb size self.old.pool.arena)))
+            [] self.old self.new (Ok result) }
+        ensures supply { IsSupplied size self.new.pool.arena (record supply { count = supply.count - 1 }) }
+    {
+        let token = self.pool.allocb_from(size, supply);
+        self.places.give_there(token)
     }
 
     /// Makes a message of one block that references the data of this message's first block, and returns its name. Refused as

@@ -4,7 +4,7 @@ use super::{
 };
 use std::process::Abort;
 use strm_named::{Fault, Name, NamedPool};
-use strm_pool::{MsgType, QueuedInfo, Refusal};
+use strm_pool::{MsgType, QueuedInfo, Refusal, Supply};
 
 fn assert_unlinked(rt: &impl Abort, pool: &mut NamedPool, name: Name, wanted: Option<Name>) {
     assert_is(rt, pool.unlinkb(name), Ok(wanted));
@@ -111,4 +111,19 @@ fn names_what_it_copies(rt: HostRuntime) {
     let shared = Err(Fault::Refused(Refusal::Shared));
     assert_typed(&rt, &mut pool, (source, 0), MsgType::MProto, shared);
     assert_census(&rt, &pool, (3, 0, 5));
+}
+
+// Each message that is made from a supply gets a new name.
+#[test]
+fn names_what_it_makes_from_a_supply(rt: HostRuntime) {
+    let mut pool = opened(&rt, rt.alloc(), 1);
+    let first = message(&rt, &mut pool, b"one");
+    assert_freed(&rt, &mut pool, first, Ok(()));
+    let supply = pool.pool().supply(16).expect(&rt, "a supply");
+    assert_is(&rt, (supply.class, supply.count), (0, 8));
+    assert_is(&rt, pool.allocb_from(16, supply), name(0, 2));
+    let rest = Supply { count: 7, ..supply };
+    assert_is(&rt, pool.allocb_from(16, rest), name(1, 1));
+    assert_invalid(&rt, &mut pool, first);
+    assert_census(&rt, &pool, (6, 0, 2));
 }
