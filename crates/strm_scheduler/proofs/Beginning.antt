@@ -1,9 +1,9 @@
 -- A service: the first queue leaves the run list, and is served. `run` forwards its messages.
-use Rattle.std.proofs.Common.{◌≡◌, ◌≢◌, ℕ, zero, suc, ◌+◌, ◌^◌, ◌<◌, ◌≤◌, inl, inr, true, ◌==◌, List, [], ◌∷◌, ◌++◌, drop, length, get_or, Option, Some, None, refl, sym, ap, ◌∙◌, subst, arith, length-append}
-use Rattle.std.specs.Prelude.{is_some, nat_le}
+use Rattle.std.proofs.Common.{◌≡◌, ◌≢◌, ℕ, zero, suc, ◌+◌, ◌^◌, ◌<◌, ◌≤◌, inl, inr, true, ◌==◌, List, [], ◌∷◌, ◌++◌, drop, length, get_or, Option, Some, None, refl, sym, ap, ◌∙◌, subst, arith, length-append, Result, Ok, Err}
+use Rattle.std.specs.Prelude.{is_some, nat_le, slice_get}
 use Rattle.std.specs.List.{All, flat_map, list_all}
 use Rattle.std.specs.Option.{option_map_or}
-use Rattle.std.proofs.lemmas.Bool.{and_from, cases_lt, cond_both, eqb-true, false≢true, le-leb, or_cases}
+use Rattle.std.proofs.lemmas.Bool.{and_from, cases_lt, cond_both, eqb-true, false≢true, le-leb, or_cases, cond-true, lt-ltb}
 use Rattle.std.proofs.lemmas.List.{get_or-append-add, get_or_append_left, get_or_past}
 use Rattle.std.proofs.lemmas.Option.{none-some, same_Some}
 use Rattle.strm_data.specs.DataStore.{DataStore}
@@ -15,7 +15,7 @@ use Rattle.strm_mblk.specs.Arena.{Arena, held_blocks, shelf_at, shelved_blocks}
 use Rattle.strm_mblk.specs.Block.{Block, Message, kind_of}
 use Rattle.strm_mblk.specs.Messages.{blocks_on}
 use Rattle.strm_pool.specs.Lawful.{IsLawful}
-use Rattle.strm_pool.specs.PoolValue.{PoolValue, queued_blocks_of, with_queued}
+use Rattle.strm_pool.specs.PoolValue.{PoolValue, queued_blocks_of, with_queued, has_queue}
 use Rattle.strm_queue.specs.declared.queue_spec.QueueSpec.{QueueSpec}
 use Rattle.strm_queue.specs.Flow.{Flags, flags_at, has_band, no_spec, opening_flags, spec_at}
 use Rattle.strm_queue.specs.Limits.{high_rank}
@@ -25,7 +25,7 @@ use Rattle.strm_queue.specs.Rank.{rank_of}
 use Rattle.strm_queue.proofs.bands.Bands.{length-bands_where, length_every_band}
 use Rattle.strm_scheduler.specs.Awake.{IsAwake, is_awake}
 use Rattle.strm_scheduler.specs.Sides.{AreSides, next_of}
-use Rattle.strm_scheduler.specs.Running.{with_any_served, with_first_served, with_served}
+use Rattle.strm_scheduler.specs.Running.{with_any_served, with_first_served, with_served, IsBlocked}
 use Rattle.strm_scheduler.specs.Order.{KeepsOrder, side_of}
 use Rattle.strm_scheduler.specs.Work.{powers, weigh, work}
 use Rattle.strm_scheduler.proofs.Hops.{hop_ahead, hop_within}
@@ -37,6 +37,8 @@ use Rattle.strm_scheduler.proofs.Underway.{IsUnderway, all_forwarded_awake}
 use Rattle.strm_scheduler.proofs.Weighing.{forwarded_weighs}
 use Rattle.strm_scheduler.proofs.Falling.{falls_on, falls_still, none_powers}
 use Rattle.strm_scheduler.proofs.Ordering.{side_forwarded}
+use Rattle.strm_data.specs.declared.refusal.Refusal.{Refusal}
+use Rattle.strm_queue.specs.QueueLooks as looks
 
 -- ---- ranks
 
@@ -253,3 +255,68 @@ order_more v now new specs before step end rank last there =
     (λ (s : List QueueSpec). next_of s end ≡ None → end < length s → side_of s new.arena rank end ≡ side_of s now.arena rank end)
     specs (step end rank) last there
     ∙ before end rank last there
+
+-- ---- the first queue of the run list exists, and so does its next queue, so a service is refused nothing
+
+-- what a call returns that is not refused
+abbrev pub okay : {A : Type 0} → A → Result A Refusal
+okay x = Ok x
+
+-- a run list without a first queue is empty
+pub none_at : (xs : List ℕ) → slice_get xs 0 ≡ None → xs ≡ []
+none_at [] is = refl
+none_at (q ∷ qs) is = absurd (none-some q (sym is))
+
+first_at : (xs : List ℕ) (q : ℕ) → slice_get xs 0 ≡ Some q → rows.first xs ≡ Some q
+first_at [] q is = is
+first_at (p ∷ ps) q is = is
+
+-- on sides each queue of the run list has a next one
+pub blocked_not : (v : PoolValue) → IsLawful v → AreSides v.queues.specs → IsBlocked v → ⊥
+blocked_not v law sides blocked = first_goes_on v blocked.0 blocked.1 law sides blocked.2
+
+-- pool v, whose first queue of the run list is q
+module _ (v : PoolValue) (q : ℕ) (at : slice_get v.queues.run 0 ≡ Some q) (law : IsLawful v) where
+  first : rows.first v.queues.run ≡ Some q
+  first = first_at v.queues.run q at
+
+  q_there : has_queue v q ≡ true
+  q_there = lt-ltb q (length v.queues.specs) (first_there v q first law)
+
+  found : (r : Result QueueSpec Refusal) → r ≡ looks.queue_spec q (queued_blocks_of v) → r ≡ Ok (spec_at v.queues.specs q)
+  found r is = is ∙ cond-true _ _ _ q_there
+
+  pub refused_not : (r : Result QueueSpec Refusal) → r ≡ looks.queue_spec q (queued_blocks_of v) → (why : Refusal) → r ≡ Err why → ⊥
+  refused_not r is why err = let ok = found r is in absurd (cc)
+
+  module _ (spec : QueueSpec) (is : okay spec ≡ looks.queue_spec q (queued_blocks_of v)) where
+    next_same : next_of v.queues.specs q ≡ spec.next
+    next_same = let ok : okay spec ≡ okay (spec_at v.queues.specs q) = found (okay spec) is in let same : spec ≡ spec_at v.queues.specs q = cc in sym (ap (λ (s : QueueSpec). s.next) same)
+
+    pub blocked : spec.next ≡ None → IsBlocked v
+    blocked none = (q, first, next_same ∙ none)
+
+    -- its next queue is n, and it has left the run list
+    module _ (n : ℕ) (next : spec.next ≡ Some n) (x : PoolValue) (after : x ≡ with_queued v (next_service (queued_blocks_of v)).1) where
+      next_is : next_of v.queues.specs q ≡ Some n
+      next_is = next_same ∙ next
+
+      next_apart : q ≡ n → ⊥
+      next_apart same = omega (arith, same, (hop_ahead v.queues.specs law.lawful_queues q n next_is).greater)
+
+      n_there : has_queue x n ≡ true
+      n_there = ap (λ (p : PoolValue). has_queue p n) after ∙ lt-ltb n (length v.queues.specs) (hop_ahead v.queues.specs law.lawful_queues q n next_is).there
+
+      pub begun : IsLawful x → IsBegun q n v x
+      begun law_then = record {
+        first = first;
+        next = next_is;
+        after = after;
+        run = run_is v x q after first;
+        once = (subst rows.IsApart (run_is v x q after first) law.once).0;
+        serving = λ kept. serving_begun v x q after first n kept.sides kept.awake next_is;
+        behind = ap (λ (p : PoolValue). has_queue p q) after ∙ q_there;
+        ahead = n_there;
+        apart = next_apart;
+        lawful = law_then;
+      }

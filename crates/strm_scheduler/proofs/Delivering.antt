@@ -1,19 +1,28 @@
 -- If no queue is enabled and the last queue of each side is empty, all queues are.
-use Rattle.std.proofs.Common.{◌≡◌, ℕ, zero, suc, ◌+◌, ◌<◌, ◌≤◌, inl, inr, Bool, true, not, ◌==◌, List, [], ◌∷◌, length, get_or, Option, Some, None, refl, sym, ap, ◌∙◌, arith}
-use Rattle.std.proofs.lemmas.Bool.{and_parts, cases_lt, false≢true, not-true}
+use Rattle.std.proofs.Common.{◌≡◌, ℕ, zero, suc, ◌+◌, ◌<◌, ◌≤◌, inl, inr, Bool, true, false, not, ◌&&◌, ◌||◌, ◌==◌, ◌++◌, ◌≢◌, List, [], ◌∷◌, length, get_or, Option, Some, None, Err, refl, sym, ap, ◌∙◌, subst, arith, if◌then◌else◌}
+use Rattle.std.specs.Prelude.{is_some}
+use Rattle.std.specs.Option.{option_map_or}
+use Rattle.std.proofs.lemmas.Bool.{and_from, and_parts, cases_lt, cond-false, false≢true, le-leb, lt-ltb, ne_eqb, not-true}
 use Rattle.std.proofs.lemmas.List.{get_or_past}
+use Rattle.std.proofs.lemmas.List.Folds.{list_any-append, list_any_at}
+use Rattle.strm_data.specs.declared.refusal.Refusal.TheVariants.{NoSuchQueue}
 use Rattle.strm_links.specs.Rows as rows
 use Rattle.strm_mblk.specs.Block.{Message}
-use Rattle.strm_queue.specs.Flow.{band_count, has_band}
+use Rattle.strm_mblk.specs.Given.{Given, value_after}
+use Rattle.strm_queue.specs.declared.queue_spec.QueueSpec.{QueueSpec}
+use Rattle.strm_queue.specs.Flow.{QueueState, band_count, every_band, has_band, is_relieved, lowat_of, spec_at, waker, with_enabled, with_flags, with_read}
 use Rattle.strm_queue.specs.Limits.{high_rank}
-use Rattle.strm_queue.specs.QueueCalls.{flags_of, messages_on}
+use Rattle.strm_queue.specs.QueueCalls.{count_on, flags_left, flags_of, get_first, getq, has_queue, has_relieved, messages_on, waker_enabled_where, with_got, with_queue_settled, with_state}
 use Rattle.strm_queue.specs.QueuedBlocks.{AreMarksLawful, QueuedBlocks}
 use Rattle.strm_queue.specs.QueueSpecs.{are_lawful}
 use Rattle.strm_queue.specs.Rank.{rank_of}
+use Rattle.strm_queue.proofs.bands.Bands.{get_or-every_band, length_every_band}
 use Rattle.strm_scheduler.specs.Awake.{AreAllEmpty, AreEndsEmpty, AreWaiting, IsAwaited, IsAwake, may_rest}
-use Rattle.strm_scheduler.specs.Sides.{next_of}
-use Rattle.strm_scheduler.proofs.Hops.{hop_ahead}
+use Rattle.strm_scheduler.specs.Laws.{IsWoken, take}
+use Rattle.strm_scheduler.specs.Sides.{AreSides, next_of}
+use Rattle.strm_scheduler.proofs.Hops.{hop_ahead, hop_serves, waker_is, waker_next}
 use Rattle.strm_scheduler.proofs.Keeping.{run_or_rest}
+use Rattle.strm_scheduler.proofs.Settling.{AreBanded, wanted_below}
 
 -- what a queue waits for that has messages and is not on the run list
 module _ (v : QueuedBlocks) (marks : (q : ℕ) → AreMarksLawful v.queues v.arena q) where
@@ -69,3 +78,101 @@ module _ (v : QueuedBlocks) (lawful : are_lawful v.queues.specs ≡ true) (shelv
 
     pub all_empty : AreAllEmpty v
     all_empty q = empty_from (length v.queues.specs) q (omega arith)
+
+-- ---- a message is taken off the last queue of a side
+
+module _ (specs : List QueueSpec) (lawful : are_lawful specs ≡ true) (sides : AreSides specs) (q : ℕ) where
+  or_none : (b : Bool) → (b || false) ≡ b
+  or_none true = refl
+  or_none false = refl
+
+  -- enabling a queue puts no other one on the run list
+  other_enabled : (p r : ℕ) (s : QueueState) → r ≢ p → rows.has p (with_enabled r s).run ≡ rows.has p s.run
+  other_enabled p r s other = by_case ((spec_at s.specs r).service && not (rows.has r s.run))
+    where
+      by_case : (so : Bool) → (let t : QueueState = if so then record s { run = s.run ++ r ∷ [] } else s in rows.has p t.run ≡ rows.has p s.run)
+      by_case true = list_any-append (λ x. x == p) s.run (r ∷ []) ∙ ap (λ b. rows.has p s.run || (b || false)) (ne_eqb r p other) ∙ or_none (rows.has p s.run)
+      by_case false = refl
+
+  other_woken : (so : Bool) (p : ℕ) (s : QueueState) → s.specs ≡ specs → next_of specs p ≢ Some q → rows.has p (waker_enabled_where so q s).run ≡ rows.has p s.run
+  other_woken false p s same other = refl
+  other_woken true p s same other = by_waker (waker s.specs q) refl
+    where
+      by_waker : (o : Option ℕ) → waker s.specs q ≡ o → rows.has p (option_map_or (λ r. with_enabled r s) o s).run ≡ rows.has p s.run
+      by_waker None none = refl
+      by_waker (Some r) some =
+          let next = waker_next specs lawful sides q r (ap (λ (sp : List QueueSpec). waker sp q) (sym same) ∙ some) in
+          other_enabled p r s (λ is. other (subst (λ k. next_of specs k ≡ Some q) is next))
+
+  -- the queue behind comes last on the run list, if it was not there
+  next_woken : (p : ℕ) (s : QueueState) → s.specs ≡ specs → next_of specs p ≡ Some q → rows.has p s.run ≡ false → (waker_enabled_where true q s).run ≡ s.run ++ p ∷ []
+  next_woken p s same next off =
+      ap (λ o. (option_map_or (λ r. with_enabled r s) o s).run) (ap (λ (sp : List QueueSpec). waker sp q) same ∙ waker_is specs lawful p q next sides)
+      ∙ ap (λ (b : Bool). (let t : QueueState = if b then record s { run = s.run ++ p ∷ [] } else s in t.run)) serves
+    where
+      serves : ((spec_at s.specs p).service && not (rows.has p s.run)) ≡ true
+      serves = (λ i. (spec_at (same i) p).service && not (off i)) ∙ ap (λ b. b && true) (hop_serves specs lawful p q next sides)
+
+module _ (v : QueuedBlocks) (lawful : are_lawful v.queues.specs ≡ true) (sides : AreSides v.queues.specs) (banded : AreBanded v)
+    (marks : (q : ℕ) → AreMarksLawful v.queues v.arena q) (awake : IsAwake v) (q : ℕ) where
+  module _ (m : Message) (ms : List Message) where
+    abbrev got : QueuedBlocks
+    got = with_got q m ms v
+
+    abbrev settled : QueuedBlocks
+    settled = with_queue_settled q got
+
+    abbrev left : QueueState
+    left = with_flags q (flags_left got q) v.queues
+
+    -- a wanted band that has drained is relieved
+    relieved : (band : ℕ) → has_band (flags_of v q).wanted band ≡ true → count_on got q band ≤ lowat_of v.queues q band → has_relieved got q ≡ true
+    relieved band wanted few =
+        let below = wanted_below (flags_of v q).wanted (banded q) band wanted in
+        let there : band < length every_band = omega (arith, below, length_every_band) in
+        let test = is_relieved (flags_of v q).wanted (count_on got q) (lowat_of v.queues q) in
+        list_any_at test every_band band 0 there
+        (ap test (get_or-every_band band below) ∙ and_from (has_band (flags_of v q).wanted band) _ wanted (le-leb (count_on got q band) (lowat_of v.queues q band) few))
+
+    taken_wakes : (p : ℕ) → next_of v.queues.specs p ≡ Some q → 0 < length (messages_on v p) → rows.has p v.queues.run ≡ false
+        → (let band = rank_of v.arena.store (get_or (messages_on v p) 0 []) in count_on got q band ≤ lowat_of v.queues q band) → settled.queues.run ≡ v.queues.run ++ p ∷ []
+    taken_wakes p next some off few =
+        let waits = waiting v marks awake p q next some off in
+        let drained = relieved (rank_of v.arena.store (get_or (messages_on v p) 0 [])) waits.wanted few in
+        ap (λ so. (waker_enabled_where so q left).run) drained ∙ next_woken v.queues.specs lawful sides q p left refl next off
+
+    pub woken_some : IsWoken q v (with_state (with_read q false) settled)
+    woken_some = record {
+      wakes = taken_wakes;
+      alone = λ p other. other_woken v.queues.specs lawful sides q (has_relieved got q) p left refl other;
+    }
+
+  -- if there is none, no queue waits for it
+  woken_none : messages_on v q ≡ [] → IsWoken q v (with_state (with_read q true) v)
+  woken_none empty = record {
+    wakes = λ p next some off few.
+        let above = (waiting v marks awake p q next some off).full in
+        let none : band_count v.arena.store (rank_of v.arena.store (get_or (messages_on v p) 0 [])) (messages_on v q) ≡ 0 = ap (band_count v.arena.store (rank_of v.arena.store (get_or (messages_on v p) 0 []))) empty in
+        absurd (omega (arith, above, none));
+    alone = λ p other. refl;
+  }
+
+  woken_first : (ms : List Message) → messages_on v q ≡ ms → IsWoken q v (value_after v (get_first q ms v))
+  woken_first [] none = woken_none none
+  woken_first (m ∷ ms) some = woken_some m ms
+
+  -- a queue that does not exist has none behind it
+  woken_nowhere : has_queue v q ≡ false → IsWoken q v v
+  woken_nowhere none = record {
+    wakes = λ p next some off few. absurd (false≢true (sym none ∙ lt-ltb q (length v.queues.specs) (hop_ahead v.queues.specs lawful p q next).there));
+    alone = λ p other. refl;
+  }
+
+  woken_if : (there : Bool) → has_queue v q ≡ there → IsWoken q v (value_after v (if there then get_first q (messages_on v q) v else Err NoSuchQueue))
+  woken_if true is = woken_first (messages_on v q) refl
+  woken_if false is = woken_nowhere is
+
+  pub woken_by : next_of v.queues.specs q ≡ None → IsWoken q v (value_after v (take q v))
+  woken_by last =
+      subst (λ (g : Given QueuedBlocks (Option ℕ)). IsWoken q v (value_after v g)) (sym (cond-false (is_some (next_of v.queues.specs q)) (Err NoSuchQueue) (getq q v) (ap is_some last)))
+      (woken_if (has_queue v q) refl)

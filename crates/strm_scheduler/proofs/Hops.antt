@@ -1,5 +1,5 @@
 -- The target and the waker of a queue that is on a side: itself, and the queue behind it.
-use Rattle.std.proofs.Common.{◌≡◌, ℕ, zero, suc, ◌+◌, ◌<◌, ◌≤◌, inl, inr, Bool, true, false, ◌&&◌, List, [], ◌∷◌, length, get_or, Option, Some, None, refl, sym, ap, ◌∙◌, arith, if◌then◌else◌}
+use Rattle.std.proofs.Common.{◌≡◌, ℕ, zero, suc, ◌+◌, ◌<◌, ◌≤◌, inl, inr, Bool, true, false, ◌&&◌, List, [], ◌∷◌, length, get_or, Option, Some, None, refl, sym, ap, ◌∙◌, subst, arith, if◌then◌else◌}
 use Rattle.std.specs.Prelude.{count_by, is_some, nat_le, nat_lt}
 use Rattle.std.specs.List.{enumerate_from}
 use Rattle.std.specs.Option.{option_map_or}
@@ -131,3 +131,18 @@ waker_below specs lawful q p = within (length specs) q
         by_behind : ((k : ℕ) → waker_within steps specs k ≡ Some p → p < k) → (o : Option ℕ) → behind specs q ≡ o → waker_from (waker_within steps specs) specs o ≡ Some p → p < q
         by_behind below None none found = absurd (none-some p found)
         by_behind below (Some r) some found = by_service below r (hop_ahead specs lawful r q (behind_next specs q r some)).greater (spec_at specs r).service found
+
+-- on sides, a waker has the queue as its next
+pub waker_next : (specs : List QueueSpec) → are_lawful specs ≡ true → AreSides specs → (q p : ℕ) → waker specs q ≡ Some p → next_of specs p ≡ Some q
+waker_next specs lawful sides q p is = by_behind (behind specs q) refl
+  where
+    none_within : (steps : ℕ) → behind specs q ≡ None → waker_within steps specs q ≡ None
+    none_within zero none = refl
+    none_within (suc steps) none = ap (waker_from (waker_within steps specs) specs) none
+
+    by_behind : (o : Option ℕ) → behind specs q ≡ o → next_of specs p ≡ Some q
+    by_behind None none = absurd (none-some p (sym (none_within (length specs) none) ∙ is))
+    by_behind (Some r) some =
+        let next = behind_next specs q r some in
+        let same : r ≡ p = same_Some r p (sym (waker_is specs lawful r q next sides) ∙ is) in
+        subst (λ k. next_of specs k ≡ Some q) same next

@@ -27,8 +27,7 @@ use Rattle.strm_scheduler.proofs.Keeping.{awake_grown, awake_on_run, awake_shelv
 use Rattle.strm_scheduler.proofs.Waking.{enabled_grows, enabled_on, enabled_where_grows}
 use Rattle.strm_scheduler.proofs.Settling.{settled_specs}
 use Rattle.strm_scheduler.proofs.Calls.{awake_asked, awake_marked, awake_put, awake_taken}
-use Rattle.strm_scheduler.proofs.Beginning.{banded_of}
-use Rattle.strm_scheduler.proofs.Finding.{okay}
+use Rattle.strm_scheduler.proofs.Beginning.{banded_of, okay}
 
 module _ (v : PoolValue) (law : IsLawful v) (kept : AreKeptAwake v) where
   -- queues with the same specs that stay awake

@@ -11,12 +11,11 @@ pub mod Weighing
 pub mod Falling
 pub mod Ordering
 pub mod Beginning
-pub mod Finding
 pub mod Kept
-pub mod Opening
 pub mod Unchanged
 pub mod Stepping
 pub mod Treated
 pub mod Holding
 pub mod Started
 pub mod Needing
+pub mod Accounting

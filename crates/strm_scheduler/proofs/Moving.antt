@@ -14,9 +14,9 @@ use Rattle.strm_mblk.specs.Messages.{blocks_of}
 use Rattle.strm_mblk.specs.Given.{answer_map, answer_of, value_after}
 use Rattle.strm_pool.specs.PoolValue.{PoolValue, has_queue, on_queues, queued_blocks_of}
 use Rattle.strm_queue.specs.declared.queue_spec.QueueSpec.{QueueSpec}
-use Rattle.strm_queue.specs.Flow.{Flags, QueueState, with_enabled, enabled_where, flags_at, opening_flags, waker, with_flags}
+use Rattle.strm_queue.specs.Flow.{Flags, QueueState, with_enabled, enabled_where, enables_put, flags_at, opening_flags, waker, with_flags}
 use Rattle.strm_queue.specs.Limits.{high_rank}
-use Rattle.strm_queue.specs.QueueCalls.{flags_left, get_first, getq, has_relieved, putbq, putq, waker_enabled_where, with_got}
+use Rattle.strm_queue.specs.QueueCalls.{flags_left, flags_of, get_first, getq, has_relieved, putbq, putq, rank_put, waker_enabled_where, with_got}
 use Rattle.strm_queue.specs.QueuedBlocks.{QueuedBlocks}
 use Rattle.strm_queue.specs.Rank.{as_queued, is_ordered, put_ahead, rank_of}
 use Rattle.strm_queue.proofs.Agreeing.{enabled_alone}
@@ -284,6 +284,16 @@ put_back_leaves v w q h there after = ap (λ (x : PoolValue). x.arena) (after �
 pub put_state : (v w : PoolValue) (q h : ℕ) → has_queue v q ≡ true → w ≡ value_after v (on_queues v (putq q h (queued_blocks_of v)))
     → w.queues ≡ (with_one_put q (message_at v.arena h) (queued_blocks_of v)).queues
 put_state v w q h there after = ap (λ (x : PoolValue). x.queues) (after ∙ ap (λ g. value_after v (on_queues v g)) (cond-true _ _ _ there))
+
+pub put_keeps : (v w : PoolValue) (q h : ℕ) → has_queue v q ≡ true → w ≡ value_after v (on_queues v (putq q h (queued_blocks_of v))) → KeepsRest v w
+put_keeps v w q h there after =
+    let state = put_state v w q h there after in
+    let kept = enabling_keeps (enables_put (flags_of (queued_blocks_of v) q) (rank_put h (queued_blocks_of v))) q v.queues in
+    record {
+      specs = ap (λ (s : QueueState). s.specs) state ∙ kept.specs;
+      marks = ap (λ (s : QueueState). s.marks) state ∙ kept.marks;
+      wishes = ap (λ (x : PoolValue). x.wishes) (after ∙ ap (λ g. value_after v (on_queues v g)) (cond-true _ _ _ there));
+    }
 
 pub put_back_state : (v w : PoolValue) (q h : ℕ) → has_queue v q ≡ true → w ≡ value_after v (on_queues v (putbq q h (queued_blocks_of v)))
     → w.queues ≡ (with_one_put_back q (message_at v.arena h) (queued_blocks_of v)).queues

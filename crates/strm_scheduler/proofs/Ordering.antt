@@ -48,7 +48,7 @@ module _ (rank : Message → ℕ) (r : ℕ) where
       by_rank false other rest = rest
 
   -- a message is put behind all those of its rank
-  of_rank-put : (x : Message) (ms : List Message) → of_rank rank r (put_behind rank x ms) ≡ of_rank rank r ms ++ of_rank rank r (x ∷ [])
+  pub of_rank-put : (x : Message) (ms : List Message) → of_rank rank r (put_behind rank x ms) ≡ of_rank rank r ms ++ of_rank rank r (x ∷ [])
   of_rank-put x [] = refl
   of_rank-put x (y ∷ ys) = by_any (list_any (λ z. nat_le (rank x) (rank z)) (y ∷ ys)) refl (of_rank-put x ys)
     where

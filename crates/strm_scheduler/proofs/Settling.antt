@@ -22,7 +22,7 @@ AreBanded v = (q : ℕ) → length (flags_of v q).wanted ≡ bands
 -- ---- wanted bands
 
 -- a wanted band is a band
-wanted_below : (w : List Bool) → length w ≡ bands → (band : ℕ) → has_band w band ≡ true → band < bands
+pub wanted_below : (w : List Bool) → length w ≡ bands → (band : ℕ) → has_band w band ≡ true → band < bands
 wanted_below w long band is =
     elim (cases_lt band bands) [
       | inl below ↦ below

@@ -47,18 +47,18 @@ module _ (d : ℕ) (s : DataStore) where
   data_left false = refl
 
 -- freeing blocks leaves shelves and data blocks
-freed_shelves : (bs : List Block) (a : Arena) → (with_blocks_freed bs a).shelves ≡ a.shelves
+pub freed_shelves : (bs : List Block) (a : Arena) → (with_blocks_freed bs a).shelves ≡ a.shelves
 freed_shelves [] a = refl
 freed_shelves (b ∷ loose) a = freed_shelves loose (with_block_freed b loose a)
 
-freed_data : (bs : List Block) (a : Arena) → (with_blocks_freed bs a).store.blocks ≡ a.store.blocks
+pub freed_data : (bs : List Block) (a : Arena) → (with_blocks_freed bs a).store.blocks ≡ a.store.blocks
 freed_data [] a = refl
 freed_data (b ∷ loose) a =
     freed_data loose (with_block_freed b loose a)
     ∙ data_left b.data_number a.store (references_to (record a { free = b.number ∷ a.free }) b.data_number + count_by (uses_data b.data_number) loose == 0)
 
 module _ (s t : DataStore) (same : t.blocks ≡ s.blocks) where
-  rank_same : (m : Message) → rank_of t m ≡ rank_of s m
+  pub rank_same : (m : Message) → rank_of t m ≡ rank_of s m
   rank_same [] = refl
   rank_same (b ∷ bs) = ap (λ (ds : List DataBlock). if is_high_priority (get_or ds b.data_number no_data_block).kind then high_rank else b.band) same
 
@@ -71,6 +71,15 @@ awake_freed : (v : QueuedBlocks) (a : Arena) → a.store.blocks ≡ v.arena.stor
 awake_freed v a blocks q n messages =
     ap (λ rests. not (flags_of v q).noenable && (rows.has q v.queues.run || rests))
     (ap (may_rest a.store (flags_of v q).read (flags_of v n).wanted) messages ∙ rest_same v.arena.store a.store blocks (flags_of v q).read (flags_of v n).wanted (messages_on v q))
+
+-- what putting and flushing leave, where the queue exists
+put_is : (v : PoolValue) (p : ℕ) (t : TokenValue) → has_queue v p ≡ true
+    → with_message_put p t v ≡ with_queued v (with_state (enabled_where (enables_put (flags_of (queued_blocks_of v) p) (rank_put t.head (queued_blocks_of v))) p) (with_put p t.head (put_behind (rank_of v.arena.store) (message_put t.head (queued_blocks_of v)) (messages_on (queued_blocks_of v) p)) (queued_blocks_of v)))
+put_is v p t there = ap (λ g. value_after v (on_queues v g)) (cond-true _ _ _ there)
+
+pub flushed_is : (v : PoolValue) (p : ℕ) (flush : Flush) → has_queue v p ≡ true
+    → with_queue_flushed p flush v ≡ with_queue_enabled p (with_queued v (with_queue_settled p (with_flushed p (is_picked v.arena.store None flush) (queued_blocks_of v))))
+flushed_is v p flush there = ap (λ g. with_queue_enabled p (value_after v (on_queues v g))) (cond-true _ _ _ there)
 
 -- ---- all queues are awake but q, which is being served
 
@@ -192,14 +201,6 @@ module _ (specs : List QueueSpec) (lawful : are_lawful specs ≡ true) (sides : 
           }
 
   -- ---- a step, and all steps
-
-  put_is : (v : PoolValue) (p : ℕ) (t : TokenValue) → has_queue v p ≡ true
-      → with_message_put p t v ≡ with_queued v (with_state (enabled_where (enables_put (flags_of (queued_blocks_of v) p) (rank_put t.head (queued_blocks_of v))) p) (with_put p t.head (put_behind (rank_of v.arena.store) (message_put t.head (queued_blocks_of v)) (messages_on (queued_blocks_of v) p)) (queued_blocks_of v)))
-  put_is v p t there = ap (λ g. value_after v (on_queues v g)) (cond-true _ _ _ there)
-
-  flushed_is : (v : PoolValue) (p : ℕ) (flush : Flush) → has_queue v p ≡ true
-      → with_queue_flushed p flush v ≡ with_queue_enabled p (with_queued v (with_queue_settled p (with_flushed p (is_picked v.arena.store None flush) (queued_blocks_of v))))
-  flushed_is v p flush there = ap (λ g. with_queue_enabled p (value_after v (on_queues v g))) (cond-true _ _ _ there)
 
   step_open : (s : Step) (v w : PoolValue) → IsStep q s v w → IsOpen v → IsOpen w
   step_open Changed v w step on = open_changed v on w step

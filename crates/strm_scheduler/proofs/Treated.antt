@@ -3,9 +3,9 @@ use Rattle.std.proofs.Common.{◌≡◌, ◌≢◌, ℕ, ◌+◌, ◌<◌, ◌�
 use Rattle.std.proofs.lemmas.Bool.{lt-ltb}
 use Rattle.strm_links.specs.Rows as rows
 use Rattle.strm_mblk.specs.declared.token.TokenValue.{TokenValue}
-use Rattle.strm_scheduler.specs.Forwarding.{KeepsRest, with_put}
+use Rattle.strm_scheduler.specs.Forwarding.{Goes, KeepsRest, has_leave, with_put}
 use Rattle.strm_scheduler.specs.Handing.{handed_on, with_first_off}
-use Rattle.strm_scheduler.proofs.Moving.{IsGot, handed_whole, leave_same, put_leaves}
+use Rattle.strm_scheduler.proofs.Moving.{IsGot, handed_whole, leave_same, put_keeps, put_leaves, put_state, went}
 use Rattle.strm_mblk.specs.Block.{Message}
 use Rattle.strm_mblk.specs.Arena.{Arena, has, held_at, message_at, shelf_at, with_shelf, without_held}
 use Rattle.strm_pool.specs.Lawful.{IsLawful}
@@ -19,7 +19,7 @@ use Rattle.strm_scheduler.specs.Awake.{is_awake, may_rest}
 use Rattle.strm_scheduler.specs.Laws.{AreKeptAwake}
 use Rattle.strm_scheduler.specs.Sides.{AreSides, next_of}
 use Rattle.strm_scheduler.specs.Order.{KeepsOrder}
-use Rattle.strm_scheduler.specs.Steps.{AreSteps, Put, Step}
+use Rattle.strm_scheduler.specs.Steps.{AreSteps, Put, Step, with_message_put}
 use Rattle.strm_scheduler.specs.Serving.{FallsBy, IsServing, IsTaken, KeepsAllowed, TakesTo}
 use Rattle.strm_scheduler.specs.Work.{each, from_here, power, powers, weigh}
 use Rattle.strm_scheduler.proofs.Hops.{hop_ahead, hop_within}
@@ -110,6 +110,21 @@ module _ (q n : ℕ) (v : PoolValue) (law : IsLawful v) (s : IsServing q n v) wh
         (ap (λ (a : Arena). a.shelves) left
         ∙ (λ i. (with_put n (message_now q n v x t taken i) (without_held t.head (taken.arena i))).shelves)
         ∙ sym (ap (λ ms. (with_put n (get_or ms 0 []) (with_shelf q (drop 1 ms) v.arena)).shelves) taken.first))
+
+    -- and forwarded, as `run` does
+    pub hands_passed : KeepsRest v x → held_at v.arena t.head ≡ None → (w : PoolValue) (steps : List Step) → steps ≡ Put n t ∷ [] → AreSteps q steps x w
+        → Goes q n v w × (handed_on q n (queued_blocks_of v) ≡ (true, queued_blocks_of w))
+    unfolding handed_on
+    hands_passed rest unheld w steps is stepped =
+        let put : AreSteps q (Put n t ∷ []) x w = subst (λ (ss : List Step). AreSteps q ss x w) is stepped in
+        let after : w ≡ with_message_put n t x = put.2 ∙ put.1.3 in
+        let g : IsGot q t v x = record { message = taken.message; behind = taken.behind; first = taken.first; head = taken.head; arena = taken.arena; state = taken.queues; rest = rest } in
+        let goes : true ≡ has_leave n x.queues x.arena (message_at x.arena t.head) = sym (leave_same q n q_apart v x t g unheld taken.had ∙ taken.leave) in
+        let left = put_leaves x w n t.head put.1.1 after in
+        let kept = put_keeps x w n t.head put.1.1 after in (
+          went q n q_apart v x t g unheld taken.had w kept q_within goes left,
+          handed_whole q n q_apart v x t g unheld taken.had w kept q_within (law.ordered q) true goes left (put_state x w n t.head put.1.1 after),
+        )
 
   -- ---- no message is taken
 

@@ -29,7 +29,7 @@ module _ (s t : DataStore) where
       let rank = rank_of-same s t m (joined_parts (IsSameData s t) m (flat_map (λ x. x) ms) same).0 in
       λ i. not (rank i == high_rank) && has_band wanted (rank i)
 
-  shelf_data : (shelves : List (List Message)) (q : ℕ) → All (IsSameData s t) (blocks_on shelves) → All (IsSameData s t) (flat_map (λ m. m) (get_or shelves q []))
+  pub shelf_data : (shelves : List (List Message)) (q : ℕ) → All (IsSameData s t) (blocks_on shelves) → All (IsSameData s t) (flat_map (λ m. m) (get_or shelves q []))
   shelf_data [] q same = λ k d within. absurd (omega (arith, within))
   shelf_data (ms ∷ shelves) zero same = (joined_parts (IsSameData s t) (flat_map (λ m. m) ms) (blocks_on shelves) same).0
   shelf_data (ms ∷ shelves) (suc q) same = shelf_data shelves q (joined_parts (IsSameData s t) (flat_map (λ m. m) ms) (blocks_on shelves) same).1

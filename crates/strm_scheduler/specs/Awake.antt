@@ -29,8 +29,8 @@ IsAwake v = (q n : ℕ) → next_of v.queues.specs q ≡ Some n → IsTrue (is_a
 
 -- ---- waiting
 
--- A queue whose next is queue n waits for this band: its first message does not have high priority, and the band is wanted on queue n,
--- where it has more bytes than its low water mark.
+-- A queue whose next is queue n waits for this band, that of its first message, which does not have high priority. The band is wanted
+-- on queue n, and has more bytes there than its low water mark.
 pub record IsAwaited (v : QueuedBlocks) (n band : ℕ) : Type 0 where
   pub ordinary : (band == high_rank) ≡ false
   pub wanted : IsTrue (has_band (flags_of v n).wanted band)

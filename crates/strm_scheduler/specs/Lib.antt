@@ -8,6 +8,7 @@ pub mod Laws
 pub mod Work
 pub mod Serving
 pub mod Needs
+pub mod Moves
 pub mod Steps
 pub mod Modules
 pub mod Holding

@@ -13,10 +13,12 @@ use Rattle.strm_queue.specs.declared.queued_info.QueuedInfo.{QueuedInfo}
 use Rattle.strm_queue.specs.QueueCalls.{next_service}
 use Rattle.strm_queue.specs.QueueLooks.{info_of_message, queued_at}
 use Rattle.strm_scheduler.specs.Needs.{are_free, can_be_free}
+use Rattle.strm_scheduler.specs.Moves.{AreMoved, Move, ranked, take_off}
 use Rattle.strm_scheduler.specs.Order.{KeepsOrder}
+use Rattle.strm_scheduler.specs.Running.{IsServed}
 use Rattle.strm_scheduler.specs.Sides.{next_of}
 use Rattle.strm_scheduler.specs.Serving.{IsTaken}
-use Rattle.strm_scheduler.specs.Steps.{AreSteps, PassOne, Put, Step, with_queue_enabled}
+use Rattle.strm_scheduler.specs.Steps.{AreSteps, PassOne, Put, Step, steps_moves, with_queue_enabled}
 
 -- `treats m v q n t steps k w`: the module m, with pool v, can treat the message of token t, which has left queue q and may go on to
 -- queue n, by these steps, and then be k, with pool w
@@ -35,6 +37,10 @@ PassesEach {M} treats = (m k : M) (v w : PoolValue) (q n : ℕ) (t : TokenValue)
 -- this
 abbrev pub Needs : Type 0 → Type 1
 Needs M = M → PoolValue → ℕ → QueuedInfo → Need → Type 0
+
+-- for no message the module needs anything
+abbrev pub NeedsNothing : {M : Type 0} → Needs M → Type 0
+NeedsNothing {M} needs = (m : M) (v : PoolValue) (q : ℕ) (first : QueuedInfo) (need : Need) → needs m v q first need → need ≡ record { sizes = []; mblks = 0; later = false }
 
 -- ---- messages that are held back
 
@@ -142,6 +148,34 @@ turns_since [] = 0
 turns_since (true ∷ turns) = 0
 turns_since (false ∷ turns) = suc (turns_since turns)
 
+-- ---- what moves
+
+-- the moves of a message that was treated: it was taken, and the steps moved others
+abbrev pub treated_moves : {M : Type 0} (needs : Needs M) (treats : Treats M) (q n : ℕ) (m : M) (v : PoolValue) (k : M) (w : PoolValue) → IsTreated needs treats q n m v k w → List Move
+treated_moves needs treats q n m v k w done = take_off q (ranked v.arena.store (done.taken.message ∷ [])) ∷ steps_moves q done.steps done.held w done.stepped
+
+-- the moves of a number of messages that were treated
+abbrev pub service_moves : {M : Type 0} (needs : Needs M) (treats : Treats M) (q n count : ℕ) (m : M) (v : PoolValue) (k : M) (w : PoolValue)
+    → AreTreated needs treats q n count m v k w → List Move
+service_moves needs treats q n zero m v k w done = []
+service_moves needs treats q n (suc count) m v k w done =
+    service_moves needs treats q n count m v done.0 done.1 done.2 ++ treated_moves needs treats q n done.0 done.1 k w done.3
+
+-- the moves of a turn
+abbrev pub turn_moves : {M : Type 0} (needs : Needs M) (treats : Treats M) (so : Bool) (m : M) (v : PoolValue) (k : M) (w : PoolValue) → IsTurn needs treats so m v k w → List Move
+turn_moves needs treats true m v k w done =
+    service_moves needs treats done.queue done.next done.treated.count m (with_queued v (next_service (queued_blocks_of v)).1) k done.treated.last done.treated.treated
+turn_moves needs treats false m v k w done = []
+
+-- the moves of these turns, first to last
+abbrev pub turns_moves : {M : Type 0} (needs : Needs M) (treats : Treats M) (turns : List Bool) (m : M) (v : PoolValue) (k : M) (w : PoolValue)
+    → AreTurns needs treats turns m v k w → List Move
+turns_moves needs treats [] m v k w done = []
+turns_moves needs treats (so ∷ turns) m v k w done =
+    turns_moves needs treats turns m v done.0 done.1 done.2 ++ turn_moves needs treats so done.0 done.1 k w done.3
+
+-- ---- a run
+
 -- How a run ended after turns that left the module m and the pool v, by what it returns. If each queue on the run list is held back, each
 -- had one turn since the last service. If a need is never met, the first queue had one more turn, was held back, and is the last one now.
 abbrev pub IsEnded : {M : Type 0} → Needs M → List Bool → M → PoolValue → Ended → M → PoolValue → Type 0
@@ -150,8 +184,9 @@ IsEnded needs turns m v HeldBack k w = (k ≡ m) × (w ≡ v) × (0 < length w.q
 IsEnded needs turns m v Spent k w = (k ≡ m) × (w ≡ v) × (0 < length w.queues.run) × (turns_since turns ≡ 0)
 IsEnded needs turns m v (NeverMet q) k w = IsTurned needs q false m v k w
 
--- What a run did: queues had their turns. With a budget, there were no more services, and as many if it is spent. If the module passes each
--- message on as it is, each side has the same messages, and within each rank in the same order.
+-- What a run did: queues had their turns. With a budget, there were no more services, and as many if it is spent. No queue lost a message
+-- (`moved`). If the module passes each message on as it is, each side has the same messages, and within each rank in the same order. If it
+-- needs nothing besides, queues and messages are those after some services of `run`.
 pub record IsRunWith {M : Type 0} (needs : Needs M) (treats : Treats M) (budget : Option ℕ) (m : M) (v : PoolValue) (ended : Ended) (k : M) (w : PoolValue) : Type 0 where
   pub turns : List Bool
   pub module_left : M
@@ -160,4 +195,6 @@ pub record IsRunWith {M : Type 0} (needs : Needs M) (treats : Treats M) (budget 
   pub within : IfSome budget (λ most. services_of turns ≤ most)
   pub spent : ended ≡ Spent → budget ≡ Some (services_of turns)
   pub ends : IsEnded needs turns module_left pool_left ended k w
+  pub moved : AreMoved (turns_moves needs treats turns m v module_left pool_left taken) v.arena w.arena
   pub order : PassesEach treats → KeepsOrder v w
+  pub served : NeedsNothing needs → PassesEach treats → IsServed (queued_blocks_of v) (queued_blocks_of w)

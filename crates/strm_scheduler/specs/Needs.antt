@@ -1,8 +1,9 @@
 -- What a module needs for a message, and whether it is free.
-use Rattle.std.specs.Prelude.{ℕ, ◌+◌, Bool, true, false, not, ◌&&◌, nat_le, nat_lt, List, [], ◌∷◌, length, if◌then◌else◌}
+use Rattle.std.specs.Prelude.{◌≡◌, ◌≤◌, ℕ, ◌+◌, Bool, true, false, not, ◌&&◌, nat_le, nat_lt, List, [], ◌∷◌, length, Ok, if◌then◌else◌}
 use Rattle.strm_data.specs.declared.class_info.ClassInfo.{ClassInfo}
 use Rattle.strm_data.specs.DataStore.{class_infos}
 use Rattle.strm_mblk.specs.Arena.{Arena}
+use Rattle.strm_mblk.specs.BlockCalls.{allocb}
 use Rattle.strm_scheduler.specs.declared.need.Need.{Need}
 
 -- the number of a class's data blocks, all or the free ones, if they fit a size
@@ -39,3 +40,8 @@ are_free need a = not need.later && is_enough false need (length a.free) (class_
 -- what is needed would be free if each block of the pool was
 abbrev pub can_be_free : Need → Arena → Bool
 can_be_free need a = is_enough true need (length a.held) (class_infos a.store)
+
+-- `allocb` of each of these sizes, one after another, succeeds, and then at least this many message blocks are free
+abbrev pub AreAllocated : List ℕ → ℕ → Arena → Type 0
+AreAllocated [] mblks a = mblks ≤ length a.free
+AreAllocated (size ∷ sizes) mblks a = (head : ℕ) × (left : Arena) × (allocb size a ≡ Ok (head, left)) × AreAllocated sizes mblks left

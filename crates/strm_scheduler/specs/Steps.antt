@@ -1,13 +1,15 @@
 -- What a module does to the queues while it treats a message, step by step.
-use Rattle.std.specs.Prelude.{◌≡◌, ◌≢◌, ℕ, true, List, [], ◌∷◌}
+use Rattle.std.specs.Prelude.{◌≡◌, ◌≢◌, ℕ, true, filter, List, [], ◌∷◌, ◌++◌, None}
 use Rattle.strm_mblk.specs.declared.token.TokenValue.{TokenValue}
-use Rattle.strm_mblk.specs.Arena.{has}
+use Rattle.strm_mblk.specs.Arena.{has, shelf_at}
 use Rattle.strm_mblk.specs.Given.{value_after}
 use Rattle.strm_pool.specs.PoolValue.{PoolValue, has_queue, on_queues, queued_blocks_of}
 use Rattle.strm_queue.specs.declared.flush.Flush.{Flush}
 use Rattle.strm_queue.specs.Flow.{with_enabled}
-use Rattle.strm_queue.specs.QueueCalls.{flushq, putq}
+use Rattle.strm_queue.specs.Flush.{is_picked}
+use Rattle.strm_queue.specs.QueueCalls.{flushq, message_put, putq}
 use Rattle.strm_scheduler.specs.Laws.{KeepsQueued}
+use Rattle.strm_scheduler.specs.Moves.{Move, free_of_queue, join, ranked}
 
 -- A step. Changed: held messages and wishes changed. Put: the message of this token was put on this queue. Flushed: messages of this
 -- queue, all or those that carry data, were freed, and it was enabled. Enabled: this queue was enabled.
@@ -40,6 +42,20 @@ IsStep q (Enabled p) v w = w ≡ with_queue_enabled p v
 abbrev pub AreSteps : ℕ → List Step → PoolValue → PoolValue → Type 0
 AreSteps q [] v w = w ≡ v
 AreSteps q (s ∷ ss) v w = (x : PoolValue) × IsStep q s v x × AreSteps q ss x w
+
+-- ---- what moves
+
+-- the moves of a step of a pool
+abbrev pub step_moves : Step → PoolValue → List Move
+step_moves Changed v = []
+step_moves (Put p t) v = join p (ranked v.arena.store (message_put t.head (queued_blocks_of v) ∷ [])) ∷ []
+step_moves (Flushed p flush) v = free_of_queue p (ranked v.arena.store (filter (is_picked v.arena.store None flush) (shelf_at v.arena p))) ∷ []
+step_moves (Enabled p) v = []
+
+-- the moves of these steps, first to last
+abbrev pub steps_moves : (q : ℕ) (ss : List Step) (v w : PoolValue) → AreSteps q ss v w → List Move
+steps_moves q [] v w steps = []
+steps_moves q (s ∷ ss) v w steps = step_moves s v ++ steps_moves q ss steps.0 w steps.2
 
 -- ---- steps that send nothing back
 

@@ -7,7 +7,7 @@ ghost use Rattle.strm_mblk.specs.Calls.{Frees, Joins, LeavesBlocks, Parts, Puts,
 ghost use Rattle.strm_pool.specs.PoolValue.{PoolValue, arena, on_arena, on_queues, queued_blocks_of, with_arena, with_token_spent};
 ghost use Rattle.strm_queue.specs.QueueCalls as queues;
 ghost use Rattle.strm_scheduler.specs.Awake.{AreAllEmpty, AreEndsEmpty, AreWaiting};
-ghost use Rattle.strm_scheduler.specs.Laws.{AreKeptAwake, KeepsQueued, hold, take};
+ghost use Rattle.strm_scheduler.specs.Laws.{AreKeptAwake, AreWoken, KeepsQueued, hold, take};
 ghost use Rattle.strm_scheduler.specs.Sides.{SidesOpen, fault_from, fault_of_queue, next_of};
 ghost use Rattle.strm_scheduler.specs.Modules.{IsRunWith, PassesOne};
 ghost use Rattle.strm_scheduler.specs.Order.{KeepsOrder};
@@ -27,8 +27,8 @@ use strm_pool::{Config, Pool, QueueSpec, Refusal, Rejected, Token};
 /// A pool whose queues form sides of streams. Each queue with a next queue has a service procedure that forwards its messages
 /// there. The last queue of a side has none: from it, the user takes messages.
 ///
-/// No wake-up is lost, whatever calls are made ([`lawful`](Sides::lawful)). So there is no call that puts a message back and does
-/// not enable the queue, that takes a message from the middle of a side that may not go on, or that switches enabling off.
+/// No wake-up is lost, whatever calls are made ([`lawful`](Sides::lawful)). So no call puts a message back without enabling the
+/// queue, or switches enabling off. None takes a message from the middle of a side that may not go on.
 #[derive(Debug, Drop)]
 pub struct Sides {
     pool: Pool,
@@ -96,11 +96,12 @@ impl Sides {
         self.pool.lawful();
     }
 
-    /// Law: each queue that has a next queue and a message, and is not on the run list, waits for the band of its first message to
-    /// drain on the next queue, where it has more bytes than its low water mark. So each call after which it has no more, such as
-    /// `take`, wakes the queue. Does nothing.
+    /// Law: a queue that has a next queue and a message, and is not on the run list, waits for the band of its first message. On
+    /// the next queue, that band has more bytes than its low water mark. Each call after which it has no more wakes the queue:
+    /// `take` puts it at the end of the run list, and enables no other queue. Does nothing.
     pub fn waiting(&self)
-        ensures { AreWaiting (queued_blocks_of self.now) }
+        ensures waits { AreWaiting (queued_blocks_of self.now) }
+        ensures wakes { AreWoken (queued_blocks_of self.now) }
     {
         self.pool.lawful();
     }
@@ -167,6 +168,9 @@ impl Sides {
     /// which stays enabled. Other queues are served meanwhile. If messages are held back at the end (`HeldBack`), free blocks,
     /// and call `run_with` again. A need that the pool can never meet ends the run when its queue has a turn (`NeverMet`).
     ///
+    /// No message is lost: one that was on a queue, or that the module put there, is there still, went to the module, or was
+    /// flushed. On a queue that is not flushed, messages of a rank leave in the order in which they came.
+    ///
     /// `budget` is the greatest number of services. Without one, the module must pass one message on at most for each that it
     /// gets, and leave the queues unchanged otherwise: so the run ends.
     pub fn run_with<M: Module>(&mut self, handler: &mut M, budget: Option<u32>) -> Ended
@@ -177,7 +181,7 @@ impl Sides {
     }
 
     /// Serves queues until one gives a message that may go on, and takes that message off; then the queue is enabled again. The
-    /// caller treats the message in calls of its own: it passes it on ([`put`](Sides::put) on `next`), replies (`put` on a queue of
+    /// caller treats the message in calls of its own. It passes it on ([`put`](Sides::put) on `next`), replies (`put` on a queue of
     /// the other side), frees it, keeps it for later, or puts it back ([`hold`](Sides::hold)). No queue is asleep meanwhile.
     ///
     /// The last `held` queues of the run list are not served: those that the caller holds back. So the caller starts with 0, and

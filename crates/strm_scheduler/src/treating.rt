@@ -1,13 +1,14 @@
 //! Service procedures of modules: they treat each message that may go on to the next queue.
-ghost use Rattle.std.specs.Prelude.{◌≡◌, ◌≢◌, ◌+◌, ◌-◌, ◌<◌, ◌≤◌, IsTrue, IfSome, None, false, length, option_map, true};
-ghost use Rattle.strm_scheduler.specs.Forwarding.{KeepsRest};
-ghost use Rattle.strm_scheduler.specs.Handing.{handed_on};
+ghost use Rattle.std.specs.Prelude.{◌≡◌, ◌≢◌, ◌+◌, ◌-◌, ◌<◌, ◌≤◌, ℕ, IsTrue, IfSome, None, false, length, option_map, true};
+ghost use Rattle.strm_scheduler.specs.Forwarding.{Goes, KeepsRest};
+ghost use Rattle.strm_scheduler.specs.Handing.{all_forwarded, handed_on};
 ghost use Rattle.strm_mblk.specs.Arena.{has, held_at, shelf_at};
 ghost use Rattle.strm_pool.specs.PoolValue.{has_queue, queued_blocks_of};
 ghost use Rattle.strm_scheduler.specs.Holding.{is_spent};
 ghost use Rattle.strm_scheduler.specs.Laws.{AreKeptAwake};
-ghost use Rattle.strm_scheduler.specs.Modules.{IsFirstTreated, IsHeldBack, IsMet, IsQueueTreated, IsRunWith, IsTreated, IsTurned, PassesEach, PassesOne};
+ghost use Rattle.strm_scheduler.specs.Modules.{IsFirstTreated, IsHeldBack, IsMet, IsQueueTreated, IsRunWith, IsTreated, IsTurned, NeedsNothing, PassesEach, PassesOne};
 ghost use Rattle.strm_scheduler.specs.Order.{KeepsOrder};
+ghost use Rattle.strm_scheduler.specs.Running.{with_first_served};
 ghost use Rattle.strm_scheduler.specs.Serving.{FallsBy, IsServing, KeepsAllowed, TakesTo};
 ghost use Rattle.strm_scheduler.specs.Work.{power, powers, weigh, work};
 
@@ -33,6 +34,7 @@ pub(crate) fn treat_all<M: Module>(pool: &mut Pool, handler: &mut M, budget: Opt
     ensures awake { AreKeptAwake pool.new }
     ensures ran { IsRunWith M.needs M.treats budget handler.old pool.old result handler.new pool.new }
 {
+    pool.lawful();
     // How many queues were held back since the last service. They are at the end of the run list.
     let mut count = 0;
     let mut left = budget;
@@ -90,6 +92,8 @@ fn treat_first<M: Module>(pool: &mut Pool, handler: &mut M) -> Option<Held>
     ensures turned { IfSome result (λ held.
         IsTurned M.needs held.queue held.ever handler.old pool.old handler.new pool.new) }
     ensures order { PassesEach M.treats → KeepsOrder pool.old pool.new }
+    ensures served { NeedsNothing M.needs → PassesEach M.treats
+        → with_first_served (queued_blocks_of pool.old) ≡ queued_blocks_of pool.new }
     ensures specs { pool.new.queues.specs ≡ pool.old.queues.specs }
 {
     let Some((queue, next)) = begin(pool) else {
@@ -114,6 +118,8 @@ fn treat_queue<M: Module>(pool: &mut Pool, handler: &mut M, queue: u8, next: u8)
     ensures treated { IsQueueTreated M.needs M.treats queue next handler.old pool.old handler.new pool.new }
     ensures falls { PassesOne M.treats → FallsBy queue pool.old pool.new }
     ensures order { PassesEach M.treats → KeepsOrder pool.old pool.new }
+    ensures forwards { NeedsNothing M.needs → PassesEach M.treats → (count : ℕ)
+        × (all_forwarded queue next (queued_blocks_of pool.old) ≡ (count, queued_blocks_of pool.new)) }
     ensures specs { pool.new.queues.specs ≡ pool.old.queues.specs }
 {
     while treat_one(pool, handler, queue, next) {
@@ -156,6 +162,8 @@ fn treat_one<M: Module>(pool: &mut Pool, handler: &mut M, queue: u8, next: u8) -
     ensures same { result ≡ false → weigh pool.new.arena.shelves ≡ weigh pool.old.arena.shelves }
     ensures run { result ≡ false → powers pool.new.queues.run < power queue + powers pool.old.queues.run }
     ensures order { PassesEach M.treats → KeepsOrder pool.old pool.new }
+    ensures hands { IsTrue result → PassesEach M.treats → Goes queue next pool.old pool.new
+        × (handed_on queue next (queued_blocks_of pool.old) ≡ (true, queued_blocks_of pool.new)) }
     ensures specs { pool.new.queues.specs ≡ pool.old.queues.specs }
 {
     pool.lawful();

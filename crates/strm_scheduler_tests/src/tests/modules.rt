@@ -217,6 +217,7 @@ impl Module for Heading {
     }
 
     fn treat(&mut self, pool: &mut Pool, queue: u8, next: u8, token: Token) {
+        Need::block(1).granted(pool);
         match pool.allocb(1) {
             Ok(header) => {
                 passed(pool, queue, next, header);

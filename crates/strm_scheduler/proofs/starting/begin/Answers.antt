@@ -1,6 +1,6 @@
 -- The first queue of the run list exists. On sides it has a next queue.
 use Rattle.std.proofs.Common.{inl, inr, sym, ◌∙◌}
-use Rattle.strm_scheduler.proofs.Finding.{begun, blocked, blocked_not, none_at, refused_not}
+use Rattle.strm_scheduler.proofs.Beginning.{begun, blocked, blocked_not, none_at, refused_not}
 use Rattle.strm_scheduler.proofs.starting.begin.Goals as goal
 
 pub unreachable-requires : goal.unreachable-requires

@@ -1,10 +1,13 @@
 -- One more queue was served, or found held back. At the end, each one on the run list is held back, or the budget is spent.
-use Rattle.std.proofs.Common.{◌<◌, ap, arith, false, length, refl, subst, sym, true, [], ◌∷◌, ◌∙◌}
+use Rattle.std.proofs.Common.{◌<◌, ap, arith, false, length, refl, subst, suc, sym, true, zero, [], ◌∷◌, ◌∙◌}
 use Rattle.std.proofs.lemmas.Bool.{false≢true}
 use Rattle.std.specs.Option.{is_some}
 use Rattle.strm_scheduler.specs.Holding.{work_left}
-use Rattle.strm_scheduler.specs.Modules.{IsTurned}
-use Rattle.strm_scheduler.proofs.Beginning.{order_more}
+use Rattle.strm_pool.specs.PoolValue.{PoolValue, queued_blocks_of}
+use Rattle.strm_scheduler.specs.Modules.{IsTurned, turns_moves}
+use Rattle.strm_scheduler.specs.Moves.{AreMoved}
+use Rattle.strm_scheduler.proofs.Accounting.{turns_moved}
+use Rattle.strm_scheduler.proofs.Beginning.{order_more, served_more, served_none}
 use Rattle.strm_scheduler.proofs.Holding.{IsLeft, last_all, last_more, last_none, left_none, left_served, left_spent, left_within, left_without, none_long, place_past, place_within, served_left, turned_left}
 use Rattle.strm_scheduler.proofs.treating.treat_all.Goals as goal
 
@@ -15,6 +18,7 @@ loop-left-init g c = record {
   turns = ([], (refl, refl), left_none c.args.budget, refl);
   fresh = λ spent. refl;
   order = λ passes end rank last there. refl;
+  served = λ nothing passes. (zero, served_none (queued_blocks_of c.args.pool.now));
   specs = refl;
 }
 
@@ -39,7 +43,9 @@ returns-then-is_spent-clause-ran g c =
       within = left_within c.args.budget c.loop-left.left before.turns.0 before.turns.2;
       spent = λ is. left_spent c.args.budget c.loop-left.left before.turns.0 spent before.turns.2;
       ends = (refl, refl, omega (arith, here), before.turns.3 ∙ before.fresh spent);
+      moved = turns_moved g.M.Module.needs g.M.Module.treats before.turns.0 c.args.handler.now c.args.pool.now c.loop-left.handler c.loop-left.pool before.turns.1 c.lawful.ensures.shelves;
       order = before.order;
+      served = before.served;
     }
 
 -- ---- a queue was served
@@ -50,7 +56,7 @@ loop-left-smaller-in-None g c =
     subst (λ o. work_left o c.treat_first.new.pool 0 < work_left c.loop-left.left c.loop-left.pool c.loop-left.count) (sym c.one_less-left.ensures)
     (served_left c.loop-left.pool c.treat_first.new.pool c.loop-left.left c.loop-left.count (sym c.is_spent.ensures ∙ c.if-is_spent.false)
     (λ none. c.treat_first.ensures.falls c.in-None.is (c.requires.ends (left_without c.args.budget c.loop-left.left before.turns.0 before.turns.2 none)))
-    (omega (arith, c.treat_first.ensures.short c.in-None.is, ap length c.treat_first.ensures.specs, c.lawful.ensures.few_queues)))
+    (omega (arith, c.treat_first.ensures.short c.in-None.is, ap length c.treat_first.ensures.specs, c.lawful-in-loop-left.ensures.few_queues)))
 
 pub loop-left-preserved-in-None : goal.loop-left-preserved-in-None
 loop-left-preserved-in-None g c =
@@ -68,6 +74,9 @@ loop-left-preserved-in-None g c =
       );
       fresh = λ spent. refl;
       order = λ passes. order_more c.args.pool.now c.loop-left.pool c.treat_first.new.pool before.specs (before.order passes) (step.order passes);
+      served = λ nothing passes.
+          let some = before.served nothing passes in
+          (suc some.0, served_more some.0 (queued_blocks_of c.args.pool.now) (queued_blocks_of c.loop-left.pool) (queued_blocks_of c.treat_first.new.pool) some.1 (step.served nothing passes));
       specs = step.specs ∙ before.specs;
     }
 
@@ -97,6 +106,9 @@ loop-left-preserved g c =
       );
       fresh = λ spent. absurd (false≢true (sym (sym c.is_spent.ensures ∙ c.if-is_spent.false) ∙ spent));
       order = λ passes. order_more c.args.pool.now c.loop-left.pool c.treat_first.new.pool before.specs (before.order passes) (step.order passes);
+      served = λ nothing passes.
+          let some = before.served nothing passes in
+          (suc some.0, served_more some.0 (queued_blocks_of c.args.pool.now) (queued_blocks_of c.loop-left.pool) (queued_blocks_of c.treat_first.new.pool) some.1 (step.served nothing passes));
       specs = step.specs ∙ before.specs;
     }
 
@@ -113,7 +125,14 @@ returns-in-Some-2-clause-ran g c =
       within = left_within c.args.budget c.loop-left.left before.turns.0 before.turns.2;
       spent = λ is. absurd (cc);
       ends = subst (λ e. IsTurned g.M.Module.needs c.in-Some.held.queue e c.loop-left.handler c.loop-left.pool c.treat_first.new.handler c.treat_first.new.pool) c.if-held.false c.in-Some.ensures.turned;
+      moved =
+          subst (AreMoved (turns_moves g.M.Module.needs g.M.Module.treats before.turns.0 c.args.handler.now c.args.pool.now c.loop-left.handler c.loop-left.pool before.turns.1) c.args.pool.now.arena)
+          (sym (ap (λ (v : PoolValue). v.arena) c.in-Some.ensures.turned.after))
+          (turns_moved g.M.Module.needs g.M.Module.treats before.turns.0 c.args.handler.now c.args.pool.now c.loop-left.handler c.loop-left.pool before.turns.1 c.lawful.ensures.shelves);
       order = λ passes. order_more c.args.pool.now c.loop-left.pool c.treat_first.new.pool before.specs (before.order passes) (c.treat_first.ensures.order passes);
+      served = λ nothing passes.
+          let some = before.served nothing passes in
+          (suc some.0, served_more some.0 (queued_blocks_of c.args.pool.now) (queued_blocks_of c.loop-left.pool) (queued_blocks_of c.treat_first.new.pool) some.1 (c.treat_first.ensures.served nothing passes));
     }
 
 -- ---- all are held back, or there are none
@@ -131,7 +150,9 @@ returns-then-count-gt0-clause-ran g c =
       within = left_within c.args.budget c.loop-left.left before.turns.0 before.turns.2;
       spent = λ is. absurd (cc);
       ends = (refl, refl, omega (arith, c.if-count-gt0.true, all.1), all.0, before.turns.3 ∙ sym all.1);
+      moved = turns_moved g.M.Module.needs g.M.Module.treats before.turns.0 c.args.handler.now c.args.pool.now c.loop-left.handler c.loop-left.pool before.turns.1 c.lawful.ensures.shelves;
       order = before.order;
+      served = before.served;
     }
 
 pub returns-else-count-gt0-clause-ran : goal.returns-else-count-gt0-clause-ran
@@ -147,5 +168,7 @@ returns-else-count-gt0-clause-ran g c =
       within = left_within c.args.budget c.loop-left.left before.turns.0 before.turns.2;
       spent = λ is. absurd (cc);
       ends = (refl, refl, none_long c.loop-left.pool.queues.run (omega (arith, long, c.if-count-gt0.false)));
+      moved = turns_moved g.M.Module.needs g.M.Module.treats before.turns.0 c.args.handler.now c.args.pool.now c.loop-left.handler c.loop-left.pool before.turns.1 c.lawful.ensures.shelves;
       order = before.order;
+      served = before.served;
     }

@@ -3,8 +3,10 @@
 use Rattle.std.proofs.Common.{◌≡◌, Bool, true, List}
 use Rattle.strm_scheduler.specs.Holding.{AreLastHeldBack, is_spent, work_left}
 use Rattle.strm_scheduler.specs.Laws.{AreKeptAwake}
-use Rattle.strm_scheduler.specs.Modules.{AreTurns, PassesEach, turns_since}
+use Rattle.strm_scheduler.specs.Modules.{AreTurns, NeedsNothing, PassesEach, turns_since}
+use Rattle.strm_pool.specs.PoolValue.{queued_blocks_of}
 use Rattle.strm_scheduler.specs.Order.{KeepsOrder}
+use Rattle.strm_scheduler.specs.Running.{IsServed}
 use Rattle.strm_scheduler.proofs.Holding.{IsLeft}
 use Rattle.strm_scheduler.proofs.treating.treat_all.Given as goal
 
@@ -15,6 +17,7 @@ invariant-loop-left g l = record {
   turns : (turns : List Bool) × AreTurns g.M.Module.needs g.M.Module.treats turns l.initial.handler l.initial.pool l.handler l.pool × IsLeft l.fn.budget l.left turns × (turns_since turns ≡ l.count);
   fresh : is_spent l.left ≡ true → l.count ≡ 0;
   order : PassesEach g.M.Module.treats → KeepsOrder l.initial.pool l.pool;
+  served : NeedsNothing g.M.Module.needs → PassesEach g.M.Module.treats → IsServed (queued_blocks_of l.initial.pool) (queued_blocks_of l.pool);
   specs : l.pool.queues.specs ≡ l.initial.pool.queues.specs;
 }
 

@@ -5,9 +5,10 @@ use Rattle.strm_scheduler.specs.Laws.{AreKeptAwake}
 use Rattle.strm_scheduler.specs.Modules.{IsMet, IsQueueTreated}
 use Rattle.strm_scheduler.specs.Order.{KeepsOrder}
 use Rattle.strm_scheduler.specs.Steps.{with_queue_enabled}
-use Rattle.strm_scheduler.proofs.Beginning.{falls_begun}
+use Rattle.strm_scheduler.proofs.Beginning.{falls_begun, served_begun}
 use Rattle.strm_scheduler.proofs.Ordering.{order_alike}
 use Rattle.strm_scheduler.proofs.Holding.{enabled_specs, kept_enabled, turned}
+use Rattle.strm_scheduler.proofs.Needing.{never_held}
 use Rattle.strm_scheduler.proofs.treating.treat_first.Goals as goal
 
 pub unreachable-requires : goal.unreachable-requires
@@ -31,6 +32,10 @@ returns-in-Some-held_back-clause-order g c =
     let same = c.enable.ensures ∙ ap (with_queue_enabled c.in-Some.queue) c.in-Some.ensures.begun.after in
     λ passes. order_alike c.args.pool.now c.enable.new.pool (ap (λ (p : PoolValue). p.arena.store) same) (ap (λ (p : PoolValue). p.arena.shelves) same)
 
+pub returns-in-Some-held_back-clause-served : goal.returns-in-Some-held_back-clause-served
+returns-in-Some-held_back-clause-served g c =
+    λ nothing passes. absurd (never_held g.M.Module.needs c.args.handler.now c.in-Some.queue c.begin.new.pool c.in-Some-held_back.ever nothing c.in-Some-held_back.ensures.held)
+
 pub returns-in-Some-held_back-clause-specs : goal.returns-in-Some-held_back-clause-specs
 returns-in-Some-held_back-clause-specs g c =
     ap (λ (p : PoolValue). p.queues.specs) c.enable.ensures ∙ enabled_specs c.in-Some.queue c.begin.new.pool ∙ ap (λ (p : PoolValue). p.queues.specs) c.in-Some.ensures.begun.after
@@ -51,6 +56,12 @@ returns-clause-falls g c =
 
 pub returns-clause-order : goal.returns-clause-order
 returns-clause-order g c = λ passes. subst (λ (p : PoolValue). KeepsOrder p c.treat_queue.new.pool) c.in-Some.ensures.begun.after (c.treat_queue.ensures.order passes)
+
+pub returns-clause-served : goal.returns-clause-served
+returns-clause-served g c =
+    λ nothing passes.
+    let all = c.treat_queue.ensures.forwards nothing passes in
+    served_begun c.args.pool.now c.begin.new.pool c.in-Some.queue c.in-Some.next c.in-Some.ensures.begun c.treat_queue.new.pool all.0 all.1
 
 pub returns-clause-treated : goal.returns-clause-treated
 returns-clause-treated g c =

@@ -3,7 +3,7 @@ use Rattle.std.proofs.Common.{arith, ◌∙◌}
 use Rattle.strm_scheduler.proofs.Moving.{there_still}
 use Rattle.strm_scheduler.proofs.Needing.{ready}
 use Rattle.strm_scheduler.proofs.Stepping.{stepped_few, stepped_serving, stepped_specs, stepped_weighs}
-use Rattle.strm_scheduler.proofs.Treated.{awake_ended, fewer_taken, less_taken, next_there, order_ended, order_passed, q_apart, queue_there, run_ended, serving_taken, weigh_ended}
+use Rattle.strm_scheduler.proofs.Treated.{awake_ended, fewer_taken, hands_passed, less_taken, next_there, order_ended, order_passed, q_apart, queue_there, run_ended, serving_taken, weigh_ended}
 use Rattle.strm_scheduler.proofs.treating.treat_one.Goals as goal
 
 pub take_allowed-requires-clause-apart : goal.take_allowed-requires-clause-apart
@@ -87,6 +87,14 @@ returns-clause-order g c =
     let x = c.take_allowed.new.pool in
     λ passes.
     order_passed c.args.queue c.args.next v c.lawful.ensures c.requires.serving c.in-Some.token x c.in-Some.ensures.takes c.treat.new.pool c.treat.ensures.0
+    (passes c.args.handler.now c.treat.new.self x c.treat.new.pool c.args.queue c.args.next c.in-Some.token c.treat.ensures.0 c.treat.ensures.1) c.treat.ensures.2
+
+pub returns-clause-hands : goal.returns-clause-hands
+returns-clause-hands g c =
+    let v = c.args.pool.now in
+    let x = c.take_allowed.new.pool in
+    λ some passes.
+    hands_passed c.args.queue c.args.next v c.lawful.ensures c.requires.serving c.in-Some.token x c.in-Some.ensures.takes c.take_allowed.ensures.rest c.in-Some.ensures.unheld c.treat.new.pool c.treat.ensures.0
     (passes c.args.handler.now c.treat.new.self x c.treat.new.pool c.args.queue c.args.next c.in-Some.token c.treat.ensures.0 c.treat.ensures.1) c.treat.ensures.2
 
 pub returns-clause-specs : goal.returns-clause-specs

@@ -1,5 +1,5 @@
 -- One more message was treated. Where the service ends, messages have moved, or nothing has changed before.
-use Rattle.std.proofs.Common.{ap, arith, inl, inr, refl, subst, suc, sym, zero, ◌∙◌}
+use Rattle.std.proofs.Common.{◌+◌, ap, arith, inl, inr, refl, subst, suc, sym, zero, ◌∙◌}
 use Rattle.strm_pool.specs.PoolValue.{PoolValue}
 use Rattle.strm_scheduler.specs.Laws.{AreKeptAwake}
 use Rattle.strm_scheduler.specs.Modules.{AreTreated, IsMet, PassesOne}
@@ -7,11 +7,13 @@ use Rattle.strm_scheduler.specs.Work.{weigh}
 use Rattle.strm_scheduler.proofs.Beginning.{order_more}
 use Rattle.strm_scheduler.proofs.Ordering.{order_alike}
 use Rattle.strm_scheduler.proofs.Holding.{enabled_specs, kept_enabled, there_same}
+use Rattle.strm_scheduler.proofs.Looping.{begun, ended_whole, further}
+use Rattle.strm_scheduler.proofs.Needing.{never_held}
 use Rattle.strm_scheduler.proofs.Treated.{falls_ended, moved_more}
 use Rattle.strm_scheduler.proofs.treating.treat_queue.Goals as goal
 
 pub loop-pool-init : goal.loop-pool-init
-loop-pool-init g c = record { serving = c.requires.serving; met = c.requires.met; treated = (zero, (refl, refl)); moved = inl refl; order = λ passes end rank last there. refl; specs = refl }
+loop-pool-init g c = record { serving = c.requires.serving; met = c.requires.met; treated = (zero, (refl, refl)); moved = inl refl; order = λ passes end rank last there. refl; on = λ passes. (zero, begun c.args.queue c.args.next c.args.pool.now); specs = refl }
 
 pub loop-pool-preserved : goal.loop-pool-preserved
 loop-pool-preserved g c =
@@ -23,6 +25,10 @@ loop-pool-preserved g c =
       treated = (suc before.treated.0, (c.loop-pool.handler, c.loop-pool.pool, before.treated.1, step.treated refl));
       moved = inr (moved_more (PassesOne g.M.Module.treats) c.args.pool.now c.loop-pool.pool c.treat_one.new.pool before.moved (step.less refl));
       order = λ passes. order_more c.args.pool.now c.loop-pool.pool c.treat_one.new.pool before.specs (before.order passes) (step.order passes);
+      on = λ passes.
+          let on = before.on passes in
+          let hands = step.hands refl passes in
+          (on.0 + 1, further c.args.queue c.args.next c.args.pool.now on.0 c.loop-pool.pool c.treat_one.new.pool on.1 hands.1 hands.0);
       specs = step.specs ∙ before.specs;
     }
 
@@ -61,6 +67,10 @@ returns-in-Some-clause-order g c =
     order_more v x c.enable.new.pool (step.specs ∙ before.specs) (order_more v c.loop-pool.pool x before.specs (before.order passes) (step.order passes))
     (order_alike x c.enable.new.pool (ap (λ (p : PoolValue). p.arena.store) c.enable.ensures) (ap (λ (p : PoolValue). p.arena.shelves) c.enable.ensures))
 
+pub returns-in-Some-clause-forwards : goal.returns-in-Some-clause-forwards
+returns-in-Some-clause-forwards g c =
+    λ nothing passes. absurd (never_held g.M.Module.needs c.treat_one.new.handler c.args.queue c.treat_one.new.pool c.in-Some._ever nothing c.in-Some.ensures.held)
+
 pub returns-in-Some-clause-specs : goal.returns-in-Some-clause-specs
 returns-in-Some-clause-specs g c =
     ap (λ (p : PoolValue). p.queues.specs) c.enable.ensures ∙ enabled_specs c.args.queue c.treat_one.new.pool ∙ c.loop-pool-test.ensures.specs ∙ c.loop-pool.invariant.specs
@@ -84,6 +94,12 @@ pub returns-clause-order : goal.returns-clause-order
 returns-clause-order g c =
     let before = c.loop-pool.invariant in
     λ passes. order_more c.args.pool.now c.loop-pool.pool c.treat_one.new.pool before.specs (before.order passes) (c.loop-pool-test.ensures.order passes)
+
+pub returns-clause-forwards : goal.returns-clause-forwards
+returns-clause-forwards g c =
+    λ nothing passes.
+    let on = c.loop-pool.invariant.on passes in
+    (on.0, ended_whole c.args.queue c.args.next c.args.pool.now on.0 c.loop-pool.pool c.treat_one.new.pool on.1 (c.loop-pool-test.ensures.ends refl))
 
 pub returns-clause-falls : goal.returns-clause-falls
 returns-clause-falls g c =

@@ -5,6 +5,7 @@ use Rattle.strm_scheduler.specs.Modules.{AreTreated, IsMet, PassesEach, PassesOn
 use Rattle.strm_scheduler.specs.Order.{KeepsOrder}
 use Rattle.strm_scheduler.specs.Serving.{IsServing}
 use Rattle.strm_scheduler.specs.Work.{weigh}
+use Rattle.strm_scheduler.proofs.Looping.{IsOn}
 use Rattle.strm_scheduler.proofs.treating.treat_queue.Given as goal
 
 abbrev pub invariant-loop-pool : goal.invariant-loop-pool
@@ -14,6 +15,7 @@ invariant-loop-pool g l = record {
   treated : (count : ℕ) × AreTreated g.M.Module.needs g.M.Module.treats l.queue l.next count l.initial.handler l.initial.pool l.handler l.pool;
   moved : (l.pool ≡ l.initial.pool) ⊎ (PassesOne g.M.Module.treats → weigh l.pool.arena.shelves < weigh l.initial.pool.arena.shelves);
   order : PassesEach g.M.Module.treats → KeepsOrder l.initial.pool l.pool;
+  on : PassesEach g.M.Module.treats → (count : ℕ) × IsOn l.queue l.next count l.initial.pool l.pool;
   specs : l.pool.queues.specs ≡ l.initial.pool.queues.specs;
 }
 
