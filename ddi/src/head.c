@@ -2,12 +2,6 @@
  * receives through them as user programs do; and what a kernel has beside STREAMS. */
 #include "ddi.h"
 
-#include <errno.h>
-#include <stdarg.h>
-
-/* Ticks that an ioctl waits for its reply. */
-enum { PATIENCE = 1500 };
-
 /* A pair of queues, with what the layer has of each. */
 struct pair {
 	queue_t q[2];
@@ -22,14 +16,11 @@ struct strhead {
 	mblk_t *reply;
 };
 
-static const struct strm_ddi_place at_head = { "the stream head", 0 };
-#define AT_HEAD() (strm_ddi_at = &at_head)
-
 /* ---- the stream head's procedures */
 
 static void set_options(queue_t *q, const struct stroptions *options)
 {
-	strhead_t *head = q->q_layer->head;
+	strhead_t *head = (strhead_t *)q;
 	if (options->so_flags & SO_HIWAT)
 		strqset(q, QHIWAT, options->so_flags & SO_BAND ? options->so_band : 0, (long)options->so_hiwat);
 	if (options->so_flags & SO_LOWAT)
@@ -45,10 +36,8 @@ static void set_options(queue_t *q, const struct stroptions *options)
 static void flush_head(queue_t *q, mblk_t *mp)
 {
 	int what = *mp->b_rptr;
-	if (what & FLUSHR && what & FLUSHBAND)
-		flushband(q, mp->b_rptr[1], FLUSHALL);
-	else if (what & FLUSHR)
-		flushq(q, FLUSHALL);
+	if (what & FLUSHR)
+		strm_ddi_flush(q, what & FLUSHBAND ? mp->b_rptr[1] : -1, FLUSHALL);
 	if (what & FLUSHW) {
 		*mp->b_rptr &= (uchar_t)~FLUSHR;
 		qreply(q, mp);
@@ -59,40 +48,24 @@ static void flush_head(queue_t *q, mblk_t *mp)
 
 static int head_rput(queue_t *q, mblk_t *mp)
 {
-	strhead_t *head = q->q_layer->head;
-	switch (mp->b_datap->db_type) {
-	case M_DATA:
-	case M_PROTO:
-	case M_PCPROTO:
-	case M_PASSFP:
+	strhead_t *head = (strhead_t *)q;
+	int type = DB_TYPE(mp);
+	if (type == M_DATA || type == M_PROTO || type == M_PCPROTO || type == M_PASSFP) {
 		putq(q, mp);
-		return 0;
-	case M_FLUSH:
+	} else if (type == M_FLUSH) {
 		flush_head(q, mp);
-		return 0;
-	case M_IOCACK:
-	case M_IOCNAK:
-	case M_COPYIN:
-	case M_COPYOUT:
-		if (((struct iocblk *)mp->b_rptr)->ioc_id == head->ioctl && !head->reply) {
-			head->reply = mp;
-			return 0;
-		}
-		break;
-	case M_ERROR:
-		head->error = *mp->b_rptr;
-		break;
-	case M_HANGUP:
-		head->is_hung_up = 1;
-		break;
-	case M_UNHANGUP:
-		head->is_hung_up = 0;
-		break;
-	case M_SETOPTS:
-		set_options(q, (struct stroptions *)mp->b_rptr);
-		break;
+	} else if ((type == M_IOCACK || type == M_IOCNAK || type == M_COPYIN || type == M_COPYOUT) && !head->reply &&
+		((struct iocblk *)mp->b_rptr)->ioc_id == head->ioctl) {
+		head->reply = mp;
+	} else {
+		if (type == M_ERROR)
+			head->error = *mp->b_rptr;
+		else if (type == M_HANGUP || type == M_UNHANGUP)
+			head->is_hung_up = type == M_HANGUP;
+		else if (type == M_SETOPTS)
+			set_options(q, (struct stroptions *)mp->b_rptr);
+		freemsg(mp);
 	}
-	freemsg(mp);
 	return 0;
 }
 
@@ -107,32 +80,15 @@ static struct qinit head_rinit = { .qi_putp = head_rput, .qi_minfo = &head_info 
 
 /* ---- opened, pushed and closed */
 
-int str_init(const struct strm_config *config)
-{
-	ddi_catch_faults();
-	if (ddi_open(config) < 0)
-		return EINVAL;
-	ddi_trace_open();
-	return 0;
-}
-
-int str_fini(void)
-{
-	int reported;
-	ddi_trace_close();
-	reported = ddi_census();
-	ddi_close();
-	return reported;
-}
-
 /* Has a pair of queues be those of a module, a driver or a stream head. What they lead to stays. */
-static void set_pair(queue_t *q, struct qinit *read, struct qinit *write, strhead_t *head, struct streamtab *tab)
+static void set_pair(queue_t *q, struct qinit *read, struct qinit *write, struct streamtab *tab)
 {
+	ddi_forget(q);
 	for (int side = 0; side < 2; side++) {
 		struct strm_ddi_queue *own = &((struct pair *)q)->own[side];
 		struct qinit *what = side ? write : read;
 		const struct module_info *info = what->qi_minfo;
-		*own = (struct strm_ddi_queue){ .head = head, .tab = tab, .marks = ddi_marks(info->mi_hiwat, info->mi_lowat) };
+		*own = (struct strm_ddi_queue){ .tab = tab, .marks = ddi_marks(info->mi_hiwat, info->mi_lowat) };
 		q[side] = (queue_t){ .q_qinfo = what, .q_next = q[side].q_next, .q_flag = side ? 0 : QREADR, .q_minpsz = info->mi_minpsz,
 			.q_maxpsz = info->mi_maxpsz, .q_hiwat = own->marks.hiwat, .q_lowat = own->marks.lowat, .q_layer = own };
 	}
@@ -161,13 +117,13 @@ static int put_in(strhead_t *head, struct streamtab *tab, dev_t device, int flag
 	struct frame frame;
 	int error = 0;
 	AT_HEAD();
-	set_pair(q, tab->st_rdinit, tab->st_wrinit, head, tab);
+	set_pair(q, tab->st_rdinit, tab->st_wrinit, tab);
 	connect_pairs(q, head->pair.q[1].q_next);
 	connect_pairs(head->pair.q, &q[1]);
 	ddi_enter(&frame, q, "open");
 	if (tab->st_rdinit->qi_qopen)
 		error = tab->st_rdinit->qi_qopen(q, &device, flag, sflag, NULL);
-	ddi_leave();
+	ddi_leave(&frame);
 	if (error)
 		take_out(head, q);
 	return error;
@@ -178,7 +134,7 @@ int str_open(struct streamtab *driver, dev_t device, int flag, strhead_t **head)
 	strhead_t *new = *head = calloc(1, sizeof **head);
 	int error;
 	new->driver = driver;
-	set_pair(new->pair.q, &head_rinit, &head_winit, new, NULL);
+	set_pair(new->pair.q, &head_rinit, &head_winit, NULL);
 	if ((error = put_in(new, driver, device, 0, flag)) != 0)
 		free(new);
 	return error;
@@ -196,13 +152,12 @@ static void remove_top(strhead_t *head)
 	void *private = q->q_ptr;
 	struct frame frame;
 	str_run();
-	AT_HEAD();
 	ddi_check_left(&q[0]);
 	ddi_check_left(&q[1]);
 	ddi_enter(&frame, q, "close");
 	if (q->q_qinfo->qi_qclose)
 		q->q_qinfo->qi_qclose(q, 0, NULL);
-	ddi_leave();
+	ddi_leave(&frame);
 	ddi_check_pending(q, private);
 	take_out(head, q);
 }
@@ -234,17 +189,20 @@ queue_t *str_queue(strhead_t *head, int place)
 
 /* ---- messages of the test program */
 
-/* A message of the bytes, in blocks as large as there are. */
-static mblk_t *message(int type, const void *bytes, size_t length, size_t headroom)
+/* Appends the bytes to a message, or to none, in blocks as large as there are. Returns 0 if none is left; the message is freed then. */
+static int append(mblk_t **first, int type, const void *bytes, size_t length, size_t headroom)
 {
-	mblk_t *first = NULL, **last = &first;
+	mblk_t **last = first;
+	while (*last)
+		last = &(*last)->b_cont;
 	do {
 		size_t part = ddi_least(length, STRM_MOST_DATA_BYTES - headroom);
 		if ((*last = allocb(part + headroom, BPRI_MED)) == NULL) {
-			freemsg(first);
-			return NULL;
+			freemsg(*first);
+			*first = NULL;
+			return 0;
 		}
-		(*last)->b_datap->db_type = (uchar_t)type;
+		DB_TYPE(*last) = (uchar_t)type;
 		(*last)->b_rptr += headroom;
 		if (part > 0)
 			memcpy((*last)->b_rptr, bytes, part);
@@ -254,38 +212,24 @@ static mblk_t *message(int type, const void *bytes, size_t length, size_t headro
 		length -= part;
 		headroom = 0;
 	} while (length > 0);
-	return first;
-}
-
-static int may_send(strhead_t *head, uchar_t band)
-{
-	AT_HEAD();
-	if (head->error || head->is_hung_up)
-		return head->error ? head->error : ENXIO;
-	if (bcanputnext(&head->pair.q[1], band))
-		return 0;
-	str_run();
-	AT_HEAD();
-	return bcanputnext(&head->pair.q[1], band) ? 0 : EAGAIN;
+	return 1;
 }
 
 int str_putmsg(strhead_t *head, const void *control, size_t control_length, const void *bytes, size_t length, int type, int band)
 {
-	int error = type >= QPCTL ? 0 : may_send(head, (uchar_t)band);
-	mblk_t *mp = NULL, *data = NULL;
+	queue_t *q = &head->pair.q[1];
+	mblk_t *mp = NULL;
 	AT_HEAD();
-	if (error)
-		return error;
-	if ((bytes || !control) && (data = message(M_DATA, bytes, length, control ? 0 : head->headroom)) == NULL)
+	if (type < QPCTL && (head->error || head->is_hung_up))
+		return head->error ? head->error : ENXIO;
+	if (type < QPCTL && !bcanputnext(q, (uchar_t)band) && (str_run(), !bcanputnext(q, (uchar_t)band)))
+		return EAGAIN;
+	if (control && !append(&mp, type, control, control_length, 0))
 		return ENOSR;
-	if ((mp = control ? message(type, control, control_length, 0) : data) == NULL) {
-		freemsg(data);
+	if ((bytes || !control) && !append(&mp, M_DATA, bytes, length, control ? 0 : head->headroom))
 		return ENOSR;
-	}
-	if (control && data)
-		linkb(mp, data);
 	mp->b_band = (uchar_t)band;
-	putnext(&head->pair.q[1], mp);
+	putnext(q, mp);
 	return 0;
 }
 
@@ -359,10 +303,10 @@ static void answer_copy(mblk_t *mp)
 {
 	const struct copyreq request = *(struct copyreq *)mp->b_rptr;
 	struct copyresp response = { .cp_cmd = request.cq_cmd, .cp_id = request.cq_id, .cp_private = request.cq_private };
-	mblk_t *data = mp->b_datap->db_type == M_COPYIN ? message(M_DATA, request.cq_addr, request.cq_size, 0) : NULL;
-	if (mp->b_datap->db_type == M_COPYOUT)
+	mblk_t *data = NULL;
+	if (DB_TYPE(mp) == M_COPYOUT)
 		ddi_copy_out(mp->b_cont, request.cq_addr, request.cq_size);
-	else if (!data)
+	else if (!append(&data, M_DATA, request.cq_addr, request.cq_size, 0))
 		response.cp_rval = (char *)1;
 	freemsg(unlinkb(mp));
 	mp->b_cont = data;
@@ -375,20 +319,14 @@ static void answer_copy(mblk_t *mp)
 static int do_ioctl(strhead_t *head, int command, const void *bytes, size_t length, uint_t count, void *reply, size_t *came, size_t room, int *value)
 {
 	static uint_t last;
-	union { struct iocblk ioctl; struct copyreq request; struct copyresp response; } first;
+	union { struct iocblk ioctl; struct copyreq request; struct copyresp response; } first = { .request = { 0 } };
 	int error;
-	mblk_t *mp;
+	mblk_t *mp = NULL;
 	AT_HEAD();
-	memset(&first, 0, sizeof first);
-	first.ioctl.ioc_cmd = command;
-	first.ioctl.ioc_id = head->ioctl = ++last;
-	first.ioctl.ioc_count = count;
-	if ((mp = message(M_IOCTL, &first, sizeof first, 0)) == NULL)
+	first.ioctl = (struct iocblk){ .ioc_cmd = command, .ioc_id = ++last, .ioc_count = count };
+	head->ioctl = last;
+	if (!append(&mp, M_IOCTL, &first, sizeof first, 0) || (length > 0 && !append(&mp, M_DATA, bytes, length, 0)))
 		return ENOSR;
-	if (length > 0 && (mp->b_cont = message(M_DATA, bytes, length, 0)) == NULL) {
-		freemsg(mp);
-		return ENOSR;
-	}
 	while ((mp = asked(head, mp)) != NULL && count == TRANSPARENT && (DB_TYPE(mp) == M_COPYIN || DB_TYPE(mp) == M_COPYOUT))
 		answer_copy(mp);
 	head->ioctl = 0;
@@ -419,13 +357,6 @@ int str_ioctl_transparent(strhead_t *head, int command, void *argument, int *val
 
 /* ---- links */
 
-/* Has the queues of a stream head be those of a multiplexing driver, or the head's own again. */
-static void set_lower(strhead_t *lower, struct qinit *read, struct qinit *write, struct streamtab *tab)
-{
-	ddi_forget(lower->pair.q);
-	set_pair(lower->pair.q, read, write, lower, tab);
-}
-
 static int change_link(strhead_t *upper, strhead_t *lower, int command)
 {
 	struct linkblk block = { .l_qtop = &upper->pair.q[1], .l_qbot = &lower->pair.q[1], .l_index = 1 };
@@ -440,9 +371,9 @@ int str_link(strhead_t *upper, strhead_t *lower)
 	int error;
 	if (!upper->driver->st_muxrinit)
 		return EINVAL;
-	set_lower(lower, upper->driver->st_muxrinit, upper->driver->st_muxwinit, upper->driver);
+	set_pair(lower->pair.q, upper->driver->st_muxrinit, upper->driver->st_muxwinit, upper->driver);
 	if ((error = change_link(upper, lower, I_LINK)) != 0)
-		set_lower(lower, &head_rinit, &head_winit, NULL);
+		set_pair(lower->pair.q, &head_rinit, &head_winit, NULL);
 	return error;
 }
 
@@ -450,17 +381,16 @@ int str_unlink(strhead_t *upper, strhead_t *lower)
 {
 	int error = change_link(upper, lower, I_UNLINK);
 	if (!error)
-		set_lower(lower, &head_rinit, &head_winit, NULL);
+		set_pair(lower->pair.q, &head_rinit, &head_winit, NULL);
 	return error;
 }
 
 /* ---- the rest of a kernel */
 
 /* Memory has its size before it. */
-void *kmem_alloc(size_t size, int flag)
+void *kmem_alloc(size_t size, UNUSED int flag)
 {
 	size_t *memory = calloc(1, size + 16);
-	(void)flag;
 	if (!memory)
 		return NULL;
 	*memory = size;

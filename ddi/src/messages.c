@@ -15,8 +15,9 @@ struct block *ddi_blocks, *ddi_blocks_end;
 
 struct strm_config ddi_config;
 static struct strm_class_spec classes[STRM_MOST_CLASSES];
+static const struct strm_queue_spec queues[] = { [0 ... STRM_MOST_QUEUES - 1] = { .hiwat = 1, .service = 1, .next = STRM_NO_QUEUE } };
 static const struct strm_class_spec usual[] = { { 64, 512 }, { 256, 512 }, { 1024, 256 }, { 2048, 256 }, { 4096, 512 } };
-static size_t most_blocks, free_count;
+static size_t free_count;
 static struct block *free_first, *free_last;
 
 /* What each type of a message is called, and one more than its number in strm.h, or 0 where that lacks it. */
@@ -38,94 +39,87 @@ const char *ddi_type_name(int type)
 
 int ddi_open_pool(void)
 {
-	struct strm_queue_spec queues[STRM_MOST_QUEUES];
 	struct pool *pool = &ddi_pools[ddi_pool_count];
 	const uint8_t *base;
 	size_t size, stride;
 	struct data *d;
-	for (int k = 0; k < STRM_MOST_QUEUES; k++)
-		queues[k] = (struct strm_queue_spec){ .hiwat = 1, .service = 1, .next = STRM_NO_QUEUE };
 	ddi_config.id = (uint32_t)ddi_pool_count + 1;
-	ddi_config.queues = queues;
 	if (ddi_pool_count == MOST_POOLS || strm_open(&pool->pool, &ddi_config) != STRM_OK)
 		return -1;
-	for (size_t c = 0; c < ddi_config.class_count; c++)
-		pool->data_count += classes[c].count;
-	d = pool->data = calloc(pool->data_count, sizeof *d);
-	pool->of = calloc(ddi_config.mblks, sizeof *pool->of);
+	d = pool->data;
 	for (uint32_t c = 0; strm_region(&pool->pool, c, &base, &size, &stride) == STRM_OK; c++)
 		for (size_t at = 0; at < size; at += stride)
 			*d++ = (struct data){ .base = (uchar_t *)(uintptr_t)base + at, .size = (uint32_t)stride };
 	return ddi_pool_count++;
 }
 
-int ddi_open(const struct strm_config *given)
+int str_init(const struct strm_config *given)
 {
+	ddi_catch_faults();
 	ddi_config = given ? *given : (struct strm_config){ .mblks = 2048, .classes = usual, .class_count = sizeof usual / sizeof *usual,
 		.bufcalls = STRM_MOST_WISHES };
+	ddi_config.queues = queues;
 	ddi_config.queue_count = STRM_MOST_QUEUES;
 	ddi_config.first_id = 1;
-	if (ddi_config.class_count > STRM_MOST_CLASSES)
-		return -1;
-	memcpy(classes, ddi_config.classes, ddi_config.class_count * sizeof *classes);
+	memcpy(classes, ddi_config.classes, ddi_least(ddi_config.class_count, STRM_MOST_CLASSES) * sizeof *classes);
 	ddi_config.classes = classes;
 	free_count = 0;
-	most_blocks = (size_t)ddi_config.mblks * MOST_POOLS + QUARANTINE;
-	ddi_blocks = ddi_blocks_end = calloc(most_blocks, sizeof *ddi_blocks);
-	return ddi_open_pool();
+	ddi_blocks = ddi_blocks_end = calloc((size_t)ddi_config.mblks * MOST_POOLS + QUARANTINE, sizeof *ddi_blocks);
+	if (ddi_open_pool() < 0) {
+		free(ddi_blocks);
+		return EINVAL;
+	}
+	ddi_trace_open();
+	return 0;
 }
 
-void ddi_close(void)
+int str_fini(void)
 {
-	ASAN_UNPOISON_MEMORY_REGION(ddi_blocks, most_blocks * sizeof *ddi_blocks);
-	for (struct pool *pool = ddi_pools; pool < ddi_pools + ddi_pool_count; pool++) {
-		strm_close(&pool->pool);
-		for (size_t k = 0; k < pool->data_count; k++)
-			free(pool->data[k].told);
-		free(pool->of);
-		free(pool->data);
-	}
-	memset(ddi_pools, 0, sizeof ddi_pools);
+	int reported;
+	ddi_trace_close();
+	reported = ddi_census();
+	ASAN_UNPOISON_MEMORY_REGION(ddi_blocks, (size_t)(ddi_blocks_end - ddi_blocks) * sizeof *ddi_blocks);
 	free(ddi_blocks);
-	ddi_pool_count = 0;
+	while (ddi_pool_count > 0) {
+		struct pool *pool = &ddi_pools[--ddi_pool_count];
+		strm_close(&pool->pool);
+		memset(pool, 0, sizeof *pool);
+	}
+	return reported;
 }
 
 /* ---- blocks */
 
-/* A block that was not used, or the one that was freed first, once some are: so a pointer to a freed block is found for long. */
-static struct block *take_block(void)
-{
-	struct block *b = free_first;
-	if (free_count <= QUARANTINE && ddi_blocks_end < ddi_blocks + most_blocks)
-		return ddi_blocks_end++;
-	free_first = b->next;
-	free_count--;
-	ASAN_UNPOISON_MEMORY_REGION(&b->m, sizeof b->m);
-	return b;
-}
-
-/* The data block of a new message, as it is after allocb. */
-static struct data *new_data(struct strm_msg name, uint8_t type)
+/* The data block of a message's first block, with one reference more. As the first one it gets a type, and is as after allocb. */
+static struct data *refer(struct strm_msg name, uchar_t type)
 {
 	struct pool *pool = &ddi_pools[name.pool - 1];
 	struct strm_block_place where;
 	struct data *d;
 	strm_place(&pool->pool, name, 0, &where);
 	d = &pool->data[where.data];
-	d->d = (dblk_t){ .db_base = d->base, .db_lim = d->base + d->size, .db_ref = 1, .db_type = type };
-	d->references = 1;
+	if (d->references++ == 0)
+		d->d = (dblk_t){ .db_base = d->base, .db_lim = d->base + d->size, .db_type = type };
+	d->d.db_ref = d->references;
 	return d;
 }
 
 static struct given given_of(const struct block *b)
 {
-	return (struct given){ b->m.b_rptr, b->m.b_wptr, b->data->d.db_type, b->m.b_band };
+	return (struct given){ b->m.b_rptr, b->m.b_wptr, DB_TYPE(&b->m), b->m.b_band, DB_TYPE(&b->m) >= QPCTL ? STRM_BANDS : b->m.b_band };
 }
 
-/* A new message block over a data block, with the places and the band of `like`, or without bytes if that is null. */
-static struct block *new_block(struct strm_msg name, struct data *d, const struct block *like, const char *routine)
+/* A new message block, with the places and the band of `like`, or without bytes if that is null. It is one that was not used, or the one that was
+ * freed first, once some are: so a pointer to a freed block is found for long. */
+static struct block *new_block(struct strm_msg name, const struct block *like, const char *routine)
 {
-	struct block *b = take_block();
+	struct block *b = free_count > QUARANTINE ? free_first : ddi_blocks_end++;
+	struct data *d = refer(name, like ? DB_TYPE(&like->m) : M_DATA);
+	if (free_count > QUARANTINE) {
+		free_first = b->next;
+		free_count--;
+		ASAN_UNPOISON_MEMORY_REGION(&b->m, sizeof b->m);
+	}
 	b->m = (mblk_t){ .b_rptr = d->d.db_base, .b_wptr = d->d.db_base, .b_datap = &d->d };
 	if (like) {
 		b->m.b_rptr += MBLKHEAD(&like->m);
@@ -169,11 +163,11 @@ void ddi_free(struct block *b)
 		end_block(b);
 }
 
-/* The block as ddi_held returns it, where that found anything unusual. */
-struct block *ddi_examined(mblk_t *mp, const char *routine)
+int ddi_examine(mblk_t *mp, const char *routine)
 {
 	struct block *b = (struct block *)mp;
 	const struct module_info *own = ddi_frame->as.module;
+	BEGIN_CALL();
 	if (b < ddi_blocks || b >= ddi_blocks_end || ((uintptr_t)b - (uintptr_t)ddi_blocks) % sizeof *b != 0)
 		ddi_misuse(routine, NULL, "%p is no message block", (void *)mp);
 	else if (b->owner == &ddi_free_block)
@@ -188,30 +182,27 @@ struct block *ddi_examined(mblk_t *mp, const char *routine)
 		ddi_misuse(routine, b, "db_ref is %d, and %d message blocks refer to the data block", b->data->d.db_ref, b->data->references);
 	else {
 		ddi_note(b, routine);
-		return b;
+		return 1;
 	}
-	return NULL;
+	return 0;
 }
 
-/* Gives the pool what a module changed of a block. Returns 0 if that is misuse. A type that strm.h lacks is one there that has no data. */
-static int give(struct block *b, const char *routine)
+/* Marks each block, so that a ring is found. */
+int ddi_examine_all(mblk_t *mp, const char *routine)
 {
-	const mblk_t *mp = &b->m;
-	uint32_t number = types[DB_TYPE(mp)].number;
-	struct strm_block_shape shape = { (uint32_t)MBLKHEAD(mp), (uint32_t)MBLKL(mp),
-		number > 0 ? number - 1 : DB_TYPE(mp) >= QPCTL ? STRM_M_PCSIG : STRM_M_CTL, mp->b_band };
-	if (MBLKHEAD(mp) < 0 || MBLKL(mp) < 0 || MBLKTAIL(mp) < 0) {
-		ddi_misuse(routine, b, "b_rptr is %td, b_wptr is %td, and the data block has %td bytes", MBLKHEAD(mp), mp->b_wptr - DB_BASE(mp),
-			MBLKSIZE(mp));
-		return 0;
+	static uint32_t mark;
+	mark++;
+	for (mblk_t *bp = mp; bp; bp = bp->b_cont) {
+		struct block *b = (struct block *)bp;
+		if (b >= ddi_blocks && b < ddi_blocks_end && b->mark == mark) {
+			ddi_misuse(NULL, (struct block *)mp, "b_cont leads to a block of the message");
+			return 0;
+		}
+		if (!ddi_has(bp, routine))
+			return 0;
+		b->mark = mark;
 	}
-	if (DB_TYPE(mp) != b->given.type && b->data->references > 1) {
-		ddi_misuse(routine, b, "db_type was changed to %s, and %d message blocks refer to the data block", ddi_type_name(DB_TYPE(mp)),
-			b->data->references);
-		return 0;
-	}
-	b->given = given_of(b);
-	return strm_shape_all(&b->pool->pool, b->name, &shape, 1) == STRM_OK;
+	return 1;
 }
 
 /* Moves a block to another pool, with all bytes of its data block. The old data block loses a reference. */
@@ -225,7 +216,7 @@ static void cross(struct block *b, struct pool *pool)
 	}
 	b->pool = pool;
 	pool->of[b->name.head] = b;
-	b->data = new_data(b->name, from->d.db_type);
+	b->data = refer(b->name, from->d.db_type);
 	memcpy(b->data->base, from->d.db_base, (size_t)(from->d.db_lim - from->d.db_base));
 	b->m.b_datap = &b->data->d;
 	b->m.b_rptr = b->data->base + at;
@@ -233,40 +224,69 @@ static void cross(struct block *b, struct pool *pool)
 	end_reference(from);
 }
 
-/* A held block as ddi_given returns it, if that has anything to change. */
-struct block *ddi_settled(struct block *b, struct pool *pool, const char *routine)
+/* Has a pool have a block as the module changed it. Returns 0 if that is misuse. A type that strm.h lacks is one there that has no data. */
+static int settle(struct block *b, struct pool *pool)
 {
-	if (pool && b->pool != pool)
-		cross(b, pool);
-	return give(b, routine) ? b : NULL;
-}
-
-/* Joins the next block of a message. Returns 0, with nothing joined, if it is misused. */
-int ddi_join_next(struct block *first, mblk_t *bp, const char *routine)
-{
-	struct block *b = ddi_given(bp, first->pool, routine);
-	if (b && strm_linkb(&first->pool->pool, first->name, b->name) == STRM_OK) {
-		first->joined++;
-		first->size += (uint32_t)MBLKL(bp);
+	const mblk_t *mp = &b->m;
+	uint32_t number = types[DB_TYPE(mp)].number;
+	struct strm_block_shape shape = { (uint32_t)MBLKHEAD(mp), (uint32_t)MBLKL(mp),
+		number > 0 ? number - 1 : DB_TYPE(mp) >= QPCTL ? STRM_M_PCSIG : STRM_M_CTL, mp->b_band };
+	if (ddi_is_settled(b, pool))
 		return 1;
+	if (MBLKHEAD(mp) < 0 || MBLKL(mp) < 0 || MBLKTAIL(mp) < 0) {
+		ddi_misuse(NULL, b, "b_rptr is %td, b_wptr is %td, and the data block has %td bytes", MBLKHEAD(mp), mp->b_wptr - DB_BASE(mp),
+			MBLKSIZE(mp));
+		return 0;
 	}
-	if (b)
-		ddi_misuse(routine, first, "b_cont leads to a block of the message");
-	ddi_part_all(first, routine);
-	return 0;
+	if (DB_TYPE(mp) != b->given.type && b->data->references > 1) {
+		ddi_misuse(NULL, b, "db_type was changed to %s, and %d message blocks refer to the data block", ddi_type_name(DB_TYPE(mp)),
+			b->data->references);
+		return 0;
+	}
+	if (b->pool != pool)
+		cross(b, pool);
+	b->given = given_of(b);
+	return strm_shape_all(&pool->pool, b->name, &shape, 1) == STRM_OK;
 }
 
-void ddi_part_all(struct block *first, const char *routine)
+int ddi_join_all(mblk_t *mp, queue_t *q, const char *routine)
+{
+	struct block *first = (struct block *)mp;
+	if (!ddi_has_all(mp, routine))
+		return 0;
+	for (mblk_t *bp = mp; bp; bp = bp->b_cont)
+		if (!settle((struct block *)bp, q ? q->q_layer->pool : first->pool))
+			return 0;
+	first->is_joined = mp->b_cont != NULL;
+	for (mblk_t *bp = mp->b_cont; bp; bp = bp->b_cont) {
+		struct block *b = (struct block *)bp;
+		strm_linkb(&first->pool->pool, first->name, b->name);
+		first->rest += (uint32_t)MBLKL(bp);
+		b->owner = q ? &ddi_queued_block : b->owner;
+		b->queue = q;
+	}
+	return 1;
+}
+
+/* Parts the first block of a message in the pool from the others. Returns the next one, or null. */
+static struct block *part_next(struct block *b)
+{
+	struct strm_msg rest;
+	struct block *next = strm_unlinkb(&b->pool->pool, b->name, &rest) == STRM_OK ? b->pool->of[rest.head] : NULL;
+	if (next)
+		next->name = rest;
+	b->is_joined = b->rest = 0;
+	return next;
+}
+
+/* Parts the blocks again: each is held by a name of its own. */
+void ddi_part_all(struct block *first)
 {
 	struct block *next;
-	struct strm_msg rest;
-	uint32_t left = first->joined;
 	for (struct block *b = first; b; b = next) {
-		next = left-- > 1 && strm_unlinkb(&b->pool->pool, b->name, &rest) == STRM_OK ? b->pool->of[rest.head] : NULL;
-		if (next)
-			next->name = rest;
+		next = part_next(b);
 		if (b->owner == &ddi_queued_block && (struct block *)b->m.b_cont != next) {
-			ddi_misuse(routine, b, "b_cont was changed while the message was on a queue");
+			ddi_misuse(b == first ? NULL : ddi_noted(first), b, "b_cont was changed while the message was on a queue");
 			b->m.b_cont = (mblk_t *)next;
 		}
 		b->owner = ddi_frame->as.module;
@@ -283,23 +303,21 @@ static struct block *allocate(size_t size, const char *routine)
 	BEGIN_CALL();
 	code = strm_allocb(&ddi_pools[0].pool, (uint32_t)ddi_least(size, UINT32_MAX), &name);
 	if (code == STRM_OK)
-		b = new_block(name, new_data(name, M_DATA), NULL, routine);
+		b = new_block(name, NULL, routine);
 	else
-		ddi_failed = (struct failed){ ddi_frame, strm_ddi_at };
+		ddi_frame->failed = strm_ddi_at;
 	END_CALL("allocb %s %zu | %s", TO(b), size, ddi_reply(code));
 	return b;
 }
 
-mblk_t *allocb(size_t size, uint_t priority)
+mblk_t *allocb(size_t size, UNUSED uint_t priority)
 {
-	(void)priority;
 	return (mblk_t *)allocate(size, "allocb");
 }
 
-mblk_t *esballoc(uchar_t *base, size_t size, uint_t priority, frtn_t *routine)
+mblk_t *esballoc(uchar_t *base, size_t size, UNUSED uint_t priority, frtn_t *routine)
 {
 	struct block *b = allocate(size, "esballoc");
-	(void)priority;
 	if (b) {
 		b->data->d = (dblk_t){ .db_frtnp = routine, .db_base = base, .db_lim = base + size, .db_ref = 1, .db_type = M_DATA };
 		b->m.b_rptr = b->m.b_wptr = base;
@@ -307,10 +325,9 @@ mblk_t *esballoc(uchar_t *base, size_t size, uint_t priority, frtn_t *routine)
 	return (mblk_t *)b;
 }
 
-int testb(size_t size, uint_t priority)
+int testb(size_t size, UNUSED uint_t priority)
 {
 	uint32_t yes = 0;
-	(void)priority;
 	BEGIN_CALL();
 	strm_testb(&ddi_pools[0].pool, (uint32_t)ddi_least(size, UINT32_MAX), &yes);
 	END_CALL("testb %zu | %s", size, yes ? "yes" : "no");
@@ -319,10 +336,11 @@ int testb(size_t size, uint_t priority)
 
 static mblk_t *release(mblk_t *mp, const char *routine)
 {
-	struct block *b = ddi_held(mp, routine);
-	mblk_t *rest = b ? mp->b_cont : NULL;
-	if (b)
-		ddi_free(b);
+	mblk_t *rest = NULL;
+	if (ddi_has(mp, routine)) {
+		rest = mp->b_cont;
+		ddi_free((struct block *)mp);
+	}
 	return rest;
 }
 
@@ -353,25 +371,23 @@ void freemsg(mblk_t *mp)
 }
 
 /* Makes a message anew by a call of the pool: its first block, or all, which are joined meanwhile. */
-static mblk_t *made_of(mblk_t *mp, int (*make)(struct strm_pool *, struct strm_msg, struct strm_msg *), int is_copy, int all, const char *routine)
+static mblk_t *made_of(mblk_t *mp, int (*make)(struct strm_pool *, struct strm_msg, struct strm_msg *), int all, const char *routine)
 {
-	struct block *b = all ? ddi_join(mp, NULL, routine) : ddi_given(mp, NULL, routine), *copy;
+	struct block *b = (struct block *)mp, *copy;
 	mblk_t *first = NULL, **last = &first;
 	struct strm_msg name, rest;
 	struct strm_pool *pool;
 	int code;
-	if (!b)
+	if (!(all ? ddi_join(mp, NULL, routine) : ddi_has(mp, routine) && settle(b, b->pool)))
 		return NULL;
 	pool = &b->pool->pool;
 	code = make(pool, b->name, &name);
 	if (all)
-		ddi_part(b, routine);
+		ddi_part_all(b);
 	for (int left = code; left == STRM_OK; name = rest, b = (struct block *)b->m.b_cont) {
 		left = strm_unlinkb(pool, name, &rest);
-		b->data->references += !is_copy;
-		b->data->d.db_ref = b->data->references;
-		copy = new_block(name, is_copy ? new_data(name, b->data->d.db_type) : b->data, b, routine);
-		if (is_copy && DB_BASE(&b->m) != b->data->base)
+		copy = new_block(name, b, routine);
+		if (copy->data != b->data && DB_BASE(&b->m) != b->data->base)
 			memcpy(copy->m.b_rptr, b->m.b_rptr, (size_t)MBLKL(&b->m));
 		*last = &copy->m;
 		last = &copy->m.b_cont;
@@ -380,15 +396,15 @@ static mblk_t *made_of(mblk_t *mp, int (*make)(struct strm_pool *, struct strm_m
 	return first;
 }
 
-#define MADE(name, is_copy, all) \
+#define MADE(name, all) \
 	mblk_t *name(mblk_t *mp) \
 	{ \
-		return made_of(mp, strm_##name, is_copy, all, #name); \
+		return made_of(mp, strm_##name, all, #name); \
 	}
-MADE(dupb, 0, 0)
-MADE(dupmsg, 0, 1)
-MADE(copyb, 1, 0)
-MADE(copymsg, 1, 1)
+MADE(dupb, 0)
+MADE(dupmsg, 1)
+MADE(copyb, 0)
+MADE(copymsg, 1)
 
 /* ---- joined, parted, trimmed and counted */
 
@@ -404,29 +420,21 @@ size_t ddi_copy_out(const mblk_t *mp, void *into, size_t room)
 	return count;
 }
 
-/* Gives a block the data block that the pool has for it, with bytes of its message. The old one loses a reference. */
-static void change_data(struct block *b, size_t length)
-{
-	struct data *old = b->data;
-	b->data = new_data(b->name, old->d.db_type);
-	ddi_copy_out(&b->m, b->data->base, length);
-	b->m.b_datap = &b->data->d;
-	end_reference(old);
-}
-
-/* Parts a message whose blocks the pool has changed, and gives them their places there. Those that are in it no longer were freed. */
+/* Parts a message whose blocks the pool has changed, and gives them their data blocks and places there. Those that are in it no longer were freed. */
 static void part_changed(struct block *b)
 {
 	struct block *next, *gone;
-	struct strm_msg rest;
 	struct strm_block_place where;
 	for (; b; b = next) {
-		next = strm_unlinkb(&b->pool->pool, b->name, &rest) == STRM_OK ? b->pool->of[rest.head] : NULL;
-		if (next)
-			next->name = rest;
+		next = part_next(b);
 		strm_place(&b->pool->pool, b->name, 0, &where);
-		if (b->data != &b->pool->data[where.data])
-			change_data(b, where.length);
+		if (b->data != &b->pool->data[where.data]) {
+			struct data *old = b->data;
+			b->data = refer(b->name, old->d.db_type);
+			ddi_copy_out(&b->m, b->data->base, where.length);
+			b->m.b_datap = &b->data->d;
+			end_reference(old);
+		}
 		while ((gone = (struct block *)b->m.b_cont) != next) {
 			b->m.b_cont = gone->m.b_cont;
 			end_block(gone);
@@ -439,15 +447,12 @@ static void part_changed(struct block *b)
 
 static int change(mblk_t *mp, ssize_t length, int (*make)(struct strm_pool *, struct strm_msg, int32_t), const char *routine)
 {
-	struct block *first = ddi_join(mp, NULL, routine);
+	struct block *first = (struct block *)mp;
 	int code;
-	if (!first)
+	if (!ddi_join(mp, NULL, routine))
 		return 0;
 	code = length == (int32_t)length ? make(&first->pool->pool, first->name, (int32_t)length) : STRM_SHORT;
-	if (code == STRM_OK)
-		part_changed(first);
-	else
-		ddi_part(first, routine);
+	part_changed(first);
 	END_CALL("%s %s %zd | %s", routine, FROM(mp), length, ddi_reply(code));
 	return code == STRM_OK;
 }
@@ -475,7 +480,7 @@ mblk_t *msgpullup(mblk_t *mp, ssize_t length)
 void linkb(mblk_t *mp, mblk_t *tail)
 {
 	mblk_t *last = mp;
-	if (!ddi_held(mp, "linkb") || (tail && !ddi_held(tail, "linkb")))
+	if (!ddi_has_all(mp, "linkb") || (tail && !ddi_has(tail, "linkb")))
 		return;
 	while (last->b_cont && last != tail)
 		last = last->b_cont;
@@ -489,7 +494,7 @@ void linkb(mblk_t *mp, mblk_t *tail)
 mblk_t *unlinkb(mblk_t *mp)
 {
 	mblk_t *rest;
-	if (!ddi_held(mp, "unlinkb"))
+	if (!ddi_has(mp, "unlinkb"))
 		return NULL;
 	rest = mp->b_cont;
 	mp->b_cont = NULL;
@@ -501,12 +506,14 @@ mblk_t *rmvb(mblk_t *mp, mblk_t *bp)
 {
 	mblk_t *first = mp, **at = &first;
 	int place = 0;
-	if (!ddi_held(mp, "rmvb") || (bp != mp && !ddi_held(bp, "rmvb")))
+	if (!ddi_has_all(mp, "rmvb"))
 		return (mblk_t *)-1;
 	for (; *at && *at != bp; at = &(*at)->b_cont)
 		place++;
-	if (!*at)
+	if (!*at) {
+		ddi_has(bp, "rmvb");
 		return (mblk_t *)-1;
+	}
 	*at = bp->b_cont;
 	bp->b_cont = NULL;
 	END_CALL("rmvb %s %d %s | ok", FROM(mp), place, TO(bp));
@@ -516,7 +523,7 @@ mblk_t *rmvb(mblk_t *mp, mblk_t *bp)
 size_t msgdsize(mblk_t *mp)
 {
 	size_t size = 0;
-	if (!ddi_held(mp, "msgdsize"))
+	if (!ddi_has_all(mp, "msgdsize"))
 		return 0;
 	for (const mblk_t *bp = mp; bp; bp = bp->b_cont)
 		size += bp->b_datap->db_type == M_DATA ? (size_t)MBLKL(bp) : 0;

@@ -2,10 +2,8 @@
 #include "ddi.h"
 
 #include <signal.h>
-#include <stdarg.h>
 
-static const struct strm_ddi_place unknown = { "?", 0 };
-const struct strm_ddi_place *strm_ddi_at = &unknown;
+const struct strm_ddi_place ddi_at_head = { "the stream head", 0 }, *strm_ddi_at = &ddi_at_head;
 static int count;
 const struct module_info ddi_free_block, ddi_queued_block;
 
@@ -30,9 +28,10 @@ static void print_event(struct event event)
 		event.by.procedure[0] ? " " : "", event.by.procedure);
 }
 
-static void print_history(const struct block *b)
+/* Prints the last calls with a message but for the last one or none. */
+static void print_history(const struct block *b, int left_out)
 {
-	for (uint32_t k = b->event_count > MOST_EVENTS ? b->event_count - MOST_EVENTS : 0; k < b->event_count; k++)
+	for (uint32_t k = b->event_count > MOST_EVENTS ? b->event_count - MOST_EVENTS : 0; k + (uint32_t)left_out < b->event_count; k++)
 		print_event(b->events[k % MOST_EVENTS]);
 }
 
@@ -44,17 +43,18 @@ static int goes_on(void)
 
 void ddi_misuse(const char *routine, const struct block *b, const char *format, ...)
 {
+	struct event now = ddi_event(routine ? routine : ddi_noted(b));
 	va_list values;
 	count++;
-	fprintf(stderr, "strm_ddi: %s: ", routine);
+	fprintf(stderr, "strm_ddi: %s: ", now.routine);
 	va_start(values, format);
 	vfprintf(stderr, format, values);
 	va_end(values);
 	fputc('\n', stderr);
-	print_event(ddi_event(routine));
+	print_event(now);
 	if (b) {
 		fprintf(stderr, "  message block %td before:\n", b - ddi_blocks);
-		print_history(b);
+		print_history(b, !routine);
 	}
 	if (!goes_on()) {
 		ddi_trace_close();
@@ -71,7 +71,7 @@ int ddi_census(void)
 			count++;
 			fprintf(stderr, "strm_ddi: message block %td is left, %s of %td bytes:\n", b - ddi_blocks,
 				ddi_type_name(b->m.b_datap->db_type), MBLKL(&b->m));
-			print_history(b);
+			print_history(b, 0);
 		}
 	if (count > reported && !goes_on())
 		abort();

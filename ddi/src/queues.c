@@ -2,12 +2,9 @@
  * which run one inside another; and what runs later: service procedures, timeouts and functions of wishes. */
 #include "ddi.h"
 
-#include <errno.h>
-
 const char ddi_service[] = "service";
 static struct frame test = { .as.procedure = "" };
 struct frame *ddi_frame = &test;
-struct failed ddi_failed;
 
 /* ---- queues of a pool */
 
@@ -60,8 +57,6 @@ static void forget(queue_t *q)
 	struct strm_ddi_queue *own = q->q_layer;
 	struct strm_msg none;
 	uint32_t number, left = 0;
-	if (!own->pool)
-		return;
 	flushq(q, FLUSHALL);
 	strm_enableok(AT(q));
 	strm_getq(AT(q), &none);
@@ -76,8 +71,9 @@ static void forget(queue_t *q)
 
 void ddi_forget(queue_t *pair)
 {
-	forget(&pair[0]);
-	forget(&pair[1]);
+	for (queue_t *q = pair; q < pair + 2; q++)
+		if (q->q_layer && q->q_layer->pool)
+			forget(q);
 }
 
 /* ---- procedures */
@@ -100,7 +96,7 @@ struct later {
 static struct later *pending;
 clock_t strm_ddi_now;
 
-static void add_later(struct later **list, struct later what)
+RARE static void add_later(struct later **list, struct later what)
 {
 	while (*list)
 		list = &(*list)->next;
@@ -144,13 +140,13 @@ static int is_inside(const queue_t *q, int is_writer)
 
 static inline void run(queue_t *q, mblk_t *mp, writer *writer)
 {
-	struct frame frame;
-	ddi_enter(&frame, q, writer ? "writer" : "put");
+	struct frame frame = { q, { q->q_qinfo->qi_minfo, writer ? "writer" : "put" }, NULL, ddi_frame };
+	ddi_frame = &frame;
 	if (writer)
 		writer(q, mp);
 	else
 		q->q_qinfo->qi_putp(q, mp);
-	ddi_leave();
+	ddi_leave(&frame);
 }
 
 void ddi_run_later(void)
@@ -173,28 +169,26 @@ static inline queue_t *decides(queue_t *q)
 }
 
 /* Reports a service procedure that passes a message to a full band. */
-RARE static void check_room(queue_t *q, const mblk_t *mp, const char *routine)
+RARE static void check_room(queue_t *q, const struct block *b)
 {
 	struct strm_band_info info = { 0 };
-	strm_band_info(AT(q), mp->b_band, &info);
-	if (info.full && (DB_TYPE(mp) == M_DATA || DB_TYPE(mp) == M_PROTO))
-		ddi_misuse(routine, (const struct block *)mp, "band %d of %s is full: a service procedure asks canputnext before", mp->b_band, ddi_module(q));
+	strm_band_info(AT(q), b->m.b_band, &info);
+	if (info.full && (DB_TYPE(&b->m) == M_DATA || DB_TYPE(&b->m) == M_PROTO))
+		ddi_misuse(NULL, b, "band %d of %s is full: a service procedure asks canputnext before", b->m.b_band, ddi_module(q));
 }
 
 PER_CALLER void put_to(queue_t *q, mblk_t *mp, const char *routine, int is_next)
 {
-	struct block *b = ddi_held(mp, routine);
-	if (!b)
+	if (!ddi_has_all(mp, routine))
 		return;
 	if (!q) {
-		ddi_misuse(routine, b, "there is no next queue");
+		ddi_misuse(NULL, (struct block *)mp, "there is no next queue");
 		return;
 	}
 	if (is_next && ddi_frame->as.procedure == ddi_service && may_be_full(decides(q), mp->b_band))
-		check_room(decides(q), mp, routine);
-	b->owner = q->q_qinfo->qi_minfo;
-	for (struct block *next = (struct block *)mp->b_cont; next && next != b && ddi_is_held(next); next = (struct block *)next->m.b_cont)
-		next->owner = b->owner;
+		check_room(decides(q), (struct block *)mp);
+	for (mblk_t *bp = mp; bp; bp = bp->b_cont)
+		((struct block *)bp)->owner = q->q_qinfo->qi_minfo;
 	if (flags[0].tab && is_inside(q, 0))
 		add_later(&ddi_later, (struct later){ .q = q, .mp = mp });
 	else
@@ -224,9 +218,9 @@ int strm_ddi_putctl(queue_t *q, int type, int byte, int count)
 	return 1;
 }
 
-void qwriter(queue_t *q, mblk_t *mp, void (*function)(), int scope)
+void qwriter(queue_t *q, mblk_t *mp, void (*function)(), UNUSED int scope)
 {
-	(void)scope;
+	BEGIN_CALL();
 	add_later(&ddi_later, (struct later){ .q = q, .mp = mp, .writer = (writer *)function });
 	if (ddi_frame == &test)
 		ddi_run_later();
@@ -274,9 +268,9 @@ RARE static void wake(queue_t *q)
 		}
 }
 
-int bcanput(queue_t *q, uchar_t band)
+/* Asks whether a band of the queue that decides has room. */
+RARE static int ask(queue_t *q, queue_t *target, uchar_t band)
 {
-	queue_t *target = decides(q);
 	uint32_t yes = 1;
 	BEGIN_CALL();
 	if (may_be_full(target, band))
@@ -287,15 +281,21 @@ int bcanput(queue_t *q, uchar_t band)
 	return (int)yes;
 }
 
+int bcanput(queue_t *q, uchar_t band)
+{
+	queue_t *target = decides(q);
+	return (!ddi_traced && !may_be_full(target, band)) || ask(q, target, band);
+}
+
 int strqset(queue_t *q, qfields_t what, uchar_t band, long value)
 {
 	struct strm_marks marks;
-	if (what == QMINPSZ)
-		q->q_minpsz = value;
-	else if (what == QMAXPSZ)
-		q->q_maxpsz = value;
+	if (what == QMINPSZ || what == QMAXPSZ) {
+		*(what == QMINPSZ ? &q->q_minpsz : &q->q_maxpsz) = value;
+		return 0;
+	}
 	if (what != QHIWAT && what != QLOWAT)
-		return what == QMINPSZ || what == QMAXPSZ ? 0 : EINVAL;
+		return EINVAL;
 	BEGIN_CALL();
 	strm_strqget(AT(q), band, &marks);
 	*(what == QHIWAT ? &marks.hiwat : &marks.lowat) = (uint32_t)value;
@@ -334,44 +334,47 @@ int strqget(queue_t *q, qfields_t what, uchar_t band, void *value)
 
 static inline uint32_t rank_of(const mblk_t *mp)
 {
-	const struct given *given = &((const struct block *)mp)->given;
-	return given->type >= QPCTL ? STRM_BANDS : given->band;
+	return ((const struct block *)mp)->given.rank;
+}
+
+/* The message that the pool has before one on its queue, or null. */
+static __attribute__((noinline)) mblk_t *queued_before(const struct block *b)
+{
+	uint32_t head;
+	return strm_queued_before(&b->pool->pool, b->name.head, &head) == STRM_OK ? &b->pool->of[head]->m : NULL;
 }
 
 /* Links a message that the pool has put on its queue: before `next`, or last, if ranks are in order then. Otherwise only the pool knows its place. */
 static inline void link_in(queue_t *q, mblk_t *next, struct block *b)
 {
 	mblk_t *mp = &b->m, *before = next ? next->b_prev : q->q_last;
-	uint32_t rank = rank_of(mp), head;
-	if ((before && rank_of(before) < rank) || (next && rank_of(next) > rank)) {
-		before = strm_queued_before(&b->pool->pool, b->name.head, &head) == STRM_OK ? (mblk_t *)b->pool->of[head] : NULL;
+	if ((before && rank_of(before) < rank_of(mp)) || (next && rank_of(next) > rank_of(mp))) {
+		before = queued_before(b);
 		next = before ? before->b_next : q->q_first;
 	}
 	mp->b_prev = before;
 	mp->b_next = next;
 	*(next ? &next->b_prev : &q->q_last) = mp;
 	*(before ? &before->b_next : &q->q_first) = mp;
-	if (rank == STRM_BANDS)
-		mp->b_band = b->given.band = 0;
-	if (b->given.band == 0)
+	mp->b_band = b->given.band = (uchar_t)(rank_of(mp) % STRM_BANDS);
+	b->size = (uint32_t)MBLKL(mp) + b->rest;
+	b->owner = &ddi_queued_block;
+	b->queue = q;
+	if (mp->b_band == 0)
 		q->q_count += b->size;
-	for (; b; b = (struct block *)b->m.b_cont) {
-		b->owner = &ddi_queued_block;
-		b->queue = q;
-	}
 }
 
 PER_CALLER int put_on(queue_t *q, mblk_t *mp, int (*call)(struct strm_pool *, uint32_t, struct strm_msg), int is_back, const char *routine)
 {
-	struct strm_ddi_queue *own = own_of(q);
-	struct block *b = ddi_join(mp, own->pool, routine);
-	if (!b)
+	struct block *b = (struct block *)mp;
+	own_of(q);
+	if (!ddi_join(mp, q, routine))
 		return 0;
 	if (is_back && rank_of(mp) == STRM_BANDS && ddi_frame->q == q && ddi_frame->as.procedure == ddi_service)
-		ddi_misuse(routine, b, "a service procedure that puts high priority back is enabled for ever");
-	call(AT_OWN(own), b->name);
+		ddi_misuse(NULL, b, "a service procedure that puts high priority back is enabled for ever");
+	call(AT_OWN(q->q_layer), b->name);
 	link_in(q, is_back ? q->q_first : NULL, b);
-	END_CALL("%s %s %s | ok", routine, ON(q), FROM(mp));
+	END_CALL(is_back ? "putbq %s %s | ok" : "putq %s %s | ok", ON(q), FROM(mp));
 	return 1;
 }
 
@@ -397,15 +400,16 @@ static int place_in(const queue_t *q, const mblk_t *mp)
 
 int insq(queue_t *q, mblk_t *before, mblk_t *mp)
 {
-	struct block *b = ddi_join(mp, own_of(q)->pool, "insq");
+	struct block *b = (struct block *)mp;
 	int place = place_in(q, before), code;
-	if (!b)
+	own_of(q);
+	if (!ddi_join(mp, q, "insq"))
 		return 0;
 	code = strm_insq_at(AT(q), before ? ((struct block *)before)->name.head : STRM_NO_HEAD, b->name);
 	if (code == STRM_NO_SUCH_PLACE)
-		ddi_misuse("insq", b, "the message before which it is to be is not on the queue");
+		ddi_misuse(NULL, b, "the message before which it is to be is not on the queue");
 	if (code != STRM_OK)
-		ddi_part(b, "insq");
+		ddi_part_all(b);
 	else
 		link_in(q, before, b);
 	END_CALL("insq %s %d %s | %s", ON(q), place, FROM(mp), ddi_reply(code));
@@ -417,28 +421,38 @@ static inline struct block *taken(queue_t *q, struct strm_msg name, const char *
 {
 	struct block *b = q->q_layer->pool->of[name.head];
 	mblk_t *mp = &b->m;
-	b->name = name;
+	b->name.stamp = name.stamp;
 	*(mp->b_next ? &mp->b_next->b_prev : &q->q_last) = mp->b_prev;
 	*(mp->b_prev ? &mp->b_prev->b_next : &q->q_first) = mp->b_next;
 	mp->b_next = mp->b_prev = NULL;
 	if (b->given.band == 0)
 		q->q_count -= b->size;
-	ddi_part(b, routine);
 	ddi_note(b, routine);
+	if (b->is_joined || mp->b_cont)
+		ddi_part_all(b);
+	else
+		b->owner = ddi_frame->as.module;
 	if (q->q_layer->is_asked)
 		wake(q);
 	return b;
 }
 
+/* Ends a getq that is traced. */
+RARE static mblk_t *end_getq(const queue_t *q, mblk_t *mp)
+{
+	ddi_trace_end("getq %s %s | %s", ON(q), TO(mp), mp ? "ok" : "none");
+	return mp;
+}
+
+/* A queue without a number has no message. */
 mblk_t *getq(queue_t *q)
 {
-	struct strm_ddi_queue *own = own_of(q);
+	struct strm_ddi_queue *own = q->q_layer;
 	struct strm_msg name;
 	struct block *b;
 	BEGIN_CALL();
-	b = strm_getq(AT_OWN(own), &name) == STRM_OK ? taken(q, name, "getq") : NULL;
-	END_CALL("getq %s %s | %s", ON(q), TO(b), b ? "ok" : "none");
-	return (mblk_t *)b;
+	b = strm_getq((struct strm_pool *)own->pool, own->number, &name) == STRM_OK ? taken(q, name, "getq") : NULL;
+	return ddi_traced ? end_getq(q, (mblk_t *)b) : (mblk_t *)b;
 }
 
 void rmvq(queue_t *q, mblk_t *mp)
@@ -457,27 +471,17 @@ void rmvq(queue_t *q, mblk_t *mp)
 /* Flushes a band, or all if it is negative. */
 void strm_ddi_flush(queue_t *q, int band, int flag)
 {
-	struct strm_msg names[MOST_TAKEN];
+	struct strm_msg name;
 	uint32_t what = flag == FLUSHALL ? STRM_FLUSHALL : STRM_FLUSHDATA;
-	const char *word = flag == FLUSHALL ? "all" : "data";
 	size_t count;
 	struct block *b, *next;
 	BEGIN_CALL();
-	do {
-		if (band < 0)
-			strm_takeq(AT(q), what, names, MOST_TAKEN, &count);
-		else
-			strm_takeq_band(AT(q), (uint32_t)band, what, names, MOST_TAKEN, &count);
-		for (size_t k = 0; k < count; k++)
-			for (b = taken(q, names[k], "flushq"); b; b = next) {
-				next = (struct block *)b->m.b_cont;
-				ddi_free(b);
-			}
-	} while (count == MOST_TAKEN);
-	if (band < 0)
-		END_CALL("flushq %s %s | ok", ON(q), word);
-	else
-		END_CALL("flushband %s %d %s | ok", ON(q), band, word);
+	while (!(band < 0 ? strm_takeq(AT(q), what, &name, 1, &count) : strm_takeq_band(AT(q), (uint32_t)band, what, &name, 1, &count)) && count)
+		for (b = taken(q, name, "flushq"); b; b = next) {
+			next = (struct block *)b->m.b_cont;
+			ddi_free(b);
+		}
+	END_CALL(band < 0 ? "flushq %s %s | ok" : "flushband %1$s %3$d %2$s | ok", ON(q), flag == FLUSHALL ? "all" : "data", band);
 }
 
 int qsize(queue_t *q)
@@ -517,20 +521,18 @@ clock_t untimeout(timeout_id_t id)
 	return *at ? take_later(at).when - strm_ddi_now : -1;
 }
 
-bufcall_id_t qbufcall(queue_t *q, size_t size, uint_t priority, void (*function)(void *), void *argument)
+bufcall_id_t qbufcall(queue_t *q, size_t size, UNUSED uint_t priority, void (*function)(void *), void *argument)
 {
 	uint32_t wish;
-	int code, id = 0;
-	(void)priority;
+	int code;
 	BEGIN_CALL();
 	code = strm_bufcall(&ddi_pools[0].pool, (uint32_t)ddi_least(size, UINT32_MAX), &wish);
-	if (code == STRM_OK) {
-		id = add_pending((int)wish, q, 0, function, argument);
-		END_CALL("bufcall %zu | id %d", size, id);
-	} else {
+	if (code != STRM_OK) {
 		END_CALL("bufcall %zu | %s", size, ddi_reply(code));
+		return 0;
 	}
-	return id;
+	END_CALL("bufcall %zu | id %u", size, wish);
+	return add_pending((int)wish, q, 0, function, argument);
 }
 
 void unbufcall(bufcall_id_t id)
@@ -570,7 +572,7 @@ static int call_ready(void)
 	what = take_later(at);
 	ddi_enter(&frame, what.q, what.id > 0 ? "bufcall" : "timeout");
 	what.function(what.argument);
-	ddi_leave();
+	ddi_leave(&frame);
 	return 1;
 }
 
@@ -580,15 +582,6 @@ static int is_asleep(queue_t *q)
 	struct strm_queue_info info;
 	return q->q_first && q->q_qinfo->qi_srvp && strm_queue_info(AT(q), &info) == STRM_OK && !info.enabled &&
 		!(q->q_next && decides(q->q_next)->q_layer->is_asked);
-}
-
-/* Reports a service procedure in which an allocb failed, if nothing is to run it again. */
-RARE static void check_sleep(queue_t *q)
-{
-	if (pending || !is_asleep(q))
-		return;
-	strm_ddi_at = ddi_failed.at;
-	ddi_misuse("allocb", (struct block *)q->q_first, "it failed, and the service procedure left messages without a bufcall, a timeout or a qenable");
 }
 
 /* Reports messages that nothing was to take off a queue which is closed. */
@@ -637,17 +630,17 @@ int ddi_serve(void)
 	queue_t *q = next_service();
 	if (!q)
 		return 0;
-	if (ddi_traced) {
-		ddi_enter(&frame, NULL, "scheduler");
-		ddi_trace_end("service | queue %s", ON(q));
-		ddi_frame = frame.before;
-	}
-	ddi_failed.in = NULL;
+	ddi_enter(&frame, NULL, "scheduler");
+	END_CALL("service | queue %s", ON(q));
+	ddi_frame = frame.before;
 	ddi_enter(&frame, q, ddi_service);
 	q->q_qinfo->qi_srvp(q);
-	if (ddi_failed.in == &frame)
-		check_sleep(q);
-	ddi_leave();
+	if (frame.failed && !pending && is_asleep(q)) {
+		strm_ddi_at = frame.failed;
+		ddi_misuse("allocb", (struct block *)q->q_first,
+			"it failed, and the service procedure left messages without a bufcall, a timeout or a qenable");
+	}
+	ddi_leave(&frame);
 	return 1;
 }
 
@@ -656,6 +649,7 @@ int str_run(void)
 	int count = 0;
 	while (ddi_serve() || call_ready())
 		count++;
+	AT_HEAD();
 	return count;
 }
 
@@ -670,12 +664,11 @@ int str_wait(clock_t ticks)
 	return count;
 }
 
-void qwait(queue_t *q)
+void qwait(UNUSED queue_t *q)
 {
 	struct frame *inside = ddi_frame;
-	(void)q;
 	ddi_frame = &test;
-	if (!ddi_serve() && !call_ready() && !str_wait(1500))
+	if (!ddi_serve() && !call_ready() && !str_wait(PATIENCE))
 		ddi_misuse("qwait", NULL, "nothing came in 15 s");
 	ddi_frame = inside;
 }

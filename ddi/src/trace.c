@@ -1,13 +1,12 @@
 /* For testing modules in user space; tested, not proved. Writes what happens to messages as a trace, which strm-record(1) explains. */
 #include "ddi.h"
 
-#include <stdarg.h>
-
 /* A queue's number in a trace is known at the end, as one that a queue leads to has a greater one. Till then the body has its place in `queues`, as
  * a byte after this one. */
 #define QUEUE_NEXT '\1'
 
 FILE *ddi_traced;
+static uchar_t (*told)[STRM_MOST_DATA_BYTES];	/* the bytes that the trace has of each data block */
 static queue_t *queues[STRM_MOST_QUEUES], *in_order[STRM_MOST_QUEUES];
 static int queue_count;
 static char said[41];
@@ -16,8 +15,10 @@ void ddi_trace_open(void)
 {
 	queue_count = 0;
 	said[0] = 0;
-	if (getenv("STRM_DDI_TRACE"))
-		ddi_traced = tmpfile();
+	if (!getenv("STRM_DDI_TRACE"))
+		return;
+	ddi_traced = tmpfile();
+	told = calloc(STRM_MOST_DATA_BLOCKS, sizeof *told);
 }
 
 static int index_of(const queue_t *q, queue_t *const in[])
@@ -50,11 +51,8 @@ static struct told as_it_is(const struct block *b)
 /* Whether the bytes of a block, up to its write place, are others than the trace has. */
 static int has_new_bytes(const struct block *b)
 {
-	if (b->m.b_wptr < b->data->d.db_base || b->m.b_wptr > b->data->d.db_lim)
-		return 0;
-	if (!b->data->told)
-		b->data->told = calloc(1, STRM_MOST_DATA_BYTES);
-	return memcmp(b->data->d.db_base, b->data->told, (size_t)(b->m.b_wptr - b->data->d.db_base)) != 0;
+	return b->m.b_wptr >= b->data->d.db_base && b->m.b_wptr <= b->data->d.db_lim &&
+		memcmp(b->data->d.db_base, told[b->data - ddi_pools[0].data], (size_t)(b->m.b_wptr - b->data->d.db_base)) != 0;
 }
 
 static int is_changed(const struct block *b)
@@ -63,32 +61,27 @@ static int is_changed(const struct block *b)
 	return memcmp(&told, &b->told, sizeof told) != 0 || has_new_bytes(b);
 }
 
-static void tell_bytes(const struct block *b)
-{
-	const uchar_t *base = b->data->d.db_base;
-	uchar_t *told = b->data->told;
-	ptrdiff_t first = 0, last = b->m.b_wptr - base;
-	while (base[first] == told[first])
-		first++;
-	while (base[last - 1] == told[last - 1])
-		last--;
-	fprintf(ddi_traced, "b %td %td ", b->data - ddi_pools[0].data, first);
-	for (ptrdiff_t k = first; k < last; k++)
-		fprintf(ddi_traced, "%02x", base[k]);
-	fputc('\n', ddi_traced);
-	memcpy(told + first, base + first, (size_t)(last - first));
-}
-
+/* Prints a block, and before it which bytes are new. */
 static void tell_block(char mark, struct block *b)
 {
 	const mblk_t *mp = &b->m;
+	const uchar_t *base = b->data->d.db_base;
 	ptrdiff_t next = mp->b_cont ? (struct block *)mp->b_cont - ddi_blocks : -1, data = b->data - ddi_pools[0].data;
 	if (!b->data->is_told)
 		fprintf(ddi_traced, "c %td %u\n", data, b->data->size);
 	b->data->is_told = 1;
-	if (has_new_bytes(b))
-		tell_bytes(b);
-	fprintf(ddi_traced, "%c %td %td %td %td %td %s %d\n", mark, b - ddi_blocks, next, data, MBLKHEAD(mp), mp->b_wptr - DB_BASE(mp),
+	if (has_new_bytes(b)) {
+		ptrdiff_t first = 0, last = mp->b_wptr - base;
+		while (base[first] == told[data][first])
+			first++;
+		while (base[last - 1] == told[data][last - 1])
+			last--;
+		fprintf(ddi_traced, "b %td %td ", data, first);
+		for (ptrdiff_t k = first; k < last; k++)
+			fprintf(ddi_traced, "%02x", told[data][k] = base[k]);
+		fputc('\n', ddi_traced);
+	}
+	fprintf(ddi_traced, "%c %td %td %td %td %td %s %d\n", mark, b - ddi_blocks, next, data, MBLKHEAD(mp), mp->b_wptr - base,
 		ddi_type_name(DB_TYPE(mp)), mp->b_band);
 	b->told = as_it_is(b);
 }
@@ -141,22 +134,15 @@ static void tell_end(struct block *b)
 			other->told.cont = NULL;
 }
 
-const char *ddi_told(char mark, const void *mp)
+const char *ddi_told(char mark, const void *what)
 {
-	static char texts[2][24];
+	static char texts[3][24];
 	static int last;
-	char *text = texts[last = !last];
-	text[0] = mark;
-	text[1] = 0;
-	if (mp)
-		sprintf(text + 1, "%td", (const struct block *)mp - ddi_blocks);
-	return text;
-}
-
-const char *ddi_told_queue(const queue_t *q)
-{
-	static char text[3] = { QUEUE_NEXT };
-	text[1] = (char)('a' + index_of(q, queues));
+	char *text = texts[last = (last + 1) % 3];
+	if (mark == 'q')
+		sprintf(text, "%c%c", QUEUE_NEXT, 'a' + index_of(what, queues));
+	else
+		sprintf(text, what ? "%c%td" : "%c", mark, what ? (const struct block *)what - ddi_blocks : 0);
 	return text;
 }
 
@@ -181,22 +167,19 @@ void ddi_trace_end(const char *format, ...)
 const char *ddi_reply(int code)
 {
 	static char reply[48];
-	char name[32];
-	int length = snprintf(reply, sizeof reply, "refused %d ", code);
-	if (code == STRM_OK)
-		return "ok";
+	char name[32], *to = reply + sprintf(reply, "refused %d ", code);
 	strm_name(code, name, sizeof name);
 	for (int k = 5; name[k]; k++)
 		if (name[k] != '_')
-			reply[length++] = (char)(name[k - 1] == '_' ? name[k] : name[k] | 32);
-	reply[length] = 0;
-	return reply;
+			*to++ = (char)(name[k - 1] == '_' ? name[k] : name[k] | 32);
+	*to = 0;
+	return code == STRM_OK ? "ok" : reply;
 }
 
 /* ---- the header and the report */
 
-/* Numbers the queues: each stream's from the first one on, to which none leads. */
-static void number_queues(void)
+/* Numbers the queues before: each stream's from the first one on, to which none leads. */
+static void write_header(FILE *out)
 {
 	int count = 0;
 	for (int k = 0; k < queue_count; k++) {
@@ -206,20 +189,13 @@ static void number_queues(void)
 		for (queue_t *q = is_led_to ? NULL : queues[k]; q; q = q->q_next)
 			in_order[count++] = q;
 	}
-}
-
-static void write_header(FILE *out)
-{
 	fprintf(out, "h pool 1 %u\n", ddi_config.mblks);
 	for (size_t c = 0; c < ddi_config.class_count; c++)
 		fprintf(out, "h class %u %u\n", ddi_config.classes[c].size, ddi_config.classes[c].count);
 	for (int k = 0; k < queue_count; k++) {
 		const queue_t *q = in_order[k];
-		fprintf(out, "h queue %u %u %c ", q->q_layer->marks.hiwat, q->q_layer->marks.lowat, q->q_qinfo->qi_srvp ? 's' : 'n');
-		if (q->q_next)
-			fprintf(out, "%d\n", index_of(q->q_next, in_order));
-		else
-			fputs("-\n", out);
+		fprintf(out, q->q_next ? "h queue %u %u %c %d\n" : "h queue %u %u %c -\n", q->q_layer->marks.hiwat, q->q_layer->marks.lowat,
+			q->q_qinfo->qi_srvp ? 's' : 'n', index_of(q->q_next, in_order));
 	}
 	fprintf(out, "h bufcalls %u 1\n", ddi_config.bufcalls);
 	for (int k = 0; k < queue_count; k++)
@@ -228,53 +204,49 @@ static void write_header(FILE *out)
 		fprintf(out, "#: module %s %d %d\n", label_of(queues[k]), index_of(queues[k + 1], in_order), index_of(queues[k], in_order));
 }
 
-static void write_queue(FILE *out, int number, const queue_t *q)
-{
-	const struct strm_pool *pool = &ddi_pools[0].pool;
-	struct strm_queue_info info = { .read = 1 };
-	struct strm_band_info band;
-	if (q->q_layer->pool)
-		strm_queue_info(pool, q->q_layer->number, &info);
-	fprintf(out, "r queue %d msgs=%u bytes=%u read=%u noenable=%u enabled=%u\n", number, info.msgs, info.bytes, info.read,
-		q->q_qinfo->qi_srvp ? info.noenable : 0, q->q_qinfo->qi_srvp ? info.enabled : 0);
-	for (uint32_t b = STRM_BANDS; info.msgs > 0 && b-- > 0;)
-		if (strm_band_info(pool, q->q_layer->number, b, &band) == STRM_OK && band.bytes > 0)
-			fprintf(out, "r band %u bytes=%u full=%u wanted=%u\n", b, band.bytes, band.full, band.wanted);
-}
-
+/* Writes the report of the pool. Its lines on queues are of those in the trace. */
 static void write_report(FILE *out)
 {
+	static char text[200 << 10];
 	const struct strm_pool *pool = &ddi_pools[0].pool;
-	struct strm_class_info info;
-	struct strm_census census;
-	struct strm_wish wish;
-	uint32_t at, number;
+	const char *line = text, *end;
+	uint32_t number;
 	int count = 0;
-	strm_census(pool, &census);
-	fprintf(out, "r blocks free=%u queued=%u held=%u total=%u\n", census.free, census.queued, census.held, ddi_config.mblks);
-	for (uint32_t c = 0; strm_class_info(pool, c, &info) == STRM_OK; c++)
-		fprintf(out, "r data size=%u free=%u total=%u\n", info.size, info.free, info.total);
-	for (int k = 0; k < queue_count; k++)
-		write_queue(out, k, in_order[k]);
+	strm_report(pool, text, sizeof text);
+	for (; *line != 'q'; line = end + 1) {
+		end = strchr(line, '\n');
+		fprintf(out, "r %.*s\n", (int)(end - line), line);
+	}
+	for (int k = 0; k < queue_count; k++) {
+		const queue_t *q = in_order[k];
+		struct strm_queue_info info = { .read = 1 };
+		struct strm_band_info band;
+		int has_service = q->q_qinfo->qi_srvp != NULL;
+		if (q->q_layer->pool)
+			strm_queue_info(pool, q->q_layer->number, &info);
+		fprintf(out, "r queue %d msgs=%u bytes=%u read=%u noenable=%d enabled=%d\n", k, info.msgs, info.bytes, info.read,
+			has_service && info.noenable, has_service && info.enabled);
+		for (uint32_t b = STRM_BANDS; info.msgs > 0 && b-- > 0;)
+			if (strm_band_info(pool, q->q_layer->number, b, &band) == STRM_OK && band.bytes > 0)
+				fprintf(out, "r band %u bytes=%u full=%u wanted=%u\n", b, band.bytes, band.full, band.wanted);
+	}
 	fputs("r run", out);
-	for (at = 0; strm_run_at(pool, at, &number) == STRM_OK; at++) {
+	for (uint32_t at = 0; strm_run_at(pool, at, &number) == STRM_OK; at++) {
 		const queue_t *q = ddi_pools[0].queues[number];
 		if (q && q->q_qinfo->qi_srvp && count++ >= 0)
 			fprintf(out, " %d", index_of(q, in_order));
 	}
-	fputs(count > 0 ? "\nr wishes" : " -\nr wishes", out);
-	for (at = 0; strm_wish_at(pool, at, &wish) == STRM_OK; at++)
-		fprintf(out, " %u:%u", wish.id, wish.size);
-	fputs(at > 0 ? "\n" : " -\n", out);
+	fprintf(out, "%s\nr %s", count > 0 ? "" : " -", strstr(line, "wishes"));
 }
 
 void ddi_trace_close(void)
 {
-	FILE *body = ddi_traced, *out = body ? fopen(getenv("STRM_DDI_TRACE"), "w") : NULL;
+	FILE *body = ddi_traced, *out;
 	int c;
-	if (out) {
+	if (!body)
+		return;
+	if ((out = fopen(getenv("STRM_DDI_TRACE"), "w")) != NULL) {
 		ddi_trace_begin();
-		number_queues();
 		write_header(out);
 		rewind(body);
 		while ((c = getc(body)) != EOF)
@@ -285,7 +257,7 @@ void ddi_trace_close(void)
 		write_report(out);
 		fclose(out);
 	}
-	if (body)
-		fclose(body);
+	fclose(body);
+	free(told);
 	ddi_traced = NULL;
 }

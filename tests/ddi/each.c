@@ -45,11 +45,14 @@ static void send_band(strhead_t *head, const char *text, int band)
 
 static void test_messages(void)
 {
+	static const struct strm_class_spec nine[9] = { { 1, 1 } };
+	static const struct strm_config too_many = { .mblks = 1, .classes = nine, .class_count = 9 };
 	uchar_t own[2000];
 	frtn_t none = { 0 };
 	mblk_t *mp, *copy, *rest;
 
 	(void)none;
+	CHECK(str_init(&too_many) == EINVAL);
 	CHECK(str_init(NULL) == 0);
 	CHECK(allocb(4097, BPRI_MED) == NULL);
 	CHECK(esballoc(own, 5000, BPRI_MED, NULL) == NULL);
@@ -131,6 +134,7 @@ static void test_full(void)
 
 	CHECK(str_init(NULL) == 0 && str_open(&echoinfo, 0, 0, &head) == 0);
 	q = WR(str_queue(head, 1));
+	CHECK(getq(q) == NULL);
 	CHECK(strqset(q, QLOWAT, 0, 10) == 0 && strqset(q, QHIWAT, 0, 100) == 0);
 	CHECK(strqset(q, QLOWAT, 1, 0) == 0 && strqset(q, QHIWAT, 1, 10) == 0);
 	fill(q, 99, 0);

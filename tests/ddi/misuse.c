@@ -10,7 +10,8 @@
 enum {
 	PASSES_FREED, FREES_TWICE, FREES_QUEUED, FREES_PASSED, PUTS_TWICE, CHANGES_SHARED_TYPE, SETS_REFERENCES, WRITES_PAST, FORGETS, IGNORES_FLOW_CONTROL,
 	LOSES_ENABLE, FORGETS_BUFCALL, PUTS_PRIORITY_BACK, READS_FREED, FREES_OTHER_MEMORY, LEAVES_TIMEOUT, ENTERS_TWICE, RELINKS_QUEUED, FREES_OTHER_SIZE,
-	REMOVES_OTHER, LINKS_TO_ITSELF, LINKS_QUEUED, FREES_LINKED, LINKS_A_RING, LEAVES_ARGUMENT, WAYS
+	REMOVES_OTHER, LINKS_TO_ITSELF, LINKS_QUEUED, FREES_LINKED, LINKS_A_RING, LEAVES_ARGUMENT, LINKS_A_LATER_RING, QUEUES_A_RING, COUNTS_A_RING,
+	LINKS_TO_A_RING, REMOVES_FROM_A_RING, COUNTS_FREED, WAYS
 };
 static const char *const ways[WAYS] = {
 	"putnext: the message block is free", "freemsg: the message block is free", "freemsg: the message is on a queue, of echo write",
@@ -23,8 +24,10 @@ static const char *const ways[WAYS] = {
 	"putbq: a service procedure that puts high priority back is enabled for ever", "a fault in faulty write put", "is no message block",
 	"timeout: it waits, and faulty is closed", "mutex_enter: the mutex is held since", "getq: b_cont was changed while the message was on a queue",
 	"kmem_free: 16 bytes are freed, and 8 were allocated", "rmvq: the message is not on the queue", "linkb: the message is linked to itself",
-	"getq: b_cont was changed while the message was on a queue", "putq: the message block is free",
-	"putq: b_cont leads to a block of the message", "timeout: it waits, and faulty is closed"
+	"getq: b_cont was changed while the message was on a queue", "putnext: the message block is free",
+	"putnext: b_cont leads to a block of the message", "timeout: it waits, and faulty is closed", "putnext: b_cont leads to a block of the message",
+	"putq: b_cont leads to a block of the message", "msgdsize: b_cont leads to a block of the message",
+	"linkb: b_cont leads to a block of the message", "rmvb: b_cont leads to a block of the message", "msgdsize: the message block is free"
 };
 
 static int way;
@@ -40,6 +43,15 @@ static int up(queue_t *q, mblk_t *mp)
 static void tick(void *q)
 {
 	qenable(q);
+}
+
+/* Links two copies after a message, of which the last one leads to the other. */
+static mblk_t *link_later_ring(mblk_t *mp)
+{
+	linkb(mp, copymsg(mp));
+	linkb(mp, copyb(mp));
+	mp->b_cont->b_cont->b_cont = mp->b_cont;
+	return mp;
 }
 
 static int faulty_wput(queue_t *q, mblk_t *mp)
@@ -139,6 +151,26 @@ static int faulty_wput(queue_t *q, mblk_t *mp)
 		linkb(mp, copymsg(mp));
 		mp->b_cont->b_cont = mp;
 		putnext(q, mp);
+		break;
+	case LINKS_A_LATER_RING:
+		putnext(q, link_later_ring(mp));
+		break;
+	case QUEUES_A_RING:
+		putq(q, link_later_ring(mp));
+		break;
+	case COUNTS_A_RING:
+		msgdsize(link_later_ring(mp));
+		break;
+	case LINKS_TO_A_RING:
+		linkb(link_later_ring(mp), allocb(8, BPRI_MED));
+		break;
+	case REMOVES_FROM_A_RING:
+		rmvb(link_later_ring(mp), allocb(8, BPRI_MED));
+		break;
+	case COUNTS_FREED:
+		linkb(mp, copymsg(mp));
+		freeb(mp->b_cont);
+		msgdsize(mp);
 		break;
 	case FREES_OTHER_SIZE:
 		kmem_free(kmem_alloc(8, KM_SLEEP), 16);

@@ -33,8 +33,7 @@ typedef struct msgb {
 	ushort_t b_flag;
 } mblk_t;
 
-#define QNORM 0x00
-#define QPCTL 0x80
+enum { QNORM = 0x00, QPCTL = 0x80 };
 enum {
 	M_DATA, M_PROTO, M_BREAK = 0x08, M_PASSFP, M_EVENT, M_SIG, M_DELAY, M_CTL, M_IOCTL, M_SETOPTS = 0x10, M_RSE,
 	M_IOCACK = 0x81, M_IOCNAK, M_PCPROTO, M_PCSIG, M_READ, M_FLUSH, M_STOP, M_START, M_HANGUP, M_ERROR, M_COPYIN, M_COPYOUT, M_IOCDATA,
@@ -85,12 +84,7 @@ struct queue {
 	size_t q_hiwat, q_lowat;
 	struct strm_ddi_queue *q_layer;
 };
-#define QENAB 0x01
-#define QWANTR 0x02
-#define QWANTW 0x04
-#define QFULL 0x08
-#define QREADR 0x10
-#define QNOENB 0x40
+enum { QENAB = 0x01, QWANTR = 0x02, QWANTW = 0x04, QFULL = 0x08, QREADR = 0x10, QNOENB = 0x40 };
 #define RD(q) ((q)->q_flag & QREADR ? (q) : (q) - 1)
 #define WR(q) ((q)->q_flag & QREADR ? (q) + 1 : (q))
 #define OTHERQ(q) ((q)->q_flag & QREADR ? (q) + 1 : (q) - 1)
@@ -106,8 +100,7 @@ enum { FLUSHR = 1, FLUSHW, FLUSHRW, FLUSHBAND };
 enum { MODOPEN = 1, CLONEOPEN, CONSOPEN = 4 };
 #define OPENFAIL (-1)
 #define INFPSZ (-1)
-#define STRHIGH 5120
-#define STRLOW 1024
+enum { STRHIGH = 5120, STRLOW = 1024 };
 
 /* ---- Messages of the stream head */
 
@@ -219,10 +212,8 @@ void mutex_enter(kmutex_t *mutex), mutex_exit(kmutex_t *mutex);
 #define insq(q, before, mp) (STRM_DDI_AT, insq(q, before, mp))
 #define getq(q) (STRM_DDI_AT, getq(q))
 #define rmvq(q, mp) (STRM_DDI_AT, rmvq(q, mp))
-#define strm_ddi_flush(q, band, flag) (STRM_DDI_AT, strm_ddi_flush(q, band, flag))
 #define put(q, mp) (STRM_DDI_AT, put(q, mp))
 #define putnext(q, mp) (STRM_DDI_AT, putnext(q, mp))
-#define strm_ddi_putctl(q, type, byte, count) (STRM_DDI_AT, strm_ddi_putctl(q, type, byte, count))
 #define qwriter(q, mp, function, scope) (STRM_DDI_AT, qwriter(q, mp, function, scope))
 #define qtimeout(q, function, argument, ticks) (STRM_DDI_AT, qtimeout(q, function, argument, ticks))
 #define qbufcall(q, size, priority, function, argument) (STRM_DDI_AT, qbufcall(q, size, priority, function, argument))
@@ -238,12 +229,12 @@ void mutex_enter(kmutex_t *mutex), mutex_exit(kmutex_t *mutex);
 #define bcanputnext(q, band) bcanput((q)->q_next, band)
 #define canputnext(q) bcanput((q)->q_next, 0)
 #define qreply(q, mp) putnext(OTHERQ(q), mp)
-#define putctl(q, type) strm_ddi_putctl(q, type, 0, 0)
-#define putctl1(q, type, byte) strm_ddi_putctl(q, type, byte, 1)
+#define putctl(q, type) (STRM_DDI_AT, strm_ddi_putctl(q, type, 0, 0))
+#define putctl1(q, type, byte) (STRM_DDI_AT, strm_ddi_putctl(q, type, byte, 1))
 #define putnextctl(q, type) putctl((q)->q_next, type)
 #define putnextctl1(q, type, byte) putctl1((q)->q_next, type, byte)
-#define flushq(q, flag) strm_ddi_flush(q, -1, flag)
-#define flushband(q, band, flag) strm_ddi_flush(q, (uchar_t)(band), flag)
+#define flushq(q, flag) (STRM_DDI_AT, strm_ddi_flush(q, -1, flag))
+#define flushband(q, band, flag) (STRM_DDI_AT, strm_ddi_flush(q, (uchar_t)(band), flag))
 #define appq(q, after, mp) insq(q, (after) ? (after)->b_next : (q)->q_first, mp)
 #define allocb_wait(size, priority, flags, error) allocb(size, priority)
 #define allocb_cred(size, credentials, pid) allocb(size, BPRI_MED)

@@ -137,7 +137,7 @@ void close_part(strhead_t *head, int place)
     struct frame frame;
     ddi_enter(&frame, q, "close");
     q->q_qinfo->qi_qclose(q, 0, NULL);
-    ddi_leave();
+    ddi_leave(&frame);
 }
 
 void serve_next(void)

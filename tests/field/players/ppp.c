@@ -349,7 +349,7 @@ static void act(void)
     actions[k].act();
     if (once_in(400))
         relink();
-    ddi_leave();
+    ddi_leave(&frame);
 }
 
 static void begin(void)
