@@ -2,9 +2,9 @@
 use Rattle.std.proofs.Common.{◌≡◌, ℕ, zero, suc, ◌+◌, ◌<◌, ◌≤◌, ◌==◌, ◌&&◌, Bool, true, false, List, [], ◌∷◌, ◌++◌, Option, Some, None, refl, ap, ◌∙◌, inl, inr, arith, if◌then◌else◌, ◌^◌, length, get_or, length-append, ◌≢◌, ◌-◌, set, sym, length-set, subst}
 use Rattle.std.specs.Prelude.{nat_le, nat_lt, sum_by, is_some}
 use Rattle.std.specs.List.{All, flat_map, range_with_len}
-use Rattle.std.proofs.lemmas.Bool.{cases_Bool, cases_lt, cond-true, cond-false, eq-eqb, lt-leb, ne_eqb}
+use Rattle.std.proofs.lemmas.Bool.{cases_Bool, cases_lt, cond-true, cond-false, eq-eqb, false≢true, lt-leb, ne_eqb}
 use Rattle.std.proofs.lemmas.Bool.Decides.{nat_tests}
-use Rattle.std.proofs.lemmas.List.{get_or_past, get_or-replicate, length-replicate, append_assoc}
+use Rattle.std.proofs.lemmas.List.{get_or_past, get_or-replicate, length-replicate, append_assoc, set-get_or}
 use Rattle.std.proofs.lemmas.List.Sums.{sum_by-append, sum_by-cons, sum_by-le, sum_by-le-sum_by, sum_by_push}
 use Rattle.strm_data.specs.CountedStore.{IsKept}
 use Rattle.strm_data.specs.DataStore.{DataBlock, DataStore, no_data_block}
@@ -14,18 +14,20 @@ use Rattle.strm_mblk.specs.Arena.{Arena, IsWithin, blocks_in, census_of, counted
 use Rattle.strm_mblk.specs.Block.{Block, Message, head_of, size_of}
 use Rattle.strm_mblk.specs.Limits.{most_message_blocks}
 use Rattle.strm_mblk.specs.Messages.{blocks_on, put_before_head, shelf_in}
-use Rattle.strm_links.specs.Rows.{IsApart, first, has, last}
+use Rattle.strm_links.specs.Rows.{IsApart, first, has, is_some_of, last}
 use Rattle.strm_mblk.proofs.arena.Stands.{heads_room}
+use Rattle.strm_links.proofs.lists.OneList.{is_some_of-same}
 use Rattle.strm_queue.specs.Flow.{band_count, band_of_rank, bytes_on, every_band, is_of_band, fills}
 use Rattle.strm_queue.specs.Limits.{bands, ranks}
 use Rattle.strm_queue.specs.Rank.{rank_of, is_ordered}
 use Rattle.strm_queue.specs.declared.tally.Placed.{Placed}
 use Rattle.strm_queue.specs.Ends.{first_of_rank, last_of_rank, of_rank}
-use Rattle.strm_queue.specs.Tallies.{IsMarkTrue, IsNumbered, IsTallyOf, Tally, count_of, end_after_joining, end_after_leaving, first_in, last_in, no_tally, one_less, one_more, with_full_mark, with_count, with_ends}
+use Rattle.strm_queue.specs.Tallies.{AreEndsOf, IsMarkTrue, IsNumbered, IsTallyOf, IsUseTrue, Tally, count_of, end_after_joining, end_after_leaving, first_in, last_in, no_tally, one_less, one_more, with_full_mark, with_count, with_ends}
 use Rattle.strm_queue.proofs.Lists.{get_or-replicate_same}
+use Rattle.strm_queue.proofs.bands.Used.{set_still}
 use Rattle.strm_queue.proofs.bands.Bands.{has_band_where, length-bands_where, length_every_band}
 use Rattle.strm_queue.proofs.Shelf.{at_there, first_there, heads, last_there}
-use Rattle.strm_queue.proofs.order.Ends.{first_joined, first_left, joins_last, last_joined, last_left, leaves_first, of_rank-other}
+use Rattle.strm_queue.proofs.order.Ends.{first_joined, first_left, joins_last, last_joined, last_left, leaves_first, more_behind, of_rank-other}
 use Rattle.std.proofs.lemmas.Grind.{common_steps}
 
 -- ---- the bytes of messages: of all, and of those of a band
@@ -223,6 +225,31 @@ numbered a parted few q s pre post m p is placed = record {
 pub mark_true : (s : DataStore) (hiwat : ℕ → ℕ) (ms : List Message) (t : Tally) → IsTallyOf s hiwat ms t → (r : ℕ) → IsMarkTrue (hiwat (band_of_rank r)) (band_of_rank r) t
 mark_true s hiwat ms t is r = is.full (band_of_rank r) (band_of_rank_range r) ∙ ap (fills (hiwat (band_of_rank r))) (sym (is.counts (band_of_rank r) (band_of_rank_range r)))
 
+-- the mark of a rank says whether it has messages
+pub use_true : (rank : Message → ℕ) (ms : List Message) (t : Tally) → AreEndsOf rank ms t → (r : ℕ) → IsUseTrue r t
+use_true rank ms t ends r = λ within. ends.used r (omega (arith, within, ends.each_used)) ∙ ap is_some (sym (ends.firsts r))
+
+module _ (hiwat : ℕ) (p : Placed) (t : Tally) (used : IsUseTrue p.rank t) where
+  abbrev its_band : ℕ
+  its_band = band_of_rank p.rank
+
+  -- the first message leaves, and another one of its rank is behind it
+  pub left_front : first_in t p.rank ≡ Some p.head → is_some p.behind ≡ true → is_some_of p.head (last_in t p.rank) ≡ false
+      → (let u = with_count hiwat its_band (count_of t its_band - p.size) (record t { len = t.len - 1; bytes = t.bytes - p.size }) in record u { firsts = set t.firsts p.rank p.behind }) ≡ one_less hiwat p t
+  left_front front some other =
+      let first : end_after_leaving (first_in t p.rank) (last_in t p.rank) p.behind p.head ≡ p.behind =
+      cond-true _ _ _ (ap (is_some_of p.head) front ∙ eq-eqb p.head p.head refl) ∙ cond-false _ _ _ other in
+      let last : end_after_leaving (last_in t p.rank) (first_in t p.rank) p.ahead p.head ≡ last_in t p.rank = cond-false _ _ _ other in
+      λ i. record {
+        len = t.len - 1;
+        bytes = t.bytes - p.size;
+        counts = set t.counts its_band (count_of t its_band - p.size);
+        full = set t.full its_band (fills hiwat (count_of t its_band - p.size));
+        firsts = set t.firsts p.rank (sym first i);
+        lasts = (sym (ap (set t.lasts p.rank) last ∙ set-get_or t.lasts p.rank None)) i;
+        used = (sym (ap (λ o. set t.used p.rank (is_some o)) first ∙ set_still t.used p.rank (is_some p.behind) (λ within. used within ∙ ap is_some front ∙ sym some))) i;
+      }
+
 -- a list that agrees with f still does after f's value is set at one place
 at_set : {X : Type 0} (f : ℕ → X) (xs : List X) (k : ℕ) (v d : X) (x : ℕ) → (x ≡ k → k < length xs) → v ≡ f k → (x ≢ k → get_or xs x d ≡ f x) → get_or (set xs k v) x d ≡ f x
 at_set f xs k v d x inside new old = grind (arith, common_steps)
@@ -330,6 +357,12 @@ module _ (s : DataStore) (m : Message) where
       pub leaves_first_of_rank : is_ordered (rank_of s) (pre ++ m ∷ post) ≡ true → IsApart (heads (pre ++ m ∷ post)) → p.ahead ≡ None → first_in t p.rank ≡ Some p.head
       leaves_first_of_rank ordered apart none =
           ap (first_in t) placed.rank ∙ is.ends.firsts (rank_of s m) ∙ leaves_first (rank_of s) pre post m ordered apart (sym placed.ahead ∙ none) ∙ ap Some (sym placed.head)
+
+      -- one that is not the last of its rank has one after it
+      pub leaves_more : is_ordered (rank_of s) (pre ++ m ∷ post) ≡ true → IsApart (heads (pre ++ m ∷ post)) → is_some_of p.head (last_in t p.rank) ≡ false → is_some p.behind ≡ true
+      leaves_more ordered apart other =
+          ap is_some placed.behind
+          ∙ more_behind (rank_of s) pre post m ordered apart (λ last. false≢true (sym other ∙ is_some_of-same p.head (last_in t p.rank) (ap (last_in t) placed.rank ∙ is.ends.lasts (rank_of s m) ∙ last ∙ ap Some (sym placed.head))))
 
       -- its bytes are among those of all
       pub leaves_all : p.size ≤ t.bytes

@@ -135,6 +135,15 @@ pub first_of : (h : ℕ) (ms : List Message) → first (heads ms) ≡ Some h →
 first_of h [] is = absurd (none-some h is)
 first_of h (x ∷ xs) is = record { at = x; post = xs; is = refl; head = same_Some _ _ is }
 
+-- none is before the first one
+pub before_first : (h : ℕ) (xs : List ℕ) → first xs ≡ Some h → before h xs ≡ None
+before_first h [] is = absurd (none-some h is)
+before_first h (x ∷ xs) is = cond-true _ _ _ (eq-eqb x h (same_Some _ _ is))
+
+-- a message of a shelf is on one
+pub on_some_shelf : (a : Arena) (s h : ℕ) → is_on a s h ≡ true → is_some (shelf_of a h) ≡ true
+on_some_shelf a s h there = shelf_of-there a s h there
+
 -- the first message after a place is on the shelf
 pub first_there : (h : ℕ) (pre post : List Message) → first (heads post) ≡ Some h → has h (heads (pre ++ post)) ≡ true
 first_there h pre [] is = absurd (none-some h is)
@@ -165,6 +174,12 @@ module _ (pre post : List Message) (x : Message) (apart : IsApart (heads (pre ++
 
   pub before-head : before (head_of x) (heads (pre ++ x ∷ post)) ≡ last (heads pre)
   before-head = ap (before (head_of x)) (heads-append pre (x ∷ post)) ∙ before-at (heads pre) (heads post) (head_of x) no_other.0
+
+-- no message is after the last one
+pub after_last : (h : ℕ) (ms : List Message) → IsApart (heads ms) → last (heads ms) ≡ Some h → after h (heads ms) ≡ None
+after_last h ms apart is =
+    let parts = last_of h ms is in
+    (λ i. after (sym parts.head i) (heads (parts.is i))) ∙ after-head parts.pre [] parts.at (subst (λ xs. IsApart (heads xs)) parts.is apart)
 
 -- ---- one joins
 

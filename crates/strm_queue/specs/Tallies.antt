@@ -76,6 +76,10 @@ pub record IsNumbered (p : Placed) : Type 0 where
 abbrev pub IsMarkTrue : ℕ → ℕ → Tally → Type 0
 IsMarkTrue hiwat band t = has_band t.full band ≡ fills hiwat (count_of t band)
 
+-- the stored mark of a rank, if there is one, says whether it has messages
+abbrev pub IsUseTrue : ℕ → Tally → Type 0
+IsUseTrue r t = r < length t.used → has_band t.used r ≡ is_some (first_in t r)
+
 -- a band is stored with n bytes, and with its full mark by this high water mark
 abbrev pub with_count : ℕ → ℕ → ℕ → Tally → Tally
 with_count hiwat band n t = record t { counts = slice_set t.counts band n; full = slice_set t.full band (fills hiwat n) }

@@ -1,5 +1,5 @@
 //! Queues by number: what is stored of each, and the laws that the calls on them keep.
-ghost use Rattle.std.specs.Prelude.{◌≡◌, ◌+◌, ◌<◌, ◌≤◌, ◌^◌, ℕ, IfOk, IsTrue, None, Some, length, nat_lt, reverse, sum_by};
+ghost use Rattle.std.specs.Prelude.{◌≡◌, ◌+◌, ◌<◌, ◌≤◌, ◌^◌, ℕ, IfOk, IsTrue, None, Some, false, is_some, length, nat_lt, reverse, sum_by, true};
 ghost use Rattle.std.specs.List.{All};
 ghost use Rattle.strm_links.specs.Rows as rows;
 ghost use Rattle.strm_mblk.specs.Arena.{shelf_at};
@@ -10,7 +10,7 @@ ghost use Rattle.strm_queue.specs.QueueSpecs.{are_lawful};
 ghost use Rattle.strm_queue.specs.QueuedBlocks.{Agrees, AreCountsTrue, AreMarksLawful, AreFullMarksTrue, opening_value, tally_at, with_tally};
 ghost use Rattle.strm_queue.specs.QueuesLayout.{new_queue};
 ghost use Rattle.strm_queue.specs.Rank.{is_ordered, rank_of};
-ghost use Rattle.strm_queue.specs.Tallies.{IsMarkTrue, IsNumbered, count_of, end_after_joining, first_in, last_in, one_less, one_more, with_full_mark};
+ghost use Rattle.strm_queue.specs.Tallies.{IsMarkTrue, IsNumbered, IsUseTrue, count_of, end_after_joining, first_in, last_in, one_less, one_more, with_full_mark};
 
 mod asking;
 mod counts;
@@ -171,6 +171,9 @@ impl Queues {
             IsMarkTrue (hiwat_of self.old.state queue band) band (tally_at self.old queue) }
         requires first { placed.ahead ≡ None
             → first_in (tally_at self.old queue) placed.rank ≡ Some placed.head }
+        requires more { rows.is_some_of placed.head (last_in (tally_at self.old queue) placed.rank) ≡ false
+            → is_some placed.behind ≡ true }
+        requires used { IsUseTrue placed.rank (tally_at self.old queue) }
         ensures { self.new ≡ with_tally queue (one_less (hiwat_of self.old.state queue (band_of_rank placed.rank))
             placed (tally_at self.old queue)) self.old }
     {

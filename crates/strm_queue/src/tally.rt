@@ -1,9 +1,10 @@
 //! What is stored of a queue's messages, so that `qsize`, `bcanput` and `putq` walk along no list.
-ghost use Rattle.std.specs.Prelude.{◌≡◌, ◌+◌, ◌-◌, ◌<◌, ◌≤◌, ◌^◌, ℕ, false, None, Some, is_some};
+ghost use Rattle.std.specs.Prelude.{◌≡◌, ◌+◌, ◌-◌, ◌<◌, ◌≤◌, ◌^◌, ℕ, false, None, Some, is_some, true};
 ghost use Rattle.std.specs.Option.{ForSome, IfNone, IfSome};
 ghost use Rattle.strm_queue.specs.Flow.{band_of_rank, has_band};
+ghost use Rattle.strm_links.specs.Rows.{is_some_of};
 ghost use Rattle.strm_queue.specs.Limits.{ranks};
-ghost use Rattle.strm_queue.specs.Tallies.{IsMarkTrue, IsNumbered, IsRankFrom, IsRankTo, count_of, end_after_joining, end_after_leaving, first_in, has_rank, last_in, no_tally, one_less, one_more, with_full_mark, with_count, with_ends};
+ghost use Rattle.strm_queue.specs.Tallies.{IsMarkTrue, IsNumbered, IsRankFrom, IsRankTo, IsUseTrue, count_of, end_after_joining, end_after_leaving, first_in, has_rank, last_in, no_tally, one_less, one_more, with_full_mark, with_count, with_ends};
 
 use crate::band_set::BandSet;
 use crate::limits::{BANDS, HIGH_RANK, RANKS};
@@ -185,6 +186,7 @@ impl Tally {
 
     // Counts out a message that has left the queue; `hiwat` is the high water mark of its band.
     #[inline(always)]
+    #[tactic(auto, using(crate::proofs::Counting::left_front, crate::proofs::bands::Used::used_still))]
     pub(crate) fn leave(&mut self, hiwat: u32, placed: Placed)
         requires rank { placed.rank < ranks }
         requires numbered { IsNumbered placed }
@@ -193,6 +195,8 @@ impl Tally {
         requires count { placed.size ≤ count_of self.old (band_of_rank placed.rank) }
         requires marked { IsMarkTrue hiwat (band_of_rank placed.rank) self.old }
         requires first { placed.ahead ≡ None → first_in self.old placed.rank ≡ Some placed.head }
+        requires more { is_some_of placed.head (last_in self.old placed.rank) ≡ false → is_some placed.behind ≡ true }
+        requires used { IsUseTrue placed.rank self.old }
         ensures { self.new ≡ one_less hiwat placed self.old }
     {
         let Placed {
@@ -207,9 +211,10 @@ impl Tally {
         self.bytes -= size;
         self.shrink(hiwat, band, size);
         let last = self.lasts[usize::from(rank)];
-        // Most messages are the queue's first, and not the last of their rank. Then the next one is of the same rank.
-        if ahead.is_none() && behind.is_some() && !last.is(head) {
-            self.set_ends(rank, Slot::of(behind), last, true);
+        // Most messages are the queue's first, and not the last of their rank. Then the next one is of the same rank, and only the
+        // rank's first one changes.
+        if ahead.is_none() && !last.is(head) {
+            self.firsts[usize::from(rank)] = Slot::of(behind);
             return;
         }
         let first = first_before_leaving(self.firsts[usize::from(rank)], ahead, head);

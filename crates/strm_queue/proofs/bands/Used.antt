@@ -1,11 +1,11 @@
 -- Bits of bands, and the bands that are used.
-use Rattle.std.proofs.Common.{◌≡◌, ℕ, suc, ◌+◌, ◌-◌, ◌*◌, ◌/◌, ◌%◌, ◌^◌, ◌<◌, ◌≤◌, pow-suc, w64, inl, inr, sym, ap, ◌∙◌, arith, Bool, false, List, length, get_or, set, Option, None}
+use Rattle.std.proofs.Common.{◌≡◌, ℕ, zero, suc, ◌+◌, ◌-◌, ◌*◌, ◌/◌, ◌%◌, ◌^◌, ◌<◌, ◌≤◌, pow-suc, w64, inl, inr, sym, ap, ◌∙◌, arith, Bool, false, List, length, get_or, set, Option, None}
 use Rattle.std.specs.Int.{Width, bit_at, leading_zeros, trailing_zeros}
 use Rattle.std.proofs.lemmas.Bool.{cases_lt}
 use Rattle.std.proofs.lemmas.Nat.{leading_top, mod_below, pow_pos, shr-shr, shr_high, shr_le, shr_split}
 use Rattle.std.proofs.lemmas.Nat.Bits.{bit_at-trailing_zeros, bit_at-zero, bit_at_above, bit_at_cat_high, bit_at_cat_low}
 use Rattle.std.specs.Prelude.{is_some}
-use Rattle.std.proofs.lemmas.List.{get_or-set_other, get_or-set_same, set-get_or, set-set, set_comm}
+use Rattle.std.proofs.lemmas.List.{get_or-set_other, get_or-set_same, set-get_or, set-set, set_comm, set_past}
 use mir.Val.{bits}
 use Rattle.strm_queue.specs.BandSets.{IsHighestTo, IsLowestFrom}
 use Rattle.strm_queue.specs.Flow.{bands_where}
@@ -136,3 +136,16 @@ module _ (firsts : List (Option ℕ)) (used : List Bool) where
   used_above r first so some =
       ap (λ o. set (set used r so) 0 (is_some o)) (get_or-set_other firsts r 0 first None (λ same. omega (arith, some, same)))
       ∙ set_comm used r 0 so (is_some (get_or firsts 0 None)) (λ same. omega (arith, some, same))
+
+  -- a rank keeps a first message
+  pub used_still : (r : ℕ) (first : Option ℕ) → r < length firsts → is_some (get_or firsts r None) ≡ is_some first → set used 0 (is_some (get_or (set firsts r first) 0 None)) ≡ whole
+  used_still zero first within same = ap (λ o. set used 0 (is_some o)) (get_or-set_same firsts 0 first None within) ∙ ap (set used 0) (sym same)
+  used_still (suc r) first within same = ap (λ o. set used 0 (is_some o)) (get_or-set_other firsts (suc r) 0 first None (λ same. omega (arith, same)))
+
+-- a mark that is set as it was
+pub set_still : (marks : List Bool) (r : ℕ) (so : Bool) → (r < length marks → get_or marks r false ≡ so) → set marks r so ≡ marks
+set_still marks r so is =
+    elim (cases_lt r (length marks)) [
+      | inl there ↦ ap (set marks r) (sym (is there)) ∙ set-get_or marks r false
+      | inr past ↦ set_past marks r so past
+    ]

@@ -1,7 +1,7 @@
 -- The first and the last message of each rank, when a message joins ordered messages or leaves them.
 use Rattle.std.proofs.Common.{◌≡◌, ◌≢◌, ◌⊎◌, ℕ, ◌<◌, Bool, true, false, ◌==◌, List, [], ◌∷◌, ◌++◌, Option, Some, None, refl, sym, ap, ◌∙◌, subst, inl, inr, arith}
 use Rattle.std.proofs.lemmas.Grind.{common_steps}
-use Rattle.std.specs.Prelude.{nat_le, cond, if◌then◌else◌}
+use Rattle.std.specs.Prelude.{nat_le, cond, is_some, if◌then◌else◌}
 use Rattle.std.specs.List.{list_all}
 use Rattle.std.specs.Option.{option_or}
 use Rattle.std.proofs.lemmas.Bool.{and_parts, cases_eq, cond-true, cond-false, eq-eqb, false≢true, leb-true, lt-leb, ne_eqb}
@@ -253,6 +253,14 @@ module _ (rank : Message → ℕ) where
     -- a message that goes last is the last of its rank
     pub joins_last : first (heads post) ≡ None → end_after_joining (last_of_rank rank (rank m) (pre ++ post)) (last (heads pre)) (head_of m) ≡ Some (head_of m)
     joins_last none = last_joined ∙ last_end.whole_is ∙ ap (λ ms. option_or (last_of_rank rank (rank m) ms) (Some (head_of m))) (first_none post none)
+
+    -- if a message is not the last of its rank, there is one after it
+    pub more_behind : last_of_rank rank (rank m) (pre ++ m ∷ post) ≢ Some (head_of m) → is_some (first (heads post)) ≡ true
+    more_behind other =
+        elim (first (heads post)) as (λ o. first (heads post) ≡ o → is_some o ≡ true) [
+          | None ↦ λ none. absurd (other (last_end.whole_is ∙ ap (λ ms. option_or (last_of_rank rank (rank m) ms) (Some (head_of m))) (first_none post none)))
+          | Some h ↦ λ some. refl
+        ] refl
 
     -- and one that is first is the first of its rank
     pub leaves_first : last (heads pre) ≡ None → first_of_rank rank (rank m) (pre ++ m ∷ post) ≡ Some (head_of m)

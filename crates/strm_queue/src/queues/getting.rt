@@ -38,7 +38,7 @@ impl Queues {
             self.set_read(queue, true);
             return Ok(None);
         };
-        let token = self.unshelve(blocks, queue, head);
+        let token = self.unshelve_first(blocks, queue, head);
         self.settle(queue);
         self.set_read(queue, false);
         Ok(Some(token))

@@ -150,6 +150,10 @@ impl Queues {
     {
         blocks.lawful();
         if let Some(last) = self.tally(queue).last(rank).get() {
+            // Most messages go last on the queue.
+            if blocks.last(queue) == Some(last) {
+                return Slot::none();
+            }
             return Slot::of(blocks.after(last));
         }
         self.place_above(blocks, queue, rank)

@@ -1,5 +1,5 @@
 //! Messages join and leave a queue's shelf, and what is stored of the queue stays true.
-ghost use Rattle.std.specs.Prelude.{Ok, ◌≡◌, ◌<◌, IsTrue, length};
+ghost use Rattle.std.specs.Prelude.{Ok, Some, ◌≡◌, ◌<◌, IsTrue, length};
 ghost use Rattle.std.specs.Option.{ForSome};
 ghost use Rattle.strm_links.specs.Rows as rows;
 ghost use Rattle.strm_mblk.specs.Arena.{has, with_shelf, without_held};
@@ -77,6 +77,26 @@ impl Queues {
             ),
             _ => self.unshelve_behind(blocks, queue, ahead, head),
         }
+    }
+
+    // Does what `unshelve` does, for the first message of a queue.
+    #[inline(always)]
+    #[tactic(auto, using(crate::proofs::Shelf::before_first, crate::proofs::Shelf::on_some_shelf))]
+    pub(super) fn unshelve_first(&mut self, blocks: &mut Blocks, queue: u8, head: BlockNo) -> Token
+        requires queue { queue < length self.old.state.specs }
+        requires in_order { AreInOrder self.old blocks.old }
+        requires first { rows.first (heads_at blocks.old queue) ≡ Some head }
+        requires there { IsTrue (is_on blocks.old queue head) }
+        ensures takes { Takes itself (Ok (head, model.unshelve queue head blocks.old))
+            blocks.old blocks.new (Ok result) }
+        ensures state { self.new.state ≡ self.old.state }
+        ensures in_order { AreInOrder self.new blocks.new }
+    {
+        // Most messages are of a band. Each call is inlined, and the first one is then shorter.
+        if queued_rank(blocks, head) < HIGH_RANK {
+            return self.unshelve_behind(blocks, queue, None, head);
+        }
+        self.unshelve(blocks, queue, head)
     }
 
     // Does what `unshelve` does. It is not inlined, so that a flush goes faster over messages that it leaves.

@@ -9,7 +9,7 @@ use Rattle.strm_queue.specs.Tallies.{IsTallyOf}
 use Rattle.strm_queue.specs.Rank.{is_ordered, rank_of}
 use Rattle.strm_queue.proofs.Shelf.{shelved_message_at, Parts, parts_of, unshelved, heads, after-head, before-head}
 use Rattle.strm_queue.proofs.Agreeing.{in_order_got}
-use Rattle.strm_queue.proofs.Counting.{leaves_all, leaves_enough, leaves_first_of_rank, mark_true, numbered, IsPlaced}
+use Rattle.strm_queue.proofs.Counting.{leaves_all, leaves_enough, leaves_first_of_rank, leaves_more, mark_true, numbered, use_true, IsPlaced}
 use Rattle.strm_queue.proofs.queues.Queues.unshelve_behind.Goals as goal
 use Rattle.strm_queue.proofs.queues.Queues.unshelve_behind.Goals.{After-after}
 use Rattle.strm_links.specs.Rows.{IsApart, after, before}
@@ -75,6 +75,15 @@ leave-requires-clause-count c =
 pub leave-requires-clause-marked : goal.leave-requires-clause-marked
 leave-requires-clause-marked c =
     mark_true c.args.blocks.now.store (hiwat_of c.args.self.now.state c.args.queue) (shelf_at c.args.blocks.now c.args.queue) (tally_at c.args.self.now c.args.queue) (c.requires.in_order.true_of c.args.queue c.requires.queue) c.queued_rank.result
+
+pub leave-requires-clause-more : goal.leave-requires-clause-more
+leave-requires-clause-more c =
+    let at = (goal.at.leave-requires-clause-more c).After-after in
+    leaves_more c.args.blocks.now.store (parts at).at (hiwat_of c.args.self.now.state c.args.queue) (tally_at c.args.self.now c.args.queue) (parts at).pre (parts at).post (own at) (placed at) (true_of at)
+    (subst (λ ms. is_ordered (rank_of c.args.blocks.now.store) ms ≡ true) (parts at).is (c.requires.in_order.ordered c.args.queue)) (apart at)
+
+pub leave-requires-clause-used : goal.leave-requires-clause-used
+leave-requires-clause-used c = use_true (rank_of c.args.blocks.now.store) (shelf_at c.args.blocks.now c.args.queue) (tally_at c.args.self.now c.args.queue) (c.requires.in_order.true_of c.args.queue c.requires.queue).ends c.queued_rank.result
 
 pub leave-requires-clause-first : goal.leave-requires-clause-first
 leave-requires-clause-first c =
