@@ -1,7 +1,7 @@
 -- Calls that read.
-use Rattle.std.proofs.Common.{◌≡◌, ℕ, suc, ◌+◌, ◌-◌, ◌<◌, ◌≤◌, List, [], ◌∷◌, ◌++◌, length, take, drop, true, Some, None, refl, sym, ap, subst, ◌∙◌, inl, inr, arith, length-append, ◌*◌, ◌^◌, Bool, false}
-use Rattle.std.specs.Prelude.{◌⊎◌, min, option_map, slice_get, sum_by, ◌||◌, if◌then◌else◌}
-use Rattle.std.proofs.lemmas.List.{append-nil, drop-map, drop_all, get_or_past, length-drop, length-map, take-append-le}
+use Rattle.std.proofs.Common.{◌≡◌, ℕ, suc, ◌+◌, ◌-◌, ◌<◌, ◌≤◌, List, [], ◌∷◌, ◌++◌, length, take, drop, true, Some, None, refl, sym, ap, ◌∙◌, inl, inr, arith, length-append, ◌*◌, ◌^◌, Bool, false}
+use Rattle.std.specs.Prelude.{min, option_map, slice_get, sum_by, ◌||◌, if◌then◌else◌}
+use Rattle.std.proofs.lemmas.List.{append-nil, drop_all, get_or_past, length-drop, length-map}
 use Rattle.std.proofs.lemmas.Bool.{cases_lt}
 use Rattle.std.proofs.lemmas.List.Sums.{sum_by-append}
 use Rattle.std.proofs.lemmas.Option.{none-some, same_Some, slice_get-map}
@@ -20,7 +20,7 @@ use Rattle.strm_mblk.specs.BlocksLayout.{IsFilled, IsPlaced, arena_of, block_at,
 use Rattle.strm_mblk.specs.NodeLists.{NodeLists, nodes_at}
 use Rattle.strm_mblk.specs.Messages.{blocks_of}
 use Rattle.strm_mblk.specs.Limits.{most_message_blocks}
-use Rattle.strm_mblk.proofs.Altering.{from_block, size_parts}
+use Rattle.strm_mblk.proofs.Altering.{from_block}
 use Rattle.strm_mblk.proofs.Lists.{drop-append, drop_from, IsLaid, laid_all, flat_map-set_adds, length_adds}
 use Rattle.strm_mblk.proofs.layout.Places.{block_none, block_some, held_nodes}
 use Rattle.strm_mblk.proofs.arena.Counts.{had_message, held_within}
@@ -81,10 +81,16 @@ module _ (s : DataStore) (fields : List Fields) (placed : (n : ℕ) → n < leng
   pub sized : length (bytes_of s (message_of fields ns)) ≡ size_of (message_of fields ns)
   sized = length-bytes_of s (message_of fields ns) sized_block
 
--- also those of a message from a block on
-pub sized_from : (s : DataStore) (fields : List Fields) → ((n : ℕ) → n < length fields → IsPlaced s (fields_at fields n)) → (ns : List ℕ) (k : ℕ)
-    → length (bytes_of s (drop k (message_of fields ns))) ≡ size_of (drop k (message_of fields ns))
-sized_from s fields placed ns k = subst (λ bs. length (bytes_of s bs) ≡ size_of bs) (sym (drop-map (block_at fields) k ns)) (sized s fields placed (drop k ns))
+-- the bytes from a place on are those from the block on that has the place
+pub bytes_from_start : (s : DataStore) (fields : List Fields) → ((n : ℕ) → n < length fields → IsPlaced s (fields_at fields n)) → (ns : List ℕ) (k skip at : ℕ) → size_of (take k (message_of fields ns)) + skip ≡ at
+    → drop at (bytes_of s (message_of fields ns)) ≡ drop skip (bytes_of s (drop k (message_of fields ns)))
+bytes_from_start s fields placed ns k skip at before =
+    from_block (λ p bs. drop p (bytes_of s bs)) (λ b. length (bytes_of_block s b) ≡ b.len) past (message_of fields ns) (sized_block s fields placed ns) k skip at before
+  where
+    past : (p : ℕ) (b : Block) (bs : Message) → length (bytes_of_block s b) ≡ b.len → b.len ≤ p → drop p (bytes_of s (b ∷ bs)) ≡ drop (p - b.len) (bytes_of s bs)
+    past p b bs long passed =
+        let own = bytes_of_block s b in
+        drop-append p own (bytes_of s bs) ∙ ap (λ xs. xs ++ drop (p - length own) (bytes_of s bs)) (drop_all p own (omega (arith, passed, long))) ∙ ap (λ l. drop (p - l) (bytes_of s bs)) long
 
 -- once the bytes of a message from a place on are laid there, they are read
 pub read_all : (s : DataStore) (m : Message) → length (bytes_of s m) ≡ size_of m → (at done : ℕ) (rest old now : List ℕ) → rest ≡ [] → IsLaid (drop at (bytes_of s m)) rest old now done → IsRead s m at old now done
@@ -98,37 +104,6 @@ read_one s b at count old now counted is =
       count = counted ∙ ap (λ n. min (length old) (n - at)) size;
       bytes = is ∙ ap (λ bs. take count (drop at bs) ++ drop count old) (sym (append-nil (bytes_of_block s b)));
     }
-
--- once those of its first block are, too, if there are no others or there is no more room
-pub read_first : (s : DataStore) (n : ℕ) (f : Fields) → IsPlaced s f → (m : Message) (at count : ℕ) (old now : List ℕ) → count ≡ min (length old) (f.len - at)
-    → now ≡ take count (drop at (bytes_of_block s (block_of n f))) ++ drop count old → (m ≡ []) ⊎ (length old ≤ f.len - at) → IsRead s (block_of n f ∷ m) at old now count
-read_first s n f placed m at count old now counted is (inl none) = subst (λ bs. IsRead s (block_of n f ∷ bs) at old now count) (sym none) (read_one s (block_of n f) at count old now counted is)
-read_first s n f placed m at count old now counted is (inr full) =
-    let own = bytes_of_block s (block_of n f) in
-    let behind = drop (at - length own) (bytes_of s m) in
-    let long : length own ≡ f.len = length-bytes_of_block s n f placed in
-    let few : count ≤ length (drop at own) = omega (arith, counted, full, long, length-drop at own) in
-    record {
-      count = omega (arith, counted, full, sum_by-append (λ (c : Block). c.len) (block_of n f ∷ []) m);
-      bytes = is ∙ ap (λ bs. bs ++ drop count old) (sym (ap (take count) (drop-append at own (bytes_of s m)) ∙ take-append-le count (drop at own) behind few));
-    }
-
--- once those from the block on are that has the place
-pub read_from : (s : DataStore) (fields : List Fields) → ((n : ℕ) → n < length fields → IsPlaced s (fields_at fields n)) → (ns : List ℕ) (k skip at : ℕ) → size_of (take k (message_of fields ns)) + skip ≡ at
-    → (old now : List ℕ) (done : ℕ) → IsRead s (drop k (message_of fields ns)) skip old now done → IsRead s (message_of fields ns) at old now done
-read_from s fields placed ns k skip at before old now done read =
-    let m = message_of fields ns in
-    let bytes : drop at (bytes_of s m) ≡ drop skip (bytes_of s (drop k m)) =
-    from_block (λ p bs. drop p (bytes_of s bs)) (λ b. length (bytes_of_block s b) ≡ b.len) bytes_past m (sized_block s fields placed ns) k skip at before in
-    record {
-      count = read.count ∙ ap (min (length old)) (omega (arith, before, size_parts m k));
-      bytes = read.bytes ∙ ap (λ bs. take done bs ++ drop done old) (sym bytes);
-    }
-  where
-    bytes_past : (p : ℕ) (b : Block) (bs : Message) → length (bytes_of_block s b) ≡ b.len → b.len ≤ p → drop p (bytes_of s (b ∷ bs)) ≡ drop (p - b.len) (bytes_of s bs)
-    bytes_past p b bs long past =
-        let own = bytes_of_block s b in
-        drop-append p own (bytes_of s bs) ∙ ap (λ xs. xs ++ drop (p - length own) (bytes_of s bs)) (drop_all p own (omega (arith, past, long))) ∙ ap (λ l. drop (p - l) (bytes_of s bs)) long
 
 module _ (id : ℕ) (s : CountedStore) (fields : List Fields) (v : NodeLists) (filled : IsFilled s fields v (arena_of id s.store fields v)) (a : Arena) (is : arena_of id s.store fields v ≡ a) (t : TokenValue) (had : has a t ≡ true) where
   -- each block of a held message has as many bytes as it says

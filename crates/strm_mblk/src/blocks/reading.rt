@@ -1,12 +1,12 @@
 //! The sizes of held messages, and their bytes.
-ghost use Rattle.std.specs.Prelude.{◌≡◌, ◌<◌, ◌-◌, ◌++◌, ℕ, IsTrue, Some, drop, length, min, slice_get, sum_by, take};
+ghost use Rattle.std.specs.Prelude.{◌≡◌, ◌<◌, ◌-◌, ◌++◌, ℕ, IsTrue, drop, length, min, sum_by, take};
 ghost use Rattle.strm_data.specs.CountedStore.{IsKept};
 ghost use Rattle.strm_mblk.specs.Arena.{has, message_at};
 ghost use Rattle.strm_links.specs.StrandLists.{strand_at};
 ghost use Rattle.strm_mblk.specs.BlocksLayout.{IsPlaced, IsReadable, IsSummable, block_of, message_of};
 ghost use Rattle.strm_mblk.specs.Block.{bytes_of, bytes_of_block, data_size_of, len_counted, size_of};
 
-use super::finding::{Start, find_byte};
+use super::finding::find_byte;
 use super::{Blocks, Fields};
 use crate::token::Token;
 use strm_data::{Data, MsgType};
@@ -67,7 +67,7 @@ fn read_block(stored: &Data, fields: Fields, at: u32, into: &mut [u8]) -> usize
 
 // Copies the bytes of a message from place `at` on into `into`, as far as both reach, and returns their number. Takes a
 // step and at most one slice copy for each block up to the last one that is read.
-// Most reads are of one block, for which no loop copies.
+// Most messages have one block, for which no loop runs.
 pub(super) fn read_bytes(
     strands: &Strands,
     blocks: &[Fields],
@@ -83,34 +83,30 @@ pub(super) fn read_bytes(
         (drop at (bytes_of stored.now.store (message_of blocks.now (strand_at strands.now head))))
         ++ drop result into.old }
 {
-    let start = find_byte(strands, blocks, head, at);
-    let fields = blocks[start.node as usize];
-    let is_last = strands.len(head) - start.block == 1;
-    if is_last || into.len() <= fields.len.saturating_sub(start.at) as usize {
-        return read_block(stored, fields, start.at, into);
+    if strands.len(head) == 1 {
+        return read_block(stored, blocks[head as usize], at, into);
     }
-    read_across(strands, blocks, stored, head, start, into)
+    read_across(strands, blocks, stored, head, at, into)
 }
 
-// Does what `read_bytes` does, block by block from this start on.
+// Does what `read_bytes` does, block by block from the one that has byte `at` on.
 #[inline(never)]
 fn read_across(
     strands: &Strands,
     blocks: &[Fields],
     stored: &Data,
     head: u32,
-    start: Start,
+    at: u32,
     into: &mut [u8],
 ) -> usize
-    requires readable { IsReadable strands.now blocks.now stored.now head }
-    requires begins { slice_get (strand_at strands.now head) start.block ≡ Some start.node }
-    requires there { start.node < length strands.now.chains }
+    requires { IsReadable strands.now blocks.now stored.now head }
     ensures count { result ≡ min (length into.old)
-        (size_of (drop start.block (message_of blocks.now (strand_at strands.now head))) - start.at) }
-    ensures bytes { into.new ≡ take result (drop start.at
-        (bytes_of stored.now.store (drop start.block (message_of blocks.now (strand_at strands.now head)))))
+        (size_of (message_of blocks.now (strand_at strands.now head)) - at) }
+    ensures bytes { into.new ≡ take result
+        (drop at (bytes_of stored.now.store (message_of blocks.now (strand_at strands.now head))))
         ++ drop result into.old }
 {
+    let start = find_byte(strands, blocks, head, at);
     let mut skip = start.at;
     let mut done = 0;
     let mut node = start.node;

@@ -6,17 +6,24 @@ use Rattle.std.proofs.lemmas.Option.{slice_get-get_or, slice_get-map, unwrap_or-
 use Rattle.strm_links.specs.StrandLists.{strand_at}
 use Rattle.strm_mblk.specs.Block.{Message, bytes_of, bytes_of_block}
 use Rattle.strm_mblk.specs.BlocksLayout.{IsPlaced, block_at, block_of, fields_at, message_of}
-use Rattle.strm_mblk.proofs.Reading.{IsRead, bytes_from, length-bytes_of_block, read_all, sized_from}
+use Rattle.strm_mblk.proofs.Reading.{IsRead, bytes_from, bytes_from_start, length-bytes_of_block, read_all, sized}
 use Rattle.strm_mblk.proofs.Lists.{put_rest, below, IsLaid, laid_full, laid_on, laid_start}
 use Rattle.strm_mblk.proofs.blocks.reading.read_across.Goals.{In-loop-block, After-loop-block}
 use borrow.Rule.Slice.PartMut.{put_mid}
 use Rattle.strm_mblk.proofs.blocks.reading.read_across.Goals as goal
 
 pub loop-block-init : goal.loop-block-init
-loop-block-init c = record {
-  at = λ some. (c.requires.begins, c.requires.there);
-  laid = laid_start (drop c.args.start.at (bytes_of c.args.stored.now.store (drop c.args.start.block (message_of c.args.blocks.now (strand_at c.args.strands.now c.args.head))))) c.args.into.now;
-}
+loop-block-init c =
+    let store = c.args.stored.now.store in
+    let ns = strand_at c.args.strands.now c.args.head in
+    let all = drop c.args.at (bytes_of store (message_of c.args.blocks.now ns)) in
+    let start = c.find_byte-start.ensures in
+    record {
+      at = λ some. (start.begins, start.there);
+      laid =
+          subst (λ rest. IsLaid all rest c.args.into.now c.args.into.now 0)
+          (bytes_from_start store c.args.blocks.now c.requires.placed ns c.find_byte-start.result.block c.find_byte-start.result.at c.args.at start.before) (laid_start all c.args.into.now);
+    }
 
 module _ (c : In-loop-block) where
   abbrev ns : List ℕ
@@ -29,10 +36,10 @@ module _ (c : In-loop-block) where
   at = c.loop-block.invariant.at (omega (arith, c.loop-block-test.true, c.len-block-end.ensures))
 
   there : c.loop-block.node < length c.args.blocks.now
-  there = omega (arith, at.1, c.requires.readable.listed)
+  there = omega (arith, at.1, c.requires.listed)
 
   placed : IsPlaced c.args.stored.now.store (fields_at c.args.blocks.now c.loop-block.node)
-  placed = c.requires.readable.placed c.loop-block.node there
+  placed = c.requires.placed c.loop-block.node there
 
   block : slice_get m c.loop-block._block ≡ Some (block_at c.args.blocks.now c.loop-block.node)
   block = slice_get-map (block_at c.args.blocks.now) ns c.loop-block._block ∙ ap (option_map (block_at c.args.blocks.now)) at.0
@@ -54,7 +61,7 @@ loop-block-preserved c =
     let node = c.loop-block.node in
     let skip = c.loop-block.skip in
     let f = fields_at c.args.blocks.now node in
-    let all = drop c.args.start.at (bytes_of store (drop c.args.start.block (m before))) in
+    let all = drop c.args.at (bytes_of store (m before)) in
     let own = drop skip (bytes_of_block store (block_of node f)) in
     let rest = drop (skip - f.len) (bytes_of store (drop (k + 1) (m before))) in
     let now = c.loop-block.into in
@@ -84,10 +91,10 @@ loop-block-preserved c =
 
 -- once there is no more room all is read
 read_full : (c : In-loop-block) → c.loop-block.done ≡ length c.loop-block.into
-    → IsRead c.args.stored.now.store (drop c.args.start.block (message_of c.args.blocks.now (strand_at c.args.strands.now c.args.head))) c.args.start.at c.args.into.now c.loop-block.into c.loop-block.done
+    → IsRead c.args.stored.now.store (message_of c.args.blocks.now (strand_at c.args.strands.now c.args.head)) c.args.at c.args.into.now c.loop-block.into c.loop-block.done
 read_full c full =
     let store = c.args.stored.now.store in
-    read_all store (drop c.args.start.block (m c)) (sized_from store c.args.blocks.now c.requires.readable.placed (ns c) c.args.start.block) c.args.start.at c.loop-block.done [] c.args.into.now c.loop-block.into refl (laid_full _ _ _ _ _ full c.loop-block.invariant.laid)
+    read_all store (m c) (sized store c.args.blocks.now c.requires.placed (ns c)) c.args.at c.loop-block.done [] c.args.into.now c.loop-block.into refl (laid_full _ _ _ _ _ full c.loop-block.invariant.laid)
 
 pub returns-then-done-into-clause-count : goal.returns-then-done-into-clause-count
 returns-then-done-into-clause-count c = (read_full (goal.at.returns-then-done-into-clause-count c).In-loop-block c.if-done-into.true).count
@@ -96,13 +103,12 @@ pub returns-then-done-into-clause-bytes : goal.returns-then-done-into-clause-byt
 returns-then-done-into-clause-bytes c = (read_full (goal.at.returns-then-done-into-clause-bytes c).In-loop-block c.if-done-into.true).bytes
 
 -- after the last block too
-read_after : (c : After-loop-block)
-    → IsRead c.args.stored.now.store (drop c.args.start.block (message_of c.args.blocks.now (strand_at c.args.strands.now c.args.head))) c.args.start.at c.args.into.now c.loop-block.into c.loop-block.done
+read_after : (c : After-loop-block) → IsRead c.args.stored.now.store (message_of c.args.blocks.now (strand_at c.args.strands.now c.args.head)) c.args.at c.args.into.now c.loop-block.into c.loop-block.done
 read_after c =
     let ns = strand_at c.args.strands.now c.args.head in
     let m = message_of c.args.blocks.now ns in
     let past : drop c.loop-block._block m ≡ [] = drop_all c.loop-block._block m (omega (arith, c.loop-block-test.false, c.len-block-end.ensures, length-map ns (block_at c.args.blocks.now))) in
-    read_all c.args.stored.now.store (drop c.args.start.block m) (sized_from c.args.stored.now.store c.args.blocks.now c.requires.readable.placed ns c.args.start.block) c.args.start.at c.loop-block.done _ c.args.into.now c.loop-block.into
+    read_all c.args.stored.now.store m (sized c.args.stored.now.store c.args.blocks.now c.requires.placed ns) c.args.at c.loop-block.done _ c.args.into.now c.loop-block.into
     (ap (λ bs. drop c.loop-block.skip (bytes_of c.args.stored.now.store bs)) past ∙ drop-nil c.loop-block.skip) c.loop-block.invariant.laid
 
 pub returns-clause-count : goal.returns-clause-count

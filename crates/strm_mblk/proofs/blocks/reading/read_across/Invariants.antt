@@ -10,5 +10,5 @@ use Rattle.strm_mblk.proofs.blocks.reading.read_across.Given as goal
 abbrev pub invariant-loop-block : goal.invariant-loop-block
 invariant-loop-block l = record {
   at : l._block < length (strand_at l.strands l.head) → (slice_get (strand_at l.strands l.head) l._block ≡ Some l.node) × (l.node < length l.strands.chains);
-  laid : IsLaid (drop l.fn.start.at (bytes_of l.stored.store (drop l.fn.start.block (message_of l.blocks (strand_at l.strands l.head))))) (drop l.skip (bytes_of l.stored.store (drop l._block (message_of l.blocks (strand_at l.strands l.head))))) l.fn.into l.into l.done;
+  laid : IsLaid (drop l.at (bytes_of l.stored.store (message_of l.blocks (strand_at l.strands l.head)))) (drop l.skip (bytes_of l.stored.store (drop l._block (message_of l.blocks (strand_at l.strands l.head))))) l.fn.into l.into l.done;
 }
