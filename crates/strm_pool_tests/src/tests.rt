@@ -10,11 +10,9 @@ mod config;
 mod copies;
 mod in_place;
 mod in_place_rows;
-mod names;
 mod pool;
 mod regs;
 mod rows;
-mod slots;
 mod transfers;
 
 // Two size classes: the size of each, and its number of data blocks.

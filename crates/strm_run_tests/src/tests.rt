@@ -1,8 +1,7 @@
 mod faulty;
-mod input;
-mod output;
 mod runs;
 mod sizes;
+mod streams;
 
 use std::process::Abort;
 use strm_pool::{Refusal, Which};

@@ -1,3 +1,2 @@
 mod report;
 mod script;
-mod transcript;

@@ -1,6 +1,7 @@
 use super::{classes, queues};
 use std::alloc::Global;
 use std::process::Abort;
+use std::test::Fail;
 use strm_pool::{Config, NewFault, Pool, Which};
 
 const CLASSES: [(u32, u32); 2] = [(4, 1), (16, 2)];
@@ -223,4 +224,29 @@ fn opens_at_each_limit(rt: HostRuntime) {
 #[test]
 fn opens_the_most_of_everything(rt: HostRuntime) {
     assert_faults(&rt, rt.alloc(), &MOST, u32::MAX);
+}
+
+// The fault has this name.
+fn assert_told(rt: &impl Abort, alloc: Global, fault: NewFault, text: &str) -> Result<(), Fail> {
+    assert!(rt; format!(in alloc; "{fault}")?.as_str() == text);
+    Ok(())
+}
+
+#[test]
+fn faults_are_told_by_name(rt: HostRuntime) -> Result<(), Fail> {
+    for (which, text) in [
+        (Which::Mblks, "bad config: Mblks"),
+        (Which::Classes, "bad config: Classes"),
+        (Which::ClassSize, "bad config: ClassSize"),
+        (Which::ClassTotal, "bad config: ClassTotal"),
+        (Which::Queues, "bad config: Queues"),
+        (Which::Marks, "bad config: Marks"),
+        (Which::Next, "bad config: Next"),
+        (Which::Bufcalls, "bad config: Bufcalls"),
+        (Which::FirstId, "bad config: FirstId"),
+    ] {
+        assert_told(&rt, rt.alloc(), NewFault::BadConfig(which), text)?;
+    }
+    assert_told(&rt, rt.alloc(), NewFault::BadShared, "bad shared")?;
+    assert_told(&rt, rt.alloc(), NewFault::Memory, "out of memory")
 }

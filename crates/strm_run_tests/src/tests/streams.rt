@@ -1,12 +1,13 @@
+//! Reading the input of a run, and writing its text, byte by byte.
 ghost use Rattle.std.specs.Prelude.{◌≤◌};
 ghost use Rattle.strm_script.specs.Limits.{most_script_bytes};
 
-use super::faulty::slow_reader;
+use super::faulty::{choppy_writer, slow_reader};
 use std::io::Read;
 use std::process::Abort;
-use strm_run::{ReadFault, Watched, read_input};
+use strm_run::{ReadFault, Watched, WriteFault, read_input, write_text};
 
-const TEXT: &[u8] = b"pool 1 8\n";
+const INPUT: &[u8] = b"pool 1 8\n";
 
 // The input is read whole, and is this text.
 fn expect_text(rt: &(impl Abort + AllocGlobal), max: u32, reader: &mut impl Read, text: &[u8])
@@ -42,14 +43,14 @@ fn expect_taken(
     requires least { 1 ≤ max }
     requires most { max ≤ most_script_bytes }
 {
-    let mut reader = slow_reader(TEXT, cut);
+    let mut reader = slow_reader(INPUT, cut);
     expect_fault(rt, max, &mut reader, wanted);
     assert!(rt; reader.given == taken);
 }
 
 #[test]
 fn reads_byte_by_byte(rt: HostRuntime) {
-    expect_text(&rt, 10, &mut slow_reader(TEXT, None), TEXT);
+    expect_text(&rt, 10, &mut slow_reader(INPUT, None), INPUT);
 }
 
 #[test]
@@ -63,7 +64,7 @@ fn reads_more_than_a_chunk(rt: HostRuntime) {
 fn takes_one_byte_too_many_at_most(rt: HostRuntime) {
     expect_taken(&rt, 8, None, ReadFault::TooLong, 9);
     expect_taken(&rt, 4, None, ReadFault::TooLong, 5);
-    expect_text(&rt, 9, &mut slow_reader(TEXT, None), TEXT);
+    expect_text(&rt, 9, &mut slow_reader(INPUT, None), INPUT);
 }
 
 #[test]
@@ -73,4 +74,50 @@ fn a_failing_reader_is_a_read_fault(rt: HostRuntime) {
     }
     // An input that is too long already is not read on.
     expect_taken(&rt, 4, Some(5), ReadFault::TooLong, 5);
+}
+
+const OUTPUT: &[u8] = b"0:7 ok\n0:8 ok\n";
+
+// Writing the text, to a writer that takes this number of bytes at a time and may fail, has this result; the writer has these
+// bytes then.
+fn expect_written(
+    rt: &(impl Abort + AllocGlobal),
+    text: &[u8],
+    most: usize,
+    cut: Option<usize>,
+    wanted: Result<(), WriteFault>,
+    got: &[u8],
+) {
+    let mut writer = choppy_writer(rt.alloc(), most, cut);
+    let found = write_text(&mut Watched::new(&mut writer), text);
+    assert!(rt; found == wanted);
+    assert!(rt; writer.got.as_slice() == got);
+}
+
+#[test]
+fn writes_piece_by_piece(rt: HostRuntime) {
+    expect_written(&rt, OUTPUT, 3, None, Ok(()), OUTPUT);
+    expect_written(&rt, b"", 3, None, Ok(()), b"");
+}
+
+#[test]
+fn a_failing_writer_has_the_beginning(rt: HostRuntime) {
+    expect_written(&rt, OUTPUT, 5, Some(10), Err(WriteFault), b"0:7 ok\n0:8");
+}
+
+#[test]
+fn a_writer_that_takes_nothing_is_a_write_fault(rt: HostRuntime) {
+    expect_written(&rt, OUTPUT, 0, None, Err(WriteFault), b"");
+}
+
+#[test]
+fn a_failing_flush_is_a_write_fault(rt: HostRuntime) {
+    expect_written(
+        &rt,
+        OUTPUT,
+        100,
+        Some(OUTPUT.len()),
+        Err(WriteFault),
+        OUTPUT,
+    );
 }
