@@ -1,2 +1,2 @@
-mod Rewriting
 mod Hopping
+pub mod Outcomes

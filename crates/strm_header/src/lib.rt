@@ -1,6 +1,8 @@
-//! A router's check and rewrite of the header of a message, in place, over a pool.
+//! Clients of a pool as examples: a router's check and rewrite of a header in place, and three modules of STREAMS.
 #![tactic(auto)]
 
 mod header;
+mod modules;
 
 pub use header::{HeaderFault, Outcome, age_header, hop};
+pub use modules::{Acknowledging, Flushing, Numbering};

@@ -6,12 +6,10 @@ use strm_scheduler::{Sides, SidesFault};
 
 mod drawn;
 mod forwarding;
-mod joining;
 mod making;
 mod modules;
 mod plain;
 mod rows;
-mod same;
 
 // The greatest number of bytes of a message, and of queues.
 const MOST: usize = 4_096;
@@ -31,18 +29,21 @@ fn queue(hiwat: u32, lowat: u32, next: Option<u8>) -> QueueSpec {
     }
 }
 
-// The configuration of a pool with this id and these queues.
-fn configured(rt: &impl Abort, id: u32, specs: &[QueueSpec]) -> Config {
+// A class of data blocks as large as messages may be.
+const CLASS: ClassSpec = ClassSpec {
+    size: 4_096,
+    count: MESSAGES,
+};
+
+// The configuration of a pool with this id and these queues, and with a message block for each data block of this class.
+fn configured(rt: &impl Abort, id: u32, class: ClassSpec, specs: &[QueueSpec]) -> Config {
     let mut classes = ArrayVec::new();
-    classes.push(ClassSpec {
-        size: 4_096,
-        count: MESSAGES,
-    });
+    classes.push(class);
     let mut queues = ArrayVec::new();
     assert!(rt; queues.try_extend_from_slice(specs).is_ok());
     Config {
         id,
-        mblks: MESSAGES,
+        mblks: class.count,
         classes: ClassSpecs::of(classes),
         queues: QueueSpecs::of(queues),
         bufcalls: 0,
@@ -52,5 +53,5 @@ fn configured(rt: &impl Abort, id: u32, specs: &[QueueSpec]) -> Config {
 
 // Makes sides of these queues.
 fn opened(rt: &impl Abort, alloc: Global, specs: &[QueueSpec]) -> Result<Sides, SidesFault> {
-    Sides::new(alloc, configured(rt, 1, specs))
+    Sides::new(alloc, configured(rt, 1, CLASS, specs))
 }

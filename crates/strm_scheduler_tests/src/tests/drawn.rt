@@ -1,20 +1,32 @@
 //! Drawn calls on sides and on plain lists, which are compared after each call.
 ghost use Rattle.std.specs.Prelude.{◌<◌};
 
-use super::making::{assert_had, assert_put, most_bytes, put, taken};
-use super::modules::Way;
+use super::making::{
+    BYTE, Draft, assert_had, assert_put, assert_same, most_bytes, put, put_as, taken,
+};
+use super::modules::{Line, Way};
 use super::plain::{HIGH_RANK, Plain, Standing};
-use super::same::assert_same;
 use super::{MESSAGES, QUEUES, opened, queue};
 use std::alloc::Global;
 use std::process::Abort;
-use strm_pool::{QueueSpec, Refusal, Token};
+use strm_pool::{MsgType, QueueSpec, Refusal, Token};
 use strm_scheduler::{Ended, Service, Sides};
 
-// The ways in which queues are served.
+// The ways in which queues are served, and those that are mixed with a line of modules.
 const WAYS: [Way; 5] = [Way::Forward, Way::Pass, Way::Mark, Way::Drop, Way::Borrow];
 
-// Sides of streams and plain lists that get the same calls: `count` queues in `step` sides, which take turns in the numbers.
+const WAYS_IN_LINE: [Way; 3] = [Way::Forward, Way::Pass, Way::Mark];
+
+// How queues form sides.
+#[derive(Clone, Copy)]
+enum Shape {
+    // This number of sides take turns in the numbers.
+    Turns(u8),
+    // A write side, and then a read side of as many queues or one less, with a line of modules. Two queues are a write side.
+    Line,
+}
+
+// Sides of streams of this shape, with this number of queues, and plain lists that get the same calls.
 #[derive(Drop)]
 struct Drawn {
     sides: Sides,
@@ -23,7 +35,7 @@ struct Drawn {
     bytes: Vec<u8>,
     room: Vec<u8>,
     count: u8,
-    step: u8,
+    shape: Shape,
     draw: u32,
     // How often a message waited after a run, how often one was held back, one was given, and one was taken.
     waited: u32,
@@ -91,21 +103,68 @@ fn marks(draw: &mut u32) -> (u32, u32) {
     }
 }
 
-// The specs of queues with drawn water marks, in sides that take turns in the numbers.
-fn specs(draw: &mut u32, count: u8, step: u8) -> [QueueSpec; QUEUES] {
+impl Shape {
+    // The number of sides.
+    const fn sides(self) -> u8 {
+        match self {
+            Shape::Turns(sides) => sides,
+            Shape::Line => 2,
+        }
+    }
+
+    // The last queue of a side, if there are this number of queues.
+    fn end(self, count: u8, side: u8) -> u8 {
+        match self {
+            Shape::Line if side == 1 => (count.wrapping_sub(1) / 2).max(1),
+            _ => count.wrapping_sub(1).wrapping_sub(side),
+        }
+    }
+
+    // The next queue, if there are this number of queues.
+    fn next(self, count: u8, queue: u8) -> Option<u8> {
+        let step = match self {
+            Shape::Turns(sides) => sides,
+            Shape::Line if queue == self.end(count, 1) => return None,
+            Shape::Line => 1,
+        };
+        let next = queue.wrapping_add(step);
+        (next < count).then_some(next)
+    }
+
+    // A number for this shape.
+    const fn number(self) -> u32 {
+        match self {
+            Shape::Turns(sides) => sides as u32,
+            Shape::Line => 0,
+        }
+    }
+}
+
+// The specs of queues with drawn water marks.
+fn specs(draw: &mut u32, count: u8, shape: Shape) -> [QueueSpec; QUEUES] {
     let mut specs = [queue(1, 0, None); QUEUES];
     for (number, spec) in specs.iter_mut().enumerate() {
         let (hiwat, lowat) = marks(draw);
-        let next = (number as u8).wrapping_add(step);
-        *spec = queue(hiwat, lowat, (next < count).then_some(next));
+        *spec = queue(hiwat, lowat, shape.next(count, number as u8));
     }
     specs
 }
 
+// A type that the modules of a line know, or another one.
+fn kind(draw: &mut u32) -> MsgType {
+    match below(draw, 8) {
+        0 => MsgType::MIoctl,
+        1 => MsgType::MFlush,
+        2 => MsgType::MProto,
+        3 => MsgType::MPcproto,
+        _ => MsgType::MData,
+    }
+}
+
 impl Drawn {
-    fn opened(rt: &impl Abort, alloc: Global, count: u8, step: u8) -> Drawn {
-        let mut draw = u32::from(count).wrapping_add(u32::from(step) << 8);
-        let specs = specs(&mut draw, count, step);
+    fn opened(rt: &impl Abort, alloc: Global, count: u8, shape: Shape) -> Drawn {
+        let mut draw = u32::from(count).wrapping_add(shape.number() << 8);
+        let specs = specs(&mut draw, count, shape);
         let specs = specs.get(..usize::from(count)).expect(rt, "few queues");
         Drawn {
             sides: opened(rt, alloc, specs).expect(rt, "sides"),
@@ -113,7 +172,7 @@ impl Drawn {
             bytes: most_bytes(rt, alloc),
             room: most_bytes(rt, alloc),
             count,
-            step,
+            shape,
             draw,
             waited: 0,
             held: 0,
@@ -140,6 +199,25 @@ impl Drawn {
         }
     }
 
+    // Puts a message of a drawn type on a queue, if a block is free.
+    fn put_typed(&mut self, rt: &impl Abort) {
+        let queue = self.any_queue();
+        let draft = Draft {
+            kind: kind(&mut self.draw),
+            band: band(&mut self.draw),
+            room: below(&mut self.draw, 4),
+        };
+        let mut bytes = [BYTE; 5];
+        bytes[0] = below(&mut self.draw, 4) as u8;
+        let size = below(&mut self.draw, 6);
+        let free = self.sides.pool().census().free;
+        let bytes = bytes.get(..size as usize).expect(rt, "few bytes");
+        match put_as(&mut self.sides, queue, draft, bytes) {
+            Ok(message) => self.plain.putq(rt, queue, message),
+            Err(why) => assert_eq!(rt; (free, why), (0, Refusal::NoMblk)),
+        }
+    }
+
     // Takes a message off the last queue of a side. Says whether there was one.
     fn take(&mut self, rt: &impl Abort, queue: u8) -> bool {
         let taken = taken(&mut self.sides, queue, &mut self.room).expect(rt, "a last queue");
@@ -156,8 +234,8 @@ impl Drawn {
 
     // Takes a message off the last queue of one of the sides.
     fn take_any(&mut self, rt: &impl Abort) {
-        let side = any_of(&mut self.draw, self.step);
-        self.take(rt, self.count.wrapping_sub(1).wrapping_sub(side));
+        let side = any_of(&mut self.draw, self.shape.sides());
+        self.take(rt, self.shape.end(self.count, side));
     }
 
     // Asks whether a band of a queue has room.
@@ -227,7 +305,7 @@ impl Drawn {
                     (service.queue, service.next, service.held),
                     (wanted.queue, wanted.next, wanted.held)
                 );
-                assert_eq!(rt; token.head(), wanted.message.head);
+                assert_eq!(rt; token.head(), wanted.message.head.unwrap_or(token.head()));
                 self.end_service(rt, service, token, wanted.message);
                 self.given = self.given.wrapping_add(1);
             }
@@ -237,19 +315,32 @@ impl Drawn {
         }
     }
 
+    // A way in which queues are served.
+    fn way(&mut self) -> Way {
+        match (self.shape, below(&mut self.draw, 8)) {
+            (Shape::Turns(_), way @ 0..5) => WAYS[way as usize],
+            (Shape::Turns(_), _) => Way::Answer(below(&mut self.draw, 8)),
+            (Shape::Line, way @ 0..3) => WAYS_IN_LINE[way as usize],
+            (Shape::Line, _) => Way::Line(Line {
+                last: self.count.wrapping_sub(1),
+                first: below(&mut self.draw, 3) as u8,
+                number: self.plain.number(),
+                budget: below(&mut self.draw, 64),
+            }),
+        }
+    }
+
     // Makes a drawn call.
     fn call(&mut self, rt: &impl Abort) {
         match below(&mut self.draw, 16) {
+            0..6 if matches!(self.shape, Shape::Line) => self.put_typed(rt),
             0..6 => self.put(rt),
             6..9 => self.take_any(rt),
             9 => self.ask(rt),
             10 => self.mark(rt),
             11..13 => self.serve(rt),
             _ => {
-                let way = match below(&mut self.draw, 8) {
-                    way @ 0..5 => WAYS[way as usize],
-                    _ => Way::Answer(below(&mut self.draw, 8)),
-                };
+                let way = self.way();
                 self.run(rt, way);
             }
         }
@@ -267,8 +358,8 @@ impl Drawn {
 
     // Takes the first message of each side.
     fn take_each(&mut self, rt: &impl Abort) {
-        for side in 0..self.step {
-            self.take(rt, self.count.wrapping_sub(1).wrapping_sub(side));
+        for side in 0..self.shape.sides() {
+            self.take(rt, self.shape.end(self.count, side));
         }
     }
 
@@ -285,8 +376,8 @@ impl Drawn {
 }
 
 // Draws calls on sides of this number of queues. Returns how often a message was held back.
-fn draw_on(rt: &impl Abort, alloc: Global, count: u8, step: u8) -> u32 {
-    let mut drawn = Drawn::opened(rt, alloc, count, step);
+fn draw_on(rt: &impl Abort, alloc: Global, count: u8, shape: Shape) -> u32 {
+    let mut drawn = Drawn::opened(rt, alloc, count, shape);
     drawn.walk(rt, 1_000);
     drawn.end(rt);
     drawn.held
@@ -296,7 +387,7 @@ fn draw_on(rt: &impl Abort, alloc: Global, count: u8, step: u8) -> u32 {
 fn one_side(rt: HostRuntime) {
     let mut held = 0u32;
     for count in 2..=8 {
-        held = held.wrapping_add(draw_on(&rt, rt.alloc(), count, 1));
+        held = held.wrapping_add(draw_on(&rt, rt.alloc(), count, Shape::Turns(1)));
     }
     assert!(rt; held > 0);
 }
@@ -305,7 +396,16 @@ fn one_side(rt: HostRuntime) {
 fn two_sides(rt: HostRuntime) {
     let mut held = 0u32;
     for count in 4..=8 {
-        held = held.wrapping_add(draw_on(&rt, rt.alloc(), count, 2));
+        held = held.wrapping_add(draw_on(&rt, rt.alloc(), count, Shape::Turns(2)));
+    }
+    assert!(rt; held > 0);
+}
+
+#[test]
+fn lines_of_modules(rt: HostRuntime) {
+    let mut held = 0u32;
+    for count in 2..=8 {
+        held = held.wrapping_add(draw_on(&rt, rt.alloc(), count, Shape::Line));
     }
     assert!(rt; held > 0);
 }

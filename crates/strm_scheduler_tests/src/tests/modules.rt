@@ -8,7 +8,8 @@ ghost use Rattle.strm_scheduler.specs.Steps.{AreSteps, PassOne, Step};
 
 use super::MOST;
 use super::plain::Standing;
-use strm_pool::{Flush, Pool, QueuedInfo, Token};
+use strm_header::{Acknowledging, Flushing, Numbering};
+use strm_pool::{Flush, MsgType, Pool, QueuedInfo, Token};
 use strm_scheduler::{Ended, Module, Need, Passing, Sides, enable, flush, send};
 
 // The byte that a module writes over the first one of a message.
@@ -33,6 +34,35 @@ pub(super) enum Way {
     Head,
     // `run_with` and `Answering`, with this budget
     Answer(u32),
+    // `run_with` and a line of modules
+    Line(Line),
+}
+
+// What a module of a line does.
+#[derive(Clone, Copy)]
+pub(super) enum Place {
+    Numbers,
+    Acknowledges,
+    Flushes,
+}
+
+// A line of modules in a stream with this last queue, which take turns from the one of this number on. The next header has this
+// number. There are at most as many services as the budget.
+#[derive(Clone, Copy)]
+pub(super) struct Line {
+    pub(super) last: u8,
+    pub(super) first: u8,
+    pub(super) number: u16,
+    pub(super) budget: u32,
+}
+
+// The modules of a line: each has a queue of the write side, and one of the read side.
+#[derive(Clone, Copy)]
+pub(super) struct Modules {
+    line: Line,
+    numbering: Numbering,
+    acknowledging: Acknowledging,
+    flushing: Flushing,
 }
 
 // Writes over the first byte of a message, if it has one.
@@ -256,6 +286,52 @@ impl Module for Answering {
     }
 }
 
+impl Line {
+    // What the module of a queue does.
+    pub(super) fn place_of(self, queue: u8) -> Place {
+        let pair = queue.min(self.last.wrapping_sub(queue));
+        match self.first.wrapping_add(pair) % 3 {
+            0 => Place::Numbers,
+            1 => Place::Acknowledges,
+            _ => Place::Flushes,
+        }
+    }
+
+    pub(super) fn modules(self) -> Modules {
+        let last = self.last;
+        Modules {
+            line: self,
+            numbering: Numbering {
+                number: self.number,
+            },
+            acknowledging: Acknowledging { last },
+            flushing: Flushing { last },
+        }
+    }
+}
+
+impl Module for Modules {
+    ghost needs = { λ m v q i r. r ≡ r };
+
+    ghost treats = { λ m v q n t steps k w. w ≡ w };
+
+    fn need(&self, pool: &Pool, queue: u8, first: &QueuedInfo) -> Need {
+        match self.line.place_of(queue) {
+            Place::Numbers => self.numbering.need(pool, queue, first),
+            Place::Acknowledges => self.acknowledging.need(pool, queue, first),
+            Place::Flushes => self.flushing.need(pool, queue, first),
+        }
+    }
+
+    fn treat(&mut self, pool: &mut Pool, queue: u8, next: u8, token: Token) {
+        match self.line.place_of(queue) {
+            Place::Numbers => self.numbering.treat(pool, queue, next, token),
+            Place::Acknowledges => self.acknowledging.treat(pool, queue, next, token),
+            Place::Flushes => self.flushing.treat(pool, queue, next, token),
+        }
+    }
+}
+
 impl Way {
     // Runs service procedures on sides. Says how that ended.
     pub(super) fn run(self, sides: &mut Sides) -> Ended {
@@ -271,12 +347,19 @@ impl Way {
             Way::Greed => sides.run_with(&mut Greedy, None),
             Way::Head => sides.run_with(&mut Heading, Some(u32::MAX)),
             Way::Answer(services) => sides.run_with(&mut Answering, Some(services)),
+            Way::Line(line) => sides.run_with(&mut line.modules(), Some(line.budget)),
         }
     }
 
-    // Whether a message needs a block, in the plain lists.
-    pub(super) fn needs(self, message: &Standing) -> bool {
-        matches!(self, Way::Borrow) && message.size > 1
+    // Whether the first message of a queue needs a block, in the plain lists.
+    pub(super) fn needs(self, queue: u8, message: &Standing) -> bool {
+        match self {
+            Way::Borrow => message.size > 1,
+            Way::Line(line) => {
+                matches!(line.place_of(queue), Place::Numbers) && message.kind == MsgType::MData
+            }
+            _ => false,
+        }
     }
 
     // Whether a message is wanted later, in the plain lists.
@@ -288,21 +371,18 @@ impl Way {
     pub(super) fn budget(self) -> Option<u32> {
         match self {
             Way::Answer(services) => Some(services),
+            Way::Line(line) => Some(line.budget),
             _ => None,
         }
     }
 
     // What goes on of a message, in the plain lists.
     pub(super) fn treated(self, message: Standing) -> Option<Standing> {
-        match self {
-            Way::Forward | Way::Pass | Way::Greed | Way::Head | Way::Answer(_) => Some(message),
-            Way::Mark if message.size == 0 => Some(message),
-            Way::Mark => Some(Standing {
-                first: MARK,
-                ..message
-            }),
-            Way::Drop => (!is_dropped(message.head)).then_some(message),
-            Way::Borrow => (message.size != 1).then_some(message),
+        match (self, message.head) {
+            (Way::Mark, _) if message.size > 0 => Some(message.marked(MARK)),
+            (Way::Borrow, _) if message.size == 1 => None,
+            (Way::Drop, Some(head)) if is_dropped(head) => None,
+            _ => Some(message),
         }
     }
 }

@@ -1,10 +1,10 @@
 //! Sides of streams as plain lists, with service procedures that keep the rules of docs/MODEL.md.
 use super::MESSAGES;
 use super::making::is_high;
-use super::modules::{Way, other_of};
+use super::modules::{Line, Place, Way, other_of};
 use std::alloc::Global;
 use std::process::Abort;
-use strm_pool::{BANDS, QueueSpec};
+use strm_pool::{BANDS, MsgType, QueueSpec};
 use strm_scheduler::Ended;
 
 // The rank of messages of high priority.
@@ -13,13 +13,20 @@ pub(super) const HIGH_RANK: u16 = BANDS as u16;
 // More services than a run needs.
 const SERVICES: u32 = 100_000;
 
-// A message: the number of its first block, its rank, its number of bytes, and its first byte.
+// How many of a message's first bytes are compared.
+pub(super) const FRONT: usize = 16;
+
+// A message: the number of its first block, unless a module put that ahead; its type, rank and number of bytes; its first bytes,
+// then zeros; its number of blocks, and the room before its bytes.
 #[derive(Clone, Copy)]
 pub(super) struct Standing {
-    pub(super) head: u32,
+    pub(super) head: Option<u32>,
+    pub(super) kind: MsgType,
     pub(super) rank: u16,
     pub(super) size: u32,
-    pub(super) first: u8,
+    pub(super) front: [u8; FRONT],
+    pub(super) blocks: u32,
+    pub(super) room: u32,
 }
 
 // A message that a queue gave, the queue and its next one, and how many queues are held back.
@@ -48,16 +55,71 @@ pub(super) struct Queue {
     read: bool,
 }
 
-// The queues, and the run list.
+// The queues, the run list, and the number of the next header.
 #[derive(Drop)]
 pub(super) struct Plain {
     queues: Vec<Queue>,
     run: Vec<u8>,
+    number: u16,
 }
 
 // The band of a rank: 0 for high priority.
 pub(super) fn band_of(rank: u16) -> u8 {
     u8::try_from(rank).unwrap_or(0)
+}
+
+// The rank of a message of a type and a band.
+pub(super) fn rank_of(kind: MsgType, band: u8) -> u16 {
+    if kind.is_high_priority() {
+        HIGH_RANK
+    } else {
+        u16::from(band)
+    }
+}
+
+// The first of these bytes, then zeros.
+pub(super) fn front_of(bytes: &[u8]) -> [u8; FRONT] {
+    let mut front = [0; FRONT];
+    for (into, byte) in front.iter_mut().zip(bytes) {
+        *into = *byte;
+    }
+    front
+}
+
+impl Standing {
+    // The message with a header of this number, in the room before its bytes or in a new block.
+    fn numbered(self, number: u16) -> Standing {
+        let is_new = self.room < 2;
+        let mut front = [0; FRONT];
+        let bytes = number.to_be_bytes();
+        for (into, byte) in front.iter_mut().zip(bytes.iter().chain(self.front.iter())) {
+            *into = *byte;
+        }
+        Standing {
+            head: if is_new { None } else { self.head },
+            size: self.size.wrapping_add(2),
+            front,
+            blocks: self.blocks.wrapping_add(u32::from(is_new)),
+            room: if is_new { 0 } else { self.room.wrapping_sub(2) },
+            ..self
+        }
+    }
+
+    // The message with this first byte.
+    pub(super) fn marked(self, mark: u8) -> Standing {
+        let mut front = self.front;
+        front[0] = mark;
+        Standing { front, ..self }
+    }
+
+    // The message with this type.
+    fn of_kind(self, kind: MsgType) -> Standing {
+        Standing {
+            kind,
+            rank: rank_of(kind, band_of(self.rank)),
+            ..self
+        }
+    }
 }
 
 impl Queue {
@@ -196,11 +258,17 @@ impl Plain {
         Plain {
             queues,
             run: Vec::new(alloc),
+            number: 1_000,
         }
     }
 
     pub(super) fn queues(&self) -> &[Queue] {
         &self.queues
+    }
+
+    // The number of the next header.
+    pub(super) fn number(&self) -> u16 {
+        self.number
     }
 
     // The run list, first queue first.
@@ -293,6 +361,35 @@ impl Plain {
         self.putq(rt, next, message);
     }
 
+    // Flushes a queue, if there is one and a bit says so.
+    fn flush_if(&mut self, rt: &impl Abort, flags: u8, bit: u8, queue: u8) {
+        if flags & bit != 0 && usize::from(queue) < self.queues.len() {
+            self.flush(rt, queue);
+        }
+    }
+
+    // Does what a line of modules does with a message.
+    fn pass_line(&mut self, rt: &impl Abort, line: Line, queue: u8, next: u8, message: Standing) {
+        let other = line.last.wrapping_sub(queue);
+        match (line.place_of(queue), message.kind) {
+            (Place::Numbers, MsgType::MData) => {
+                let number = self.number;
+                self.number = number.wrapping_add(1);
+                self.putq(rt, next, message.numbered(number));
+            }
+            (Place::Acknowledges, MsgType::MIoctl) if other != queue => {
+                self.putq(rt, other, message.of_kind(MsgType::MIocack));
+            }
+            (Place::Flushes, MsgType::MFlush) => {
+                let flags = message.front[0];
+                self.flush_if(rt, flags, 1, queue.max(other));
+                self.flush_if(rt, flags, 2, queue.min(other));
+                self.putq(rt, next, message);
+            }
+            _ => self.putq(rt, next, message),
+        }
+    }
+
     // Takes the first message off a queue, if it may go on. Any other is put back.
     fn take_allowed(&mut self, rt: &impl Abort, queue: u8, next: u8) -> Option<Standing> {
         let message = self.getq(rt, queue)?;
@@ -308,24 +405,30 @@ impl Plain {
         let Some(message) = self.take_allowed(rt, queue, next) else {
             return false;
         };
-        if way.budget().is_some() {
-            self.answer(rt, queue, next, message);
-        } else if let Some(treated) = way.treated(message) {
-            self.putq(rt, next, treated);
+        match way {
+            Way::Line(line) => self.pass_line(rt, line, queue, next, message),
+            Way::Answer(_) => self.answer(rt, queue, next, message),
+            _ => {
+                if let Some(treated) = way.treated(message) {
+                    self.putq(rt, next, treated);
+                }
+            }
         }
         true
     }
 
-    // The number of messages on all queues.
-    fn count(&self) -> usize {
-        let mut count = 0usize;
+    // The number of blocks of the messages on all queues.
+    fn count(&self) -> u32 {
+        let mut count = 0u32;
         for queue in &self.queues {
-            count = count.wrapping_add(queue.messages.len());
+            for message in &queue.messages {
+                count = count.wrapping_add(message.blocks);
+            }
         }
         count
     }
 
-    // Whether the first message of a queue needs a block, and none is free: each message has one.
+    // Whether the first message of a queue needs a block, and none is free.
     fn holds_back(&self, queue: u8, way: Way) -> bool {
         let Some(own) = self.queues.get(usize::from(queue)) else {
             return false;
@@ -333,7 +436,7 @@ impl Plain {
         let Some(first) = own.messages.first() else {
             return false;
         };
-        way.is_later(first) || way.needs(first) && self.count() == MESSAGES as usize
+        way.is_later(first) || way.needs(queue, first) && self.count() == MESSAGES
     }
 
     // The next queue of one that is enabled.
