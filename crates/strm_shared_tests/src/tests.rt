@@ -8,7 +8,6 @@ mod crews;
 mod gates;
 mod steps;
 mod traces;
-mod without_replies;
 mod workers;
 
 use arrayvec::ArrayVec;
