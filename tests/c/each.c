@@ -1946,123 +1946,6 @@ static void test_serving(void)
 	ANSWERS(strm_close(&others), STRM_OK);
 }
 
-/* Whether queue q, whose next is queue q + 1, is on the run list or rests rightly. */
-static int is_awake(const struct strm_pool *pool, uint32_t q)
-{
-	struct strm_queue_info info;
-	struct strm_queued first;
-	struct strm_band_info band;
-
-	if (strm_queue_info(pool, q, &info) != STRM_OK || info.enabled)
-		return info.enabled;
-	if (strm_queued_at(pool, q, 0, &first) != STRM_OK)
-		return info.read;
-	return first.type < STRM_M_IOCACK && strm_band_info(pool, q + 1, first.band, &band) == STRM_OK && band.wanted;
-}
-
-/* The next drawn number, below `most`. */
-static uint32_t drawn(uint32_t *state, uint32_t most)
-{
-	*state = (uint32_t)(((uint64_t)*state * 1664525u + 1013904223u) & 0xFFFFFFFFu);
-	return (*state >> 8) % most;
-}
-
-static void put_drawn(struct strm_pool *pool, uint32_t queues, uint32_t *state)
-{
-	struct strm_msg msg;
-
-	if (strm_allocb(pool, 4, &msg) != STRM_OK)
-		return;
-	ANSWERS(strm_write(pool, msg, 0, "abc", drawn(state, 4)), STRM_OK);
-	ANSWERS(strm_setband(pool, msg, drawn(state, 3)), STRM_OK);
-	if (drawn(state, 8) == 0)
-		ANSWERS(strm_settype(pool, msg, 0, STRM_M_PCPROTO), STRM_OK);
-	ANSWERS(strm_putq(pool, drawn(state, queues), msg), STRM_OK);
-}
-
-/* A message that a queue gave, and that is kept until it is put back there. */
-static struct strm_msg kept;
-static uint32_t kept_of;
-
-static void put_kept_back(struct strm_pool *pool)
-{
-	if (!strm_is_no_msg(kept))
-		ANSWERS(strm_hold(pool, kept_of, kept), STRM_OK);
-	memset(&kept, 0, sizeof kept);
-}
-
-/* Serves, and ends the service in one of five ways. Returns how many queues are held back. */
-static uint32_t serve_drawn(struct strm_pool *pool, uint32_t queues, uint32_t held, uint32_t *state)
-{
-	struct strm_service service;
-	struct strm_queued first;
-	struct strm_msg msg;
-	uint32_t yes;
-
-	if (strm_serve(pool, held, &service, &msg) != STRM_OK)
-		return 0;
-	ANSWERS(strm_message(pool, msg, &first), STRM_OK);
-	ANSWERS(strm_bcanput(pool, service.next, first.band, &yes), STRM_OK);
-	CHECK(service.next == service.queue + 1 && (yes || first.type >= STRM_M_IOCACK));
-	switch (drawn(state, 8)) {
-	case 0:
-		ANSWERS(strm_hold(pool, service.queue, msg), STRM_OK);
-		return service.held + 1;
-	case 1:
-		ANSWERS(strm_putq(pool, drawn(state, queues), msg), STRM_OK);
-		return 0;
-	case 2:
-		put_kept_back(pool);
-		kept = msg;
-		kept_of = service.queue;
-		return 0;
-	case 3:
-		ANSWERS(strm_freemsg(pool, msg), STRM_OK);
-		return 0;
-	default:
-		ANSWERS(strm_putq(pool, service.next, msg), STRM_OK);
-		return 0;
-	}
-}
-
-/* Runs of lines of 2 to 8 queues, by calls that let no queue fall asleep. At the end all messages arrive. */
-static void test_lines(void)
-{
-	uint32_t queues, round, q, held, yes, count, state = 1, awake;
-	struct strm_service service;
-	struct strm_pool pool;
-	struct strm_msg msg;
-
-	for (queues = 2; queues <= 8; queues++) {
-		pool = opened_line(queues);
-		for (round = 0, held = 0, awake = 1; round < 20000; round++) {
-			switch (drawn(&state, 7)) {
-			case 0: put_drawn(&pool, queues, &state); held = 0; break;
-			case 1:
-				if (strm_getq(&pool, queues - 1, &msg) == STRM_OK)
-					ANSWERS(strm_freemsg(&pool, msg), STRM_OK);
-				held = 0;
-				break;
-			case 2: ANSWERS(strm_bcanput(&pool, drawn(&state, queues), drawn(&state, 3), &yes), STRM_OK); break;
-			case 3: put_kept_back(&pool); held = 0; break;
-			default: held = serve_drawn(&pool, queues, held, &state);
-			}
-			for (q = 0; q + 1 < queues; q++)
-				awake &= is_awake(&pool, q) != 0;
-		}
-		CHECK(awake);
-		put_kept_back(&pool);
-		do {
-			while (strm_serve(&pool, 0, &service, &msg) == STRM_OK)
-				ANSWERS(strm_putq(&pool, service.next, msg), STRM_OK);
-			for (count = 0; strm_getq(&pool, queues - 1, &msg) == STRM_OK; count++)
-				ANSWERS(strm_freemsg(&pool, msg), STRM_OK);
-		} while (count > 0);
-		CENSUS(&pool, 24, 0, 0);
-		ANSWERS(strm_close(&pool), STRM_OK);
-	}
-}
-
 /* ---- names, codes, versions */
 
 static void test_names(void)
@@ -2320,7 +2203,6 @@ int main(void)
 	test_flow_control();
 	test_enabling();
 	test_serving();
-	test_lines();
 	test_names();
 	test_failed();
 	test_version();

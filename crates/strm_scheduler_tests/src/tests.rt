@@ -6,6 +6,7 @@ use strm_scheduler::{Sides, SidesFault};
 
 mod drawn;
 mod forwarding;
+mod lines;
 mod making;
 mod modules;
 mod plain;
