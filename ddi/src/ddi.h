@@ -44,7 +44,7 @@ struct block {
 	struct strm_msg name;
 	struct given { uchar_t *read, *write, type, band; uint16_t rank; } given;
 	uint32_t mark;			/* of the last walk over its message */
-	uint32_t is_joined, size, rest;	/* whether others are joined to it, and the bytes of its message on a queue, and of these others */
+	uint32_t is_joined, rest;	/* whether others are joined to it, and their bytes */
 	struct block *next;		/* of those that are free */
 	queue_t *queue;
 	uint32_t event_count;

@@ -356,12 +356,12 @@ static inline void link_in(queue_t *q, mblk_t *next, struct block *b)
 	mp->b_next = next;
 	*(next ? &next->b_prev : &q->q_last) = mp;
 	*(before ? &before->b_next : &q->q_first) = mp;
-	mp->b_band = b->given.band = (uchar_t)(rank_of(mp) % STRM_BANDS);
-	b->size = (uint32_t)MBLKL(mp) + b->rest;
+	if (rank_of(mp) == STRM_BANDS)
+		mp->b_band = b->given.band = 0;
 	b->owner = &ddi_queued_block;
 	b->queue = q;
 	if (mp->b_band == 0)
-		q->q_count += b->size;
+		q->q_count += (size_t)MBLKL(mp) + b->rest;
 }
 
 PER_CALLER int put_on(queue_t *q, mblk_t *mp, int (*call)(struct strm_pool *, uint32_t, struct strm_msg), int is_back, const char *routine)
@@ -426,7 +426,7 @@ static inline struct block *taken(queue_t *q, struct strm_msg name, const char *
 	*(mp->b_prev ? &mp->b_prev->b_next : &q->q_first) = mp->b_next;
 	mp->b_next = mp->b_prev = NULL;
 	if (b->given.band == 0)
-		q->q_count -= b->size;
+		q->q_count -= (size_t)(b->given.write - b->given.read) + b->rest;
 	ddi_note(b, routine);
 	if (b->is_joined || mp->b_cont)
 		ddi_part_all(b);
