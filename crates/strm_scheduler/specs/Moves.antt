@@ -14,8 +14,8 @@ Ranked = ℕ × Message
 abbrev pub ranked : DataStore → List Message → List Ranked
 ranked s ms = map (λ m. (rank_of s m, m)) ms
 
--- A move at a queue. joined: the module put these messages on the queue. taken: they were the first ones of the queue, and the module got
--- them. freed: the module flushed them.
+-- A move at a queue. joined: the module put these messages on the queue. taken: they were the first ones there, and the module got them.
+-- freed: the module flushed them.
 pub record Move : Type 0 where
   pub queue : ℕ
   pub joined : List Ranked
@@ -45,7 +45,7 @@ all_freed moves = flat_map (λ x. x.freed) moves
 abbrev pub with_rank : ℕ → List Ranked → List Ranked
 with_rank rank ms = filter (λ m. m.0 == rank) ms
 
--- What moves at a queue do that had the messages `before`, and has the messages `after`.
+-- What these moves did at a queue that had the messages `before`, and has the messages `after`.
 pub record Accounts (moves : List Move) (before after : List Ranked) : Type 0 where
   -- Each message that was there or joined is there, was taken, or was freed, once: whatever is counted, the sums agree.
   pub once : (test : Ranked → Bool) → count_by test after + count_by test (all_taken moves) + count_by test (all_freed moves)
