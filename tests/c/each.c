@@ -1590,9 +1590,11 @@ static int are_alike(void)
 			return 0;
 	}
 	for (i = 0; i < 3; i++) {
-		for (k = 0; k < 2; k++)
+		for (k = 0; k < 2; k++) {
 			ANSWERS(strm_class_info(&twins[k], i, &size_class[k]), STRM_OK);
-		if (memcmp(&size_class[0], &size_class[1], sizeof size_class[0]) != 0)
+			ANSWERS(strm_least_free(&twins[k], i, &fewest[k]), STRM_OK);
+		}
+		if (memcmp(&size_class[0], &size_class[1], sizeof size_class[0]) != 0 || fewest[0] != fewest[1])
 			return 0;
 	}
 	while (strm_next_service(&twins[0], &next[0]) == STRM_OK)
@@ -1644,6 +1646,8 @@ static void test_bursts(void)
 		ANSWERS(strm_open(&twins[k], &config), STRM_OK);
 	}
 	for (length = 0; length <= LONGEST; length++) {
+		for (k = 0; k < 2; k++)
+			ANSWERS(strm_reset_least(&twins[k]), STRM_OK);
 		count = burst(ALLOCATES, 0, length);
 		CHECK(count == (length < LONGEST ? length : LONGEST - 1));
 		dress(count, 1 + (uint32_t)length / 20);

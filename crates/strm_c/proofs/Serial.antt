@@ -5,11 +5,14 @@ use Rattle.std.proofs.lemmas.Grind.{drop_more_same}
 use Rattle.std.proofs.lemmas.List.{append-nil, drop-set-lt, drop_all, length-map, length-replicate, length-take-le, replicate_more, take-append-drop, take-take, take_more, take_more_set}
 use Rattle.std.proofs.lemmas.Option.{slice_get-get_or, slice_get-map}
 use Rattle.strm_mblk.proofs.Lists.{drop_from}
+use Rattle.strm_data.specs.declared.refusal.Refusal.{Refusal}
 use Rattle.strm_named.specs.declared.fault.Fault.{Fault}
+use Rattle.strm_named.specs.declared.fault.Fault.TheVariants as faults
 use Rattle.strm_named.specs.declared.name.Name.{Name}
-use Rattle.strm_named.specs.NamedCalls.{Does, Outcome, Shape, answer_told}
+use Rattle.strm_named.specs.NamedCalls.{Does, Outcome, Shape, answer_told, named_after}
 use Rattle.strm_named.specs.NamedValue.{NamedValue, Renames}
 use Rattle.strm_c.specs.declared.code.Code.{Code}
+use Rattle.strm_c.specs.declared.code.Code.TheVariants as codes
 use Rattle.strm_c.specs.Codes.{Answer, answer_of_result}
 use Rattle.strm_c.specs.Exports.{array_with}
 use Rattle.strm_c.specs.InC.{no_name}
@@ -31,6 +34,11 @@ pub made : {X Y Z : Type 0} (shape : Shape X Y) (tells : Y → Answer Z) (outcom
 made {X} {Y} {Z} shape tells outcome spent v w answer told does is =
     let second : answer_of_result tells (answer_told shape w (outcome v)) ≡ told = ap (answer_of_result tells) (sym does.told) ∙ sym is in
     (λ i. (sym does.after i, answer_of_result tells (answer_told shape (sym does.after i) (outcome v)))) ∙ (λ i. (w, second i))
+
+-- one that is refused changes nothing
+pub made_not : {X Y Z : Type 0} (shape : Shape X Y) (tells : Y → Answer Z) (outcome : NamedValue → Outcome X) (v : NamedValue) {why : Refusal} → outcome v ≡ Err (faults.Refused why)
+    → single shape tells outcome v ≡ (v, Err (codes.Refused why))
+made_not shape tells outcome v is = ap (λ o. (named_after shape v o, answer_of_result tells (answer_told shape (named_after shape v o) o))) is
 
 -- ---- a series
 

@@ -17,19 +17,27 @@ fn stopped(done: usize, code: Code) -> Result<usize, Code>
     if done == 0 { Err(code) } else { Ok(done) }
 }
 
-// Makes messages, and stores their names in an array. Returns their number, or why the first is not made.
+// Makes messages, and stores their names in an array. Returns their number, or why the first is not made. It chooses a class
+// again only once the last one has run dry.
 fn allocb_each(named: &mut NamedPool, size: u32, msgs: &mut [Name]) -> Result<usize, Code>
     ensures makes { MakesEach (replicate (length msgs.old) (series.allocb size)) named.old named.new result }
     ensures names { msgs.new ≡ array_with_stored
         (series_of (replicate (length msgs.old) (series.allocb size)) named.old) msgs.old }
     ensures valid { GivesEach (replicate (length msgs.old) (series.allocb size)) (Some named.old) (Some named.new) }
 {
-    for place in 0..msgs.len() {
-        named.lawful();
-        match coded(named.allocb(size)) {
-            Ok(msg) => msgs[place] = msg,
-            Err(code) => return stopped(place, code),
+    let mut place = 0;
+    while place < msgs.len() {
+        let mut supply = match named.pool().supply(size) {
+            Ok(found) => found,
+            Err(why) => return stopped(place, Code::Refused(why)),
+        };
+        let end = place + (msgs.len() - place).min(supply.count as usize);
+        for at in place..end {
+            named.lawful();
+            msgs[at] = named.allocb_from(size, supply);
+            supply.count -= 1;
         }
+        place = end;
     }
     Ok(msgs.len())
 }
