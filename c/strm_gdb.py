@@ -195,11 +195,11 @@ def add_commands(gdb):
                 at += 8
         return sorted(pools)
 
-    def value_of(expression):
+    def value_of(expression, usage=""):
         try:
             return gdb.parse_and_eval(expression)
         except gdb.error as why:
-            raise gdb.GdbError(str(why) if expression else "an argument is missing") from None
+            raise gdb.GdbError(str(why) if expression else usage) from None
 
     def pool_of(expression):
         """The address of the pool of a handle, or of the only pool."""
@@ -213,7 +213,9 @@ def add_commands(gdb):
             selected["pool"] = int(handle["at"])
         elif "pool" not in selected:
             pools = found_pools()
-            if len(pools) != 1:
+            if not pools:
+                raise gdb.GdbError("no pool is open")
+            if len(pools) > 1:
                 raise gdb.GdbError(f"{len(pools)} open pools are in memory: strm pool EXPRESSION takes the one of a handle")
             return pools[0]
         return selected["pool"]
@@ -261,7 +263,7 @@ def add_commands(gdb):
             super().__init__("strm queue", gdb.COMMAND_DATA)
 
         def invoke(self, argument, from_tty):
-            ask("", "queue", str(int(value_of(argument))))
+            ask("", "queue", str(int(value_of(argument, "strm queue N"))))
 
     class OfMessage(gdb.Command):
         """strm message NAME: shows a held message. NAME is an expression of type struct strm_msg, or HEAD.STAMP as strm leaks prints it."""
@@ -274,7 +276,7 @@ def add_commands(gdb):
             if parts:
                 ask("", "message", "0", parts[1], "0")
                 return
-            name = value_of(argument)
+            name = value_of(argument, "strm message NAME")
             ask("", "message", *(str(int(name[field])) for field in ("pool", "head", "stamp")))
 
     class Leaks(gdb.Command):
