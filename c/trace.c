@@ -473,8 +473,11 @@ static inline struct traced *traced_of(const struct strm_pool *pool)
 
 static void begin_trace(void)
 {
-	const char *wanted = getenv("STRM_TRACE");
+	const char *wanted = getenv("STRM_TRACE"), *begun = getenv("STRM_TRACE_BEGUN");
+	int fd = begun ? open(begun, O_WRONLY | O_CREAT | O_CLOEXEC, 0666) : -1;
 
+	if (fd >= 0)
+		close(fd);
 	mode = wanted && strcmp(wanted, "script") == 0 ? SCRIPT : TEXT;
 	fill_tables();
 	clock_gettime(CLOCK_MONOTONIC_COARSE, &started);
@@ -1077,10 +1080,40 @@ static inline union value of_pointer(const void *at)
 			look_after(tell_##call, &own, (const union value[]){ VALUES arguments }, code); \
 		return code; \
 	}
+
+/*
+ * strm_serve, for which a script has several calls. Each queue that would rest does so by them, ahead of it: then it gives a message at once, or
+ * none. So only the stamps of messages that rest are greater than without a trace.
+ */
+static int serve_by_calls(struct strm_pool *pool, uint32_t held, struct strm_service *service, struct strm_msg *msg)
+{
+	const int is_right = mode == SCRIPT && service != NULL && msg != NULL && (void *)service != (void *)msg;
+	struct strm_queue_spec spec;
+	struct strm_queued first;
+	struct strm_msg own;
+	uint32_t queue, yes = 0;
+
+	for (; is_right && strm_untraced_run_at(pool, held, &queue) == STRM_OK; held = 0) {
+		strm_untraced_run_at(pool, 0, &queue);
+		strm_untraced_queue_spec(pool, queue, &spec);
+		if (spec.next == STRM_NO_QUEUE)
+			break;
+		if (strm_untraced_queued_at(pool, queue, 0, &first) == STRM_OK
+		    && (first.type >= STRM_M_IOCACK || (strm_bcanput(pool, spec.next, first.band, &yes) == STRM_OK && yes)))
+			break;
+		strm_next_service(pool, &queue);
+		if (strm_getq(pool, queue, &own) == STRM_OK)
+			strm_putbq(pool, queue, own);
+	}
+	return strm_untraced_serve(pool, held, service, msg);
+}
+
+#define strm_untraced_serve serve_by_calls
 #define reader (*pool)
 STRM_CALLS(DEFINE)
 STRM_LOOKS(DEFINE)
 #undef reader
+#undef strm_untraced_serve
 STRM_MORE_CALLS(DEFINE)
 
 /* What a configuration has, as in a script's header. */

@@ -72,6 +72,8 @@ static const char *const types[STRM_TYPES] = { "M_DATA", "M_PROTO", "M_BREAK", "
 
 #define PRINT(...) strm_trace_print(&traced->out, __VA_ARGS__)
 
+static void tell(struct traced *traced, const struct traced_call *call, const union value *values, int code);
+
 /* ---- the numbers of blocks */
 
 static unsigned first_of(const struct traced *traced, struct strm_msg msg)
@@ -372,11 +374,11 @@ static void tell_several(struct traced *traced, const struct traced_call *call, 
 			one[msgs].msg = ((const struct strm_msg *)values[msgs].at)[item];
 		else
 			one[msgs].at = (const struct strm_msg *)values[msgs].at + item;
-		strm_script_call(traced, &single, one, done > 0 ? STRM_OK : code);
+		tell(traced, &single, one, done > 0 ? STRM_OK : code);
 	}
 	/* the last single call found the queue empty */
 	if (strncmp(call->name, "strm_getq_n", 11) == 0 && done > 0 && done < length)
-		strm_script_call(traced, &single, one, STRM_NONE);
+		tell(traced, &single, one, STRM_NONE);
 }
 
 /* Where the message is that a call names by its first block. */
@@ -413,7 +415,7 @@ static void tell_taken(struct traced *traced, const struct traced_call *call, co
 	for (item = 0; item < count; item++) {
 		one[2].number = traced->places[taken[item].head] - item;
 		one[3].at = taken + item;
-		strm_script_call(traced, &single, one, STRM_OK);
+		tell(traced, &single, one, STRM_OK);
 	}
 }
 
@@ -442,7 +444,7 @@ static void tell_by_place(struct traced *traced, const struct traced_call *call,
 		else if (values[1].number != traced->queue)
 			named[2].number = STRM_NO_HEAD;
 	}
-	strm_script_call(traced, &other, named, code);
+	tell(traced, &other, named, code);
 }
 
 /* A message that is put back, and whose queue is then enabled. */
@@ -451,9 +453,22 @@ static void tell_held(struct traced *traced, const struct traced_call *call, con
 	const struct traced_call put = { "strm_putbq(", sizeof "strm_putbq", 0, 3, { call->forms[0], call->forms[1], call->forms[2] } };
 	const struct traced_call enable = { "strm_qenable(", sizeof "strm_qenable", 0, 2, { call->forms[0], call->forms[1] } };
 
-	strm_script_call(traced, &put, values, code);
+	tell(traced, &put, values, code);
 	if (code == STRM_OK)
-		strm_script_call(traced, &enable, values, code);
+		tell(traced, &enable, values, code);
+}
+
+/* The queue that gave a message was served, and enabled again. */
+static void tell_served(struct traced *traced, const struct traced_call *call, const union value *values)
+{
+	const struct traced_call next = { "strm_next_service(", sizeof "strm_next_service", 0, 2, { call->forms[0], call->forms[2] } };
+	const struct traced_call get = { "strm_getq(", sizeof "strm_getq", 0, 3, { call->forms[0], call->forms[1], call->forms[3] } };
+	const struct traced_call enable = { "strm_qenable(", sizeof "strm_qenable", 0, 2, { call->forms[0], call->forms[1] } };
+	const union value queue = { .number = ((const struct strm_service *)values[2].at)->queue };
+
+	tell(traced, &next, (const union value[]){ values[0], values[2] }, STRM_OK);
+	tell(traced, &get, (const union value[]){ values[0], queue, values[3] }, STRM_OK);
+	tell(traced, &enable, (const union value[]){ values[0], queue }, STRM_OK);
 }
 
 /* A script reads as many bytes as a line shows. */
@@ -558,15 +573,14 @@ void strm_script_before(struct traced *traced, const struct traced_call *call, c
 		seek(traced, (uint32_t)values[call->count - 2].number);
 	else if (strncmp(name, "takeq", 5) == 0)
 		line_up(traced, (uint32_t)values[1].number);
-	if (strcmp(name, "serve") == 0)
-		strm_script_end(traced, "strm_serve looks at several queues");
-	else if (traced->msgs + most_returned(traced, call, values, name) > MOST_MSGS + 1)
+	if (traced->msgs + most_returned(traced, call, values, name) > MOST_MSGS + 1)
 		strm_script_end(traced, "more than 24 messages are held");
 	else if (++traced->calls > MOST_CALLS)
 		strm_script_end(traced, "there are 100,000 calls");
 }
 
-void strm_script_call(struct traced *traced, const struct traced_call *call, const union value *values, int code)
+/* The lines of a call, or of one that another call makes. */
+static void tell(struct traced *traced, const struct traced_call *call, const union value *values, int code)
 {
 	const struct recipe *recipe = recipes, *end = recipes + sizeof recipes / sizeof recipes[0];
 	struct traced *other = code == STRM_OK && call->forms[1].kind == CALLED ? strm_traced(values[1].at) : NULL;
@@ -584,6 +598,8 @@ void strm_script_call(struct traced *traced, const struct traced_call *call, con
 		tell_several(traced, call, values, code);
 	else if (strcmp(name, "hold") == 0 && code >= STRM_NONE)
 		tell_held(traced, call, values, code);
+	else if (strcmp(name, "serve") == 0 && code == STRM_OK)
+		tell_served(traced, call, values);
 	else if (strncmp(name, "takeq", 5) == 0 && code == STRM_OK)
 		tell_taken(traced, call, values);
 	else if ((strcmp(name, "insq_at") == 0 || strcmp(name, "rmvq_msg") == 0) && code >= STRM_NONE)
@@ -594,6 +610,11 @@ void strm_script_call(struct traced *traced, const struct traced_call *call, con
 		tell_done(traced, recipe, call, values);
 	else
 		tell_call(traced, recipe, call, values, code);
+}
+
+void strm_script_call(struct traced *traced, const struct traced_call *call, const union value *values, int code)
+{
+	tell(traced, call, values, code);
 	if (traced->is_recorded && traced->msgs > MOST_MSGS)
 		strm_script_end(traced, "more than 24 messages are held");
 }

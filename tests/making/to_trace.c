@@ -124,6 +124,66 @@ int main(void)
 	return 0;
 }
 
+/* ---- served: Queues that strm_serve serves, of which some rest with messages of several blocks. */
+#include <strm.h>
+#include <stdio.h>
+#include <string.h>
+static const struct strm_class_spec classes[] = { { 16, 60 } };
+static const struct strm_queue_spec queues[] = { { 64, 4, 1, 1 }, { 4, 1, 1, 2 }, { 4, 1, 0, STRM_NO_QUEUE } };
+static struct strm_pool pool = STRM_POOL_INIT;
+static struct strm_msg message(uint32_t band, uint32_t type)
+{
+	struct strm_msg msg, more;
+
+	strm_allocb(&pool, 4, &msg);
+	strm_write(&pool, msg, 0, "head", 4);
+	strm_allocb(&pool, 4, &more);
+	strm_write(&pool, more, 0, "data", 4);
+	strm_settype(&pool, more, 0, STRM_M_PROTO);
+	strm_linkb(&pool, msg, more);
+	strm_setband(&pool, msg, band);
+	strm_settype(&pool, msg, 0, type);
+	return msg;
+}
+int main(int count, char **words)
+{
+	struct strm_config config = { 7, 60, classes, 1, queues, 3, 4, 5 };
+	struct strm_msg msg, msgs[8];
+	struct strm_service service;
+	uint32_t held, queue;
+	size_t length;
+
+	strm_open(&pool, &config);
+	strm_serve(&pool, 0, &service, NULL);
+	printf("%d ", strm_serve(&pool, 0, &service, &msg));
+	strm_putq(&pool, 1, message(0, STRM_M_DATA));
+	strm_putq(&pool, 0, message(0, STRM_M_DATA));
+	strm_putq(&pool, 0, message(0, STRM_M_DATA));
+	for (held = 0; count > 1 && held < 24; held++)
+		strm_allocb(&pool, 4, &msg);
+	if (count > 1 && strcmp(words[1], "several") == 0)
+		strm_getq_n(&pool, 1, msgs, 8, &length);
+	while (strm_serve(&pool, 0, &service, &msg) == STRM_OK)
+		strm_putq(&pool, service.next, msg);
+	strm_putq(&pool, 0, message(2, STRM_M_PROTO));
+	strm_putq(&pool, 0, message(0, STRM_M_PCPROTO));
+	for (held = 0; strm_serve(&pool, held, &service, &msg) == STRM_OK; held = service.held + 1) {
+		printf("%u.%u.%u ", (unsigned)service.queue, (unsigned)service.next, (unsigned)service.held);
+		strm_hold(&pool, service.queue, msg);
+	}
+	while (strm_serve(&pool, 0, &service, &msg) == STRM_OK)
+		strm_putq(&pool, service.next, msg);
+	strm_qenable(&pool, 2);
+	strm_putq(&pool, 0, message(5, STRM_M_DATA));
+	while (strm_getq(&pool, 2, &msg) == STRM_OK)
+		strm_freemsg(&pool, msg);
+	while (strm_serve(&pool, 1, &service, &msg) == STRM_OK)
+		strm_freemsg(&pool, msg);
+	printf("%d\n", strm_next_service(&pool, &queue));
+	strm_close(&pool);
+	return 0;
+}
+
 /* ---- bursts: Bursts, of which the last returns too many messages for a script. */
 #include <strm.h>
 static const struct strm_class_spec classes[] = { { 16, 60 } };
