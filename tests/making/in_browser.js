@@ -225,9 +225,10 @@ playFrom(0);
 setTimeout(() => { byId("play").click(); seen.push(current); playFrom(LAST - 5); }, 2000);
 setTimeout(() => { seen.push(current === LAST, byId("play").textContent); document.title = JSON.stringify(seen); }, 3500);
 
-// ---- tries: Goes through each script of docs/play.html, line by line, and then changes one: what is wrong, undo, keys and a link.
-{
+// ---- tries: Goes through each script of docs/play.html, line by line, and then changes some: what is wrong, undo, keys, the focus and a link.
+(async () => {
     const faults = [];
+    const undoable = [byId("undo").ariaDisabled];
     onerror = (why) => faults.push(why);
     const press = (key) => document.dispatchEvent(new KeyboardEvent("keydown", {key, altKey: true}));
     const script = byId("script");
@@ -244,14 +245,60 @@ setTimeout(() => { seen.push(current === LAST, byId("play").textContent); docume
     script.value = own.replace("\nworker", "\nwurker");
     script.oninput();
     const fault = byId("fault").textContent;
+    undoable.push(byId("undo").ariaDisabled);
     byId("undo").click();
     const isUndone = script.value === own && byId("fault").textContent === "";
     const keys = ["Home", "ArrowDown", "ArrowDown", "ArrowUp"].map((key) => { press(key); return current; });
-    byId("link").click();
+    const choose = (name) => { byId("example").value = FACTS.examples.findIndex((one) => one[0].startsWith(name)); byId("example").onchange(); };
+    const seen = () => [script.value, byId("example").selectedOptions[0].text, byId("task").textContent];
+    const type = (text) => { script.value = text; script.selectionEnd = text.length; script.oninput(); };
+    byId("example").onblur();
+    choose("exercise 1");
+    scrollTo(0, 0);
+    script.focus({preventScroll: true});
+    for (const line of ["service", "getq 0 c", "allocb d 1", "putq 0 d", "service"]) type(`${script.value}${line}\n`);
+    const typed = {scrolled: scrollY, line: byId("command").textContent};
+    const edited = seen();
+    byId("example").onblur();
+    for (const name of ["exercise 2", "exercise 3", "exercise 4"]) choose(name);
+    byId("undo").click();
+    const passed = [edited, seen()];
+    while (byId("undo").ariaDisabled === "false" && passed.length < 99) { byId("undo").click(); passed.push(seen()); }
+    undoable.push(byId("undo").ariaDisabled);
+    choose("exercise 3");
+    const replies = () => [...byId("replies").children].map((node) => node.textContent);
+    const at = script.value.split("\n").indexOf("getq 2 e");
+    const whole = replies();
+    type(script.value.replace("getq 2 e", "getq 2"));
+    const kept = {fault: byId("fault").textContent, wanted: `line ${at + 1}: the form is getq Q R`, replies: replies().slice(0, at), whole: whole.slice(0, at), after: replies().slice(at).join("")};
+    byId("undo").click();
+    byId("next").focus();
+    press("End");
+    byId("next").click();
+    const focused = [document.activeElement.id, byId("next").ariaDisabled];
+    const enter = () => {
+        const {activeElement} = document;
+        activeElement.dispatchEvent(new KeyboardEvent("keydown", {key: "Enter", bubbles: true}));
+        focused.push(document.activeElement === activeElement, byId("block").hidden);
+    };
+    document.querySelector("#picture .block").focus();
+    focused.push(Boolean(document.activeElement.ariaLabel?.startsWith("M_DATA")));
+    enter();
+    enter();
+    choose("exercise 7");
+    const said = [];
+    for (const writeText of [async () => {}, async () => { throw Error(); }]) {
+        Object.defineProperty(navigator, "clipboard", {value: {writeText}, configurable: true});
+        await byId("link").onclick();
+        said.push(byId("link").textContent);
+    }
     const nameless = [...document.querySelectorAll("button, input, select, textarea")].filter((node) => !(node.labels?.length || node.ariaLabel || node.textContent.trim() || node.ariaHidden));
     const isWide = document.documentElement.scrollWidth > innerWidth;
-    document.title = JSON.stringify({faults, runs, fault, isUndone, keys, hash: location.hash, nameless: nameless.map((node) => node.outerHTML), isWide});
-}
+    document.title = JSON.stringify({
+        faults, runs, fault, isUndone, keys, typed, undoable, passed, kept, focused, said, isWide, help: byId("help").textContent,
+        hash: location.hash, task: byId("task").outerHTML, nameless: nameless.map((node) => node.outerHTML),
+    });
+})();
 
 // ---- blocks: Chooses each block of some frames, by a click and by the keyboard.
 byId("all").checked = true;

@@ -82,8 +82,13 @@ function chooseNext(step) {
     choose(numbers[at < 0 ? (step > 0 ? 0 : numbers.length - 1) : (at + step + numbers.length) % numbers.length]);
 }
 
-byId("picture").addEventListener("click", (event) => {
+// A click on a block, or enter or space while it has the focus, chooses it, or none if it is chosen.
+function chooseAt(event) {
     const block = event.target.closest("[data-block]");
-    if (block) choose(Number(block.dataset.block) === chosenNumber ? undefined : Number(block.dataset.block));
-});
+    if (!block || ![undefined, "Enter", " "].includes(event.key)) return;
+    event.preventDefault();
+    choose(Number(block.dataset.block) === chosenNumber ? undefined : Number(block.dataset.block));
+}
+
+for (const kind of ["click", "keydown"]) byId("picture").addEventListener(kind, chooseAt);
 byId("unchoose").onclick = () => choose(undefined);

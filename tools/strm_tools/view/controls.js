@@ -149,7 +149,7 @@ function actionOf(event) {
     const {target} = event;
     if (event.altKey || event.ctrlKey || event.metaKey) return undefined;
     if (target.matches?.("input:not([type=range]):not([type=checkbox]), select")) return event.key === "Escape" ? () => target.blur() : undefined;
-    if (event.key === " " && target.matches?.("button, summary, input")) return undefined;
+    if (event.key === " " && target.matches?.("button, summary, input, [role=button]")) return undefined;
     const key = event.shiftKey && event.key.startsWith("Arrow") ? `Shift+${event.key}` : event.key;
     return (target === list && KEYS_OF_LIST[key]) || KEYS[key];
 }

@@ -50,7 +50,7 @@ function blockPiece(message, block, drawing) {
     const count = references.get(block.data);
     const sign = count > 1 ? signOf(block.data) : "";
     const kinds = ["block", count > 1 && "shared", chosen?.number === block.number && "chosen", chosen && chosen.number !== block.number && chosen.data === block.data && "same"];
-    const drawn = element("g", {class: kinds.filter(Boolean).join(" "), "data-key": key, "data-block": block.number, role: "button", "aria-label": sayBlock(block, count)});
+    const drawn = element("g", {class: kinds.filter(Boolean).join(" "), "data-key": key, "data-block": block.number, role: "button", tabindex: 0, "aria-label": sayBlock(block, count)});
     const bytes = bar(CELL.width - 8, {most: block.capacity, shares: [[block.read, "gone"], [block.length, "used"]]});
     drawn.append(element("rect", {...CELL, rx: 4}), blockText(blockFields(key, block, references), drawing, sign), moved(bytes, 4, 3 * ROW + 7));
     if (marks.has(key)) drawn.append(signPiece("+", CELL.width - 12, 3));

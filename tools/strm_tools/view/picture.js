@@ -226,14 +226,16 @@ function seenPart() {
     return {scrolls: isPart ? byId("pool") : document.scrollingElement, top, bottom: bottom - byId("block").offsetHeight};
 }
 
-// Brings into view what the line changed in queues, or else in registers, as far as it is not. Of several changed panels one is enough.
+// Brings into view what the line changed in queues, or else in registers, as far as it is not. Of several changed panels one is enough. A page
+// stays where somebody types in it.
 function showChanged(line, marks) {
     const about = bandIn(line);
     changedPanels = Array.from(drawnPicture.nodes.keys()).filter((panel) => panel !== "pool" && marks.has(panel));
     const spans = about ? spansOfRule(about, line.events) : changedPanels.map((panel) => spanOf(panel, ".title, .marked"));
     const {scrolls, ...seen} = seenPart();
     const isOneSeen = spans.some((span) => offsetTo([span], seen) === 0);
-    if (spans.length > 0 && (about || !isOneSeen)) scrolls.scrollTop += offsetTo(about ? spans : spans.slice(0, 1), seen);
+    const isTyped = scrolls === document.scrollingElement && document.activeElement.matches("textarea");
+    if (!isTyped && spans.length > 0 && (about || !isOneSeen)) scrolls.scrollTop += offsetTo(about ? spans : spans.slice(0, 1), seen);
     showBeyond();
 }
 

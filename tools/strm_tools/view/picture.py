@@ -18,7 +18,7 @@ byId("all").checked = true;
 measure();
 show(FRAME);
 for (const title of document.querySelectorAll("#picture title")) title.remove();
-for (const node of document.querySelectorAll("#picture [role]")) for (const name of ["role", "aria-label"]) node.removeAttribute(name);
+for (const node of document.querySelectorAll("#picture [role]")) for (const name of ["role", "aria-label", "tabindex"]) node.removeAttribute(name);
 const told = document.createElement("pre");
 told.id = "drawn";
 told.textContent = new XMLSerializer().serializeToString(byId("picture"));
