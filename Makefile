@@ -58,7 +58,7 @@ MODULES := $(shell cd tools && find strm_tools -name __pycache__ -prune -o -type
 
 RT := $(shell command -v rt 2>/dev/null)
 # Stops make with one line if there is no `rt`.
-NEEDS_RT = $(if $(RT),,$(error no rt on PATH, so nothing is proved or built; release/ has strm and libstrm.a, proved and built, which make try and make check run (README.md, "Without rt")))
+NEEDS_RT = $(if $(RT),,$(error no rt on PATH, so nothing is proved or built; release/ has strm and libstrm.a, proved and built: make try and make check run them, and make install and make install-lib take them by STRM=release/strm ARCHIVE=release/libstrm.a SHARED=release/libstrm.so (README.md, "Without rt")))
 
 .PHONY: run help try test test-arm check gate-times cases edits lint soak soak-mt field view-test pages pictures bench bench-lines bench-library bench-batches bench-census bench-header bench-lock bench-c bench-bindings bench-peers bench-mt strm install install-pages install-tools install-docs uninstall lib install-lib dist release vendor
 
@@ -198,9 +198,16 @@ strm: build/strm
 build/strm: $(BUILT)
 	@install -D -m 755 $(BUILT) build/strm
 
+# The lines by which a shell finds what is installed, unless it is to be moved from DESTDIR.
+FINDS = @$(if $(DESTDIR),,printf '%s\n' 'export PKG_CONFIG_PATH=$(PREFIX)/lib/pkgconfig$${PKG_CONFIG_PATH:+:$$PKG_CONFIG_PATH}' \
+	'export LD_LIBRARY_PATH=$(PREFIX)/lib$${LD_LIBRARY_PATH:+:$$LD_LIBRARY_PATH}')
+
 # Installs strm, the library for C, tools and pages below PREFIX. The program and the library are proved first. With a TARGET it leaves out strm.
+# It ends with the lines of install-lib, and one for commands if PATH lacks them.
 install: WHERE $(if $(TARGET),,$(STRM)) install-pages install-tools install-docs install-lib
 	$(if $(TARGET),,install -D -m 755 $(STRM) $(DESTDIR)$(PREFIX)/bin/strm)
+	$(FINDS)
+	@$(if $(DESTDIR),,[[ ":$$PATH:" == *":$(PREFIX)/bin:"* ]] || echo 'export PATH=$(PREFIX)/bin:$$PATH')
 
 # Says where, before anything is proved or installed.
 .PHONY: WHERE
@@ -354,8 +361,7 @@ install-lib: $(ARCHIVE) $(SHARED) $(ARCHIVE_MT) $(SHARED_MT) $(ARCHIVE_DDI) $(TR
 	for file in Cargo.toml build.rs src/channel.rs src/lib.rs src/raw.rs; do install -D -m 644 bindings/rust/$$file $(SHARE)/strm/bindings/rust/$$file || exit; done
 	@python3 bindings/python/make_wheel.py $(SHARE)/strm/bindings $(SHARED)
 	tools/man_pages 3 $(SHARE)/man/man3
-	@$(if $(DESTDIR),,echo 'export PKG_CONFIG_PATH=$(PREFIX)/lib/pkgconfig$${PKG_CONFIG_PATH:+:$$PKG_CONFIG_PATH}')
-	@$(if $(DESTDIR),,echo 'export LD_LIBRARY_PATH=$(PREFIX)/lib$${LD_LIBRARY_PATH:+:$$LD_LIBRARY_PATH}')
+	$(if $(filter install,$(MAKECMDGOALS)),,$(FINDS))
 
 # Builds archives and Debian packages of a release in DIST. There is one of each for each target. Beside them is PROOF, with their sums. GATE names
 # a log of the gate, whose last line goes into PROOF. It refuses uncommitted changes unless DIRTY is yes, and then PROOF says that there are some.
