@@ -192,7 +192,13 @@ return FRAMES.map((frame) => {
     byId("pool").scrollTop += 3;
     const there = byId("pool").scrollTop;
     show(frame);
-    return {hidden, cut, count: [changed.length, shown.length], jumps: byId("pool").scrollTop - there, scrolled: before};
+    const jumps = byId("pool").scrollTop - there;
+    byId("pool").scrollTop = 0;
+    showBeyond();
+    const label = box(byId("showing"));
+    const named = [...byId("beyond").children].map(box);
+    const covers = named.filter((one) => one.left < label.right && one.right > label.left && one.top < label.bottom && one.bottom > label.top).length;
+    return {hidden, cut, count: [changed.length, shown.length], jumps, scrolled: before, covers, named: named.length};
 });
 
 // ---- fresh: At which frames the picture or the list, as it became by changes from other frames, is not what is drawn from scratch.
@@ -252,14 +258,14 @@ setTimeout(() => { seen.push(current === LAST, byId("play").textContent); docume
     const choose = (name) => { byId("example").value = FACTS.examples.findIndex((one) => one[0].startsWith(name)); byId("example").onchange(); };
     const seen = () => [script.value, byId("example").selectedOptions[0].text, byId("task").textContent];
     const type = (text) => { script.value = text; script.selectionEnd = text.length; script.oninput(); };
-    byId("example").onblur();
+    byId("example").dispatchEvent(new Event("blur"));
     choose("exercise 1");
     scrollTo(0, 0);
     script.focus({preventScroll: true});
     for (const line of ["service", "getq 0 c", "allocb d 1", "putq 0 d", "service"]) type(`${script.value}${line}\n`);
     const typed = {scrolled: scrollY, line: byId("command").textContent};
     const edited = seen();
-    byId("example").onblur();
+    byId("example").dispatchEvent(new Event("blur"));
     for (const name of ["exercise 2", "exercise 3", "exercise 4"]) choose(name);
     byId("undo").click();
     const passed = [edited, seen()];
@@ -320,7 +326,12 @@ return FRAMES.map((frame) => {
     press("Escape");
     const byKey = numbers.slice(0, MOST).map(() => { press("."); return chosenNumber; });
     press(",");
-    return {frame, hidden, numbers, blocks, byKey, before: chosenNumber};
+    const before = chosenNumber;
+    press("Escape");
+    const focused = document.querySelector("#picture .block");
+    focused?.focus();
+    const byEnter = ["Enter", " "].map((key) => { focused?.dispatchEvent(new KeyboardEvent("keydown", {key, bubbles: true})); return chosenNumber ?? null; });
+    return {frame, hidden, numbers, blocks, byKey, before, byEnter: focused && [...byEnter, document.activeElement === focused, byId("play").textContent]};
 });
 
 // ---- times: How long a page takes to open, and to show frames, one after another and anywhere.
