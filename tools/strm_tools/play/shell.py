@@ -184,6 +184,8 @@ class Shell(Turns):
             self.session.do("add", self.play.turn, text, named=text)
             if is_command(text):
                 self.say_reply(self.answers()[0][-1])
+                if waiting := sum(section.waiting() for section in self.play.sections):
+                    self.say(f"{counted(waiting, 'line')} still waiting")
                 self.draw(anew=False)
 
     def say_reply(self, reply: str) -> None:
