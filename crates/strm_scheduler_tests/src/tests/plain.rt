@@ -16,8 +16,8 @@ const SERVICES: u32 = 100_000;
 // How many of a message's first bytes are compared.
 pub(super) const FRONT: usize = 16;
 
-// A message: the number of its first block, unless a module put that ahead; its type, rank and number of bytes; its first bytes,
-// then zeros; its number of blocks, and the room before its bytes.
+// A message: the number of its first block, unless a module put that ahead; its type, rank and number of bytes. Behind its first
+// bytes are zeros. Then come its number of blocks, and the room before its bytes.
 #[derive(Clone, Copy)]
 pub(super) struct Standing {
     pub(super) head: Option<u32>,
