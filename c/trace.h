@@ -90,10 +90,14 @@ struct output {
 	char lines[128 << 10];
 };
 
+/* With more messages, a script has too few registers to take one apart. */
+#define MOST_MSGS 24
+
 /*
  * An open pool. The names of messages are by the numbers of their first blocks. The blocks of a script have numbers of its own: `first` has that
  * of each message's first block, `next` the one after each block, and `unused` those that are not in use. `queue` and `place` say where the message
  * is that a call names by its first block. Before a call that takes messages off a queue, `places` has the place of each, by its first block.
+ * `edited` are the messages whose bytes the program may now change through pointers.
  */
 struct traced {
 	struct traced *after;
@@ -105,6 +109,8 @@ struct traced {
 	int is_recorded;
 	uint32_t msgs, unused_count, queue, place, calls;
 	uint16_t *first, *next, *unused, *places;
+	uint32_t edited_count;
+	struct strm_msg edited[MOST_MSGS + 1];
 	unsigned char is_told[STRM_MOST_DATA_BLOCKS];
 };
 

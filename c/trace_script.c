@@ -9,8 +9,7 @@
 #include <stdlib.h>
 #include <string.h>
 
-/* With more messages, a script has too few registers to take one apart, and with many more calls too many lines. */
-#define MOST_MSGS 24
+/* With many more calls a script has too many lines. */
 #define MOST_CALLS 100000
 /* The most bytes of a line `write`, and those that a line `read` shows. */
 #define MOST_BYTES 64
@@ -515,6 +514,28 @@ static void tell_arrival(struct traced *traced, struct strm_msg msg)
 	}
 }
 
+/* The program may write to a message, until its next call that is neither a look nor one of strm_room, strm_edit and strm_window. */
+static void open_edit(struct traced *traced, struct strm_msg msg)
+{
+	uint32_t place = 0;
+
+	while (place < traced->edited_count && traced->edited[place].head != msg.head)
+		place++;
+	traced->edited_count += place == traced->edited_count;
+	traced->edited[place] = msg;
+}
+
+/* What the program wrote so is there before its next call. */
+static void tell_edits(struct traced *traced, const char *name, const struct traced_call *call)
+{
+	uint32_t place;
+
+	for (place = 0; place < traced->edited_count; place++)
+		tell_all(traced, '~', traced->edited[place], 1);
+	if (call->forms[0].kind == CALLED && strcmp(name, "room") != 0 && strcmp(name, "edit") != 0 && strcmp(name, "window") != 0)
+		traced->edited_count = 0;
+}
+
 /* A call without a word: what it changed, it changed through pointers. */
 static void tell_wordless(struct traced *traced, const char *name, const struct traced_call *call, const union value *values, int code)
 {
@@ -526,6 +547,8 @@ static void tell_wordless(struct traced *traced, const char *name, const struct 
 		begin_line(traced, "freemsg");
 		PRINT(" <%u | ok\n", first_of(traced, values[2].msg));
 		release_all(traced, values[2].msg);
+	} else if ((strcmp(name, "edit") == 0 || strcmp(name, "window") == 0) && code == STRM_OK) {
+		open_edit(traced, values[1].msg);
 	} else if (call->forms[0].kind == CALLED && call->forms[1].kind == MSG && code == STRM_OK) {
 		tell_all(traced, '~', values[1].msg, 1);
 	} else if (strcmp(name, "write") == 0 && code > 0 && values[4].number <= MOST_BYTES) {
@@ -569,6 +592,7 @@ void strm_script_before(struct traced *traced, const struct traced_call *call, c
 	char name[32];
 
 	take_name(call, name, sizeof name);
+	tell_edits(traced, name, call);
 	if (strcmp(name, "insq_at") == 0 || strcmp(name, "rmvq_msg") == 0)
 		seek(traced, (uint32_t)values[call->count - 2].number);
 	else if (strncmp(name, "takeq", 5) == 0)

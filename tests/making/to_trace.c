@@ -205,6 +205,75 @@ int main(void)
 	return strm_close(&pool);
 }
 
+/* ---- shared: A block gets less of the data that it shares, and is refused more. Then it gets more: alone, or if there are words, still sharing. */
+#include <strm.h>
+#include <stdlib.h>
+#include <string.h>
+static const struct strm_class_spec classes[] = { { 16, 4 } };
+static const struct strm_queue_spec queues[] = { { 64, 16, 1, STRM_NO_QUEUE } };
+int main(int count, char **words)
+{
+	struct strm_config config = { 7, 4, classes, 1, queues, 1, 4, 5 };
+	struct strm_block_shape less[] = { { 2, 1, STRM_M_DATA, 3 } }, more[] = { { 0, 4, STRM_M_DATA, 3 } };
+	struct strm_pool pool = STRM_POOL_INIT;
+	struct strm_msg msg, other;
+	uint32_t bytes;
+
+	strm_open(&pool, &config);
+	strm_allocb(&pool, 4, &msg);
+	strm_write(&pool, msg, 0, "abcd", 4);
+	strm_dupb(&pool, msg, &other);
+	strm_shape(&pool, other, 0, 1, 3);
+	strm_msgdsize(&pool, other, &bytes);
+	strm_shape(&pool, other, 0, 1, 16);
+	strm_shape_all(&pool, other, less, 1);
+	strm_msgdsize(&pool, other, &bytes);
+	if (count == 1)
+		strm_freemsg(&pool, msg);
+	else if (strcmp(words[1], "queued") == 0)
+		strm_putq(&pool, 0, msg);
+	if (count > 2)
+		strm_shape(&pool, other, 0, (uint32_t)atoi(words[2]), 2);
+	else
+		strm_shape_all(&pool, other, more, 1);
+	strm_putq(&pool, 0, other);
+	return strm_close(&pool);
+}
+
+/* ---- edited: Bytes that change through pointers between calls that do not show it. */
+#include <strm.h>
+#include <string.h>
+static const struct strm_class_spec classes[] = { { 16, 4 } };
+static const struct strm_queue_spec queues[] = { { 64, 16, 1, STRM_NO_QUEUE } };
+int main(void)
+{
+	struct strm_config config = { 7, 4, classes, 1, queues, 1, 4, 5 };
+	struct strm_pool pool = STRM_POOL_INIT;
+	struct strm_msg one, other;
+	uint8_t *in_one, *in_other, into[16];
+	size_t length;
+
+	strm_open(&pool, &config);
+	strm_allocb(&pool, 4, &one);
+	strm_write(&pool, one, 0, "abcd", 4);
+	strm_allocb(&pool, 4, &other);
+	strm_write(&pool, other, 0, "efgh", 4);
+	strm_edit(&pool, one, 0, &in_one, &length);
+	memcpy(in_one, "AB", 2);
+	strm_read(&pool, one, 0, into, sizeof into, &length);
+	strm_window(&pool, other, 0, &in_other, &length);
+	memcpy(in_other, "EFGHI", 5);
+	memcpy(in_one + 2, "CD", 2);
+	strm_read(&pool, one, 0, into, sizeof into, &length);
+	strm_read(&pool, other, 0, into, sizeof into, &length);
+	memcpy(in_one, "1234", 4);
+	strm_putq(&pool, 0, other);
+	strm_freemsg(&pool, one);
+	strm_getq(&pool, 0, &other);
+	strm_read(&pool, other, 0, into, sizeof into, &length);
+	return strm_close(&pool);
+}
+
 /* ---- ends: Many calls, and an end of the kind that is named; or as many in 16 threads, of which two share a pool. */
 #include <strm.h>
 #include <pthread.h>

@@ -5,7 +5,7 @@ from __future__ import annotations
 from collections import defaultdict
 from typing import Callable, Iterable, Mapping, Sequence
 
-from strm_tools.trace import Bad, Block, Told
+from strm_tools.trace import Bad, Beyond, Block, Told
 
 REGISTERS = "abcdefghijklmnopqrstuvwxyz"
 # The most bytes of a `write`.
@@ -100,10 +100,11 @@ class Memory:
 
 class Held:
     """The messages in the script's registers: the numbers of each one's blocks, and these blocks as the script has them. `do` takes each
-    line that is made."""
+    line that is made, and `shares` says whether strm has more blocks that refer to the data block of a register's message, also on queues."""
 
-    def __init__(self, do: Callable[[str], None]) -> None:
+    def __init__(self, do: Callable[[str], None], shares: Callable[[str], bool]) -> None:
         self.do = do
+        self.shares = shares
         self.memory = Memory()
         self.blocks: dict[int, Block] = {}
         self.bytes: dict[int, bytearray] = {}
@@ -131,7 +132,7 @@ class Held:
         for register in REGISTERS:
             if register not in self.messages:
                 return register
-        raise Bad(f"all {len(REGISTERS)} registers of strm hold messages, and a further message needs one")
+        raise Beyond(f"all {len(REGISTERS)} registers of strm hold messages, and a further message needs one")
 
     # Messages as a whole
 
@@ -235,7 +236,8 @@ class Held:
                 try:
                     self.mend(number, register)
                 except Bad as why:
-                    raise Bad(str(why), changed[number]) from None
+                    why.line = changed[number]
+                    raise
 
     def mend(self, number: int, register: str) -> None:
         """Gives a block the places, bytes, type and band that memory has."""
@@ -265,12 +267,16 @@ class Held:
             raise Bad(f"block {number} refers to data block {then.data} instead of {now.data}, which no line of strm can do")
         others = self.memory.others(number)
         is_written = any(self.kept(one) < self.memory.blocks[one].write for one in [number, *others])
-        if others and (is_written or then.read < now.read or then.kind != now.kind):
-            raise Bad(f"data block {now.data} changes while block {others[0]} refers to it too, which no line of strm can do")
+        is_wider = then.read < now.read or then.write > now.write
+        if others and (is_written or is_wider or then.kind != now.kind):
+            what = f"block {number} gets more of data block {now.data}" if is_wider else f"data block {now.data} changes"
+            raise Beyond(f"{what} while block {others[0]} refers to it too, which no line of strm can do")
 
     def renew(self, number: int, register: str) -> None:
         """Has a block take its data block anew, with its places at the beginning."""
         data = self.blocks[number].data
+        if self.shares(register):
+            raise Beyond(f"block {number} gets more of data block {data} while a queued block refers to it too, which no line of strm can do")
         self.do(f"freemsg {register}")
         self.do(f"allocb {register} {self.memory.sizes[data]}")
         self.blocks[number] = Block(data, 0, 0, "M_DATA", 0)

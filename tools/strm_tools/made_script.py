@@ -5,7 +5,7 @@ from collections import Counter
 from typing import TYPE_CHECKING, Counter as Counts
 
 from strm_tools.limits import COMMAND_LINES, SCRIPT_BYTES
-from strm_tools.trace import Bad
+from strm_tools.trace import Beyond
 
 if TYPE_CHECKING:
     from strm_tools.plain import Plain
@@ -31,7 +31,7 @@ class Script:
         self.rows.append((line, reply))
         self.bytes += len(line.encode()) + 1
         if self.bytes > SCRIPT_BYTES:
-            raise Bad(f"a script has at most {SCRIPT_BYTES} bytes")
+            raise Beyond(f"a script has at most {SCRIPT_BYTES} bytes")
 
     def begin_section(self) -> None:
         """Begins the section, unless it has begun."""
@@ -50,7 +50,7 @@ class Script:
         self.words[line.split(" ")[0]] += 1
         self.commands += 1
         if self.commands > COMMAND_LINES:
-            raise Bad(f"a script has at most {COMMAND_LINES} commands")
+            raise Beyond(f"a script has at most {COMMAND_LINES} commands")
 
     def numbered(self) -> list[tuple[str, str | None]]:
         """The lines, each with its line of the text, or None where it has none."""

@@ -16,7 +16,7 @@ from strm_tools.pending import Pending, may_end, require_ends, require_returns
 from strm_tools.plain import Plain
 from strm_tools.script import Wrong, script_of
 from strm_tools.shown import CARRIAGE_RETURN
-from strm_tools.trace import LINES, Bad, Call, Told, block_number, call_in, capacity, header_line, new_bytes, quoted, told_block
+from strm_tools.trace import LINES, Bad, Beyond, Call, Told, block_number, call_in, capacity, header_line, new_bytes, quoted, told_block
 
 COMMAND = "a command with registers"
 CALL = "a call of messages"
@@ -41,7 +41,7 @@ class Recording:
         # Who made the call, and who makes all calls where a label says so.
         self.who = ""
         self.label: str | None = None
-        self.held = Held(self.do)
+        self.held = Held(self.do, self.shares)
         self.memory = self.held.memory
         self.pending: Pending | None = None
         # The line of each block that has changed since the last call, and of new bytes that no line of a block followed.
@@ -270,7 +270,11 @@ class Recording:
         self.made.add(line, "ok", "pointers", self.label or self.who)
         wanted = self.made.plain.reply(line) if self.made.plain else "ok"
         if wanted != "ok":
-            raise Bad(f"the change through a pointer needs {quoted(line)}, and strm replies {quoted(wanted)}")
+            raise Beyond(f"the change through a pointer needs {quoted(line)}, and strm replies {quoted(wanted)}")
+
+    def shares(self, register: str) -> bool:
+        """Whether a message of one block shares its data block, as the plain model has it."""
+        return self.made.plain is not None and not self.made.plain.reply(f"block {register} 0").endswith(" names=1")
 
     # Between two calls
 
@@ -289,7 +293,8 @@ class Recording:
             try:
                 self.held.agree(changed)
             except Bad as why:
-                raise Bad(str(why), why.line or max(changed.values())) from None
+                why.line = why.line or max(changed.values())
+                raise
 
     def end_call(self) -> None:
         """The outcome of the last call is whole: registers hold the messages that it left."""
@@ -298,7 +303,8 @@ class Recording:
             try:
                 self.settle(pending)
             except Bad as why:
-                raise Bad(str(why), pending.line) from None
+                why.line = pending.line
+                raise
 
     def settle(self, pending: Pending) -> None:
         for number in pending.returned.values():
@@ -348,9 +354,18 @@ class Recording:
                 raise Bad(f"block {number} appears from nowhere: it is in no message that this call returns")
 
 
+class Cut(Wrong):
+    """A trace of which a script can have only these lines, and why."""
+
+    def __init__(self, message: str, why: Beyond, kept: list[str]) -> None:
+        super().__init__(message, "trace")
+        self.why = why
+        self.kept = kept
+
+
 def recorded(lines: list[str], is_checked: bool = False) -> Script:
     """The script that the lines of a trace make. Where it is checked, each reply, outcome and line of the report is that of the plain
-    model. Raises `Wrong` with the number of a line that is wrong."""
+    model. Raises `Wrong` with the number of a line that is wrong, and `Cut` where that is all that is wrong."""
     recording = Recording(is_checked)
     try:
         for line in lines:
@@ -359,8 +374,17 @@ def recorded(lines: list[str], is_checked: bool = False) -> Script:
     except Bad as why:
         number = why.line or recording.at
         more = f"; {CARRIAGE_RETURN}" if "".join(lines[number - 1 : number]).endswith("\r") else ""
-        raise Wrong(f"line {number}: {why}{more}", "trace") from None
+        message = f"line {number}: {why}{more}"
+        raise (Cut(message, why, before_step(lines, number)) if isinstance(why, Beyond) else Wrong(message, "trace")) from None
     return recording.made
+
+
+def before_step(lines: list[str], number: int) -> list[str]:
+    """The lines of a trace before the call in this line, or the change through pointers, and before other such changes just before it."""
+    at = number - 1
+    while lines[at - 1][:1] in {"~", "b", "c", "#"}:
+        at -= 1
+    return lines[:at]
 
 
 def completed(lines: list[str]) -> list[str]:

@@ -40,6 +40,10 @@ class Bad(Exception):
         self.line = line
 
 
+class Beyond(Bad):
+    """What a trace has and no script can have."""
+
+
 class Block(NamedTuple):
     """A message block without the one that follows it: its data block, which has the type, its places there, and its band."""
 
