@@ -106,12 +106,10 @@ impl Stacks {
         ensures others { (k : ℕ) → k ≢ node → holder k self.new ≡ holder k self.old }
         ensures parting { IsParting self.new }
     {
-        let top = self.tops[list as usize];
+        let top = &mut self.tops[list as usize];
         self.behind[node as usize] = top.front;
-        self.tops[list as usize] = Top {
-            len: top.len + 1,
-            front: Slot::some(node),
-        };
+        top.front = Slot::some(node);
+        top.len += 1;
     }
 
     /// Removes the node at the front of stack `list` and returns it, or none if the stack is empty. All other stacks stay

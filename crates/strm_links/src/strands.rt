@@ -122,7 +122,7 @@ fn keep(nodes: &mut Vec<Node>, at: u32, span: Span)
     nodes[at as usize].span = span;
 }
 
-// Makes a chain of the `len` nodes that are linked from `head` to `last`.
+// Makes a chain of the `len` nodes that are linked from `head` to `last`. One node is written at once.
 #[inline(always)]
 fn chain_up(nodes: &mut Vec<Node>, head: u32, last: u32, len: u32)
     requires head { head < vec_len nodes.old }
@@ -133,6 +133,13 @@ fn chain_up(nodes: &mut Vec<Node>, head: u32, last: u32, len: u32)
         ≡ (if head == k then record { last = last; len = len } else span_at nodes.old.items k) }
     ensures len { vec_len nodes.new ≡ vec_len nodes.old }
 {
+    if head == last {
+        nodes[head as usize] = Node {
+            next: Slot::none(),
+            span: Span { last, len },
+        };
+        return;
+    }
     lead(nodes, last, Slot::none());
     keep(nodes, head, Span { last, len });
 }
@@ -416,10 +423,9 @@ impl Strands {
         } }
         ensures parted { IsParted self.new }
     {
-        let last = self.nodes[head as usize].span.last;
-        reverse_links(&mut self.nodes, head, len, self.first_free);
+        let reversed = reverse_links(&mut self.nodes, head, len, self.first_free);
         keep(&mut self.nodes, head, Span::none());
-        self.first_free = Slot::some(last);
+        self.first_free = reversed.last;
         self.free_len += len;
     }
 

@@ -3,7 +3,6 @@ use Rattle.std.proofs.Common.{◌≡◌, ◌≢◌, ℕ, suc, ◌+◌, ◌<◌, 
 use Rattle.std.proofs.lemmas.Bool.{false≢true, false_from_ne_true}
 use Rattle.std.proofs.lemmas.Bool.Decides.{nat_tests}
 use Rattle.std.proofs.lemmas.List.{drop_all, get_or_read, reverse-append, take_all, take_more, length-drop, length-take-le, set-get_or, take-append-drop}
-use Rattle.std.proofs.lemmas.Option.{none-some}
 use Rattle.std.specs.Prelude.{is_none}
 use Rattle.strm_links.specs.Rows.{has, IsApart, first_or, last, first}
 use Rattle.strm_links.specs.Layout.{LeadsOn}
@@ -20,12 +19,6 @@ use Rattle.strm_links.proofs.chaining.Laid.{IsSound-out, strand_laid, write_else
 
 -- ---- all nodes of a chain become free, the last one first
 
--- the last node is first in the reverse
-first_or-reverse : (b : Option ℕ) (xs : List ℕ) (t : ℕ) → last xs ≡ Some t → first_or b (reverse xs) ≡ Some t
-first_or-reverse b [] t is = absurd (none-some t is)
-first_or-reverse b (x ∷ []) t is = is
-first_or-reverse b (x ∷ y ∷ ys) t is = ap (first_or b) (reverse-append (x ∷ []) (y ∷ ys)) ∙ first_or-append b (reverse (y ∷ ys)) (x ∷ []) ∙ first_or-reverse (Some x) (y ∷ ys) t is
-
 module _ (nodes : List Node) (first_free : Option ℕ) (free_len : ℕ) (v : StrandLists) (laid : IsSound nodes first_free free_len v) (h : ℕ) (some_h : IsSome (chain_in v.chains h)) where
   was : IsStrand (next_at nodes) (span_at nodes h) h (strand_at v h)
   was = strand_laid nodes first_free free_len v laid h some_h
@@ -37,12 +30,12 @@ module _ (nodes : List Node) (first_free : Option ℕ) (free_len : ℕ) (v : Str
   module _ (new : List Node) (long : length new ≡ length nodes) (reversed : LeadsOn (next_at new) (reverse (strand_at v h)) first_free)
       (links : (k : ℕ) → has k (strand_at v h) ≡ false → next_at new k ≡ next_at nodes k)
       (spans : (k : ℕ) → span_at new k ≡ (if h == k then no_span else span_at nodes k)) where
-    pub IsSound-freed : (first_free' : Option ℕ) (free_len' : ℕ) → first_free' ≡ Some (span_at nodes h).last → free_len' ≡ free_len + (span_at nodes h).len
+    pub IsSound-freed : (first_free' : Option ℕ) (free_len' : ℕ) → first_free' ≡ first_or first_free (reverse (strand_at v h)) → free_len' ≡ free_len + (span_at nodes h).len
         → IsSound new first_free' free_len' (record v { free = reverse (strand_at v h) ++ v.free; chains = set v.chains h None })
     IsSound-freed first_free' free_len' begins counts =
         let none : (span_at new h).len ≡ 0 = ap (λ (s : Span). s.len) (spans h ∙ write_here h _ _) in
         IsSound-out nodes first_free free_len v laid h new long links (strand_at v h) None first_free' free_len' some_h reversed (λ g other. spans g ∙ write_elsewhere h g _ _ other) none (λ k. omega arith)
-        (begins ∙ sym (first_or-reverse first_free (strand_at v h) _ was.last)) (omega (arith, counts, was.len))
+        begins (omega (arith, counts, was.len))
 
 -- ---- the walk that reverses the links
 
