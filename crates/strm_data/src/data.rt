@@ -53,13 +53,13 @@ struct Class {
 
 #[derive(Clone, Copy, Debug)]
 struct DataBlock {
-    class: u8,
+    class: u16,
     kind: MsgType,
     // The number of references.
     references: u8,
 }
 
-const _: () = prove!(size_of::<Class>() == 16 && size_of::<DataBlock>() == 3);
+const _: () = prove!(size_of::<Class>() == 16 && size_of::<DataBlock>() == 4);
 
 const _: () = prove!(size_of::<Data>() == 120 && size_of::<Vec<u8>>() == 24);
 
@@ -231,7 +231,7 @@ fn reset(classes: &mut [Class], free: &Stacks)
 }
 
 // Adds `count` data blocks of a class, without references.
-fn add_blocks(blocks: &mut Vec<DataBlock>, class: u8, count: u32) -> Result<(), AllocError>
+fn add_blocks(blocks: &mut Vec<DataBlock>, class: u16, count: u32) -> Result<(), AllocError>
     ensures { OnOk result (blocks.new.items ≡ blocks.old.items ++ replicate count
         (record { class = class; kind = MData; references = 0 })) }
 {
@@ -262,7 +262,7 @@ impl Data {
         let mut blocks = Vec::with_capacity(alloc, total_of(specs) as usize)?;
         for spec in specs {
             let first = blocks.len() as u32;
-            add_blocks(&mut blocks, classes.len() as u8, spec.count)?;
+            add_blocks(&mut blocks, classes.len() as u16, spec.count)?;
             regions.push(vec![in alloc; 0; spec.size as usize * spec.count as usize]?)?;
             let least = spec.count;
             classes.push(Class {

@@ -17,7 +17,8 @@ use Rattle.strm_mblk.specs.Block.{Block, Message, uses_data, kind_of, size_of}
 use Rattle.strm_mblk.specs.BlockCalls.{block_found, own_block, with_bytes, with_block}
 use Rattle.strm_mblk.specs.BlocksLayout.{Suits, IsFilled, IsPlaced, arena_of, block_at, block_of, no_fields, fields_at, fields_shaped, message_of, with_shapes}
 use Rattle.strm_mblk.specs.NodeLists.{NodeLists, nodes_at}
-use Rattle.strm_mblk.specs.InPlace.{bytes_within, store_overwritten, touches_shared, blocks_shaped, shape_fits, shapes_fit, store_retyped}
+use Rattle.strm_mblk.specs.Calls.{Alters, itself}
+use Rattle.strm_mblk.specs.InPlace.{bytes_within, overwrite, store_overwritten, touches_shared, blocks_shaped, shape_fits, shapes_fit, store_retyped}
 use Rattle.strm_mblk.specs.Messages.{blocks_of, held_in}
 use Rattle.strm_data.specs.declared.refusal.Refusal.{Refusal}
 use Rattle.strm_data.specs.declared.msg_type.MsgType.{MsgType}
@@ -35,6 +36,7 @@ use Rattle.strm_mblk.proofs.layout.Shown.{alike_off, message-alike, message_at-s
 use Rattle.strm_mblk.proofs.arena.Frame.{own_is, Leaves, held_named, leaves_data, naming_at, other_head, shelved_named, others_one}
 use Rattle.strm_mblk.proofs.layout.Rooms.{rooms-written, HasRooms, rooms-both, rooms-kind}
 use Rattle.strm_mblk.proofs.layout.Places.{IsAt, block_given, rewrite_filled, written_shows, AreRewritten, message_filled, message_shows, once_within, token_held, within_room}
+use Rattle.strm_mblk.proofs.arena.Calls.{alters_to}
 use Rattle.strm_mblk.proofs.arena.Counts.{out_of_held, IsHad, had_again, had_message, held_within}
 use Rattle.strm_mblk.proofs.Lists.{count_adds, drop_from}
 
@@ -282,6 +284,18 @@ module _ (a : Arena) (h : ℕ) (m : Message) (is : held_at a h ≡ Some m) (new 
 pub leaves_overwritten : (a : Arena) (h : ℕ) (m : Message) → held_at a h ≡ Some m → (at : ℕ) (bytes : List ℕ) → touches_shared a at (length bytes) m ≡ false → Leaves (h ∷ []) a (record a { store = store_overwritten at bytes m a.store })
 leaves_overwritten a h m is at bytes none =
     leaves_beside a h m is (record a { store = store_overwritten at bytes m a.store }) (record { id = refl; size = refl; held = λ g other. refl }) refl (λ d. other_stays a d at bytes m a.store none)
+
+-- the message of a token is overwritten, which has these bytes, none of them in a data block that another block uses
+pub alters_overwritten : (a b : Arena) (t : TokenValue) → has a t ≡ true → (at : ℕ) (bytes : List ℕ) → nat_lt (size_of (message_at a t.head)) (at + length bytes) ≡ false
+    → touches_shared a at (length bytes) (message_at a t.head) ≡ false → b ≡ record a { store = store_overwritten at bytes (message_at a t.head) a.store }
+    → Alters itself t t (overwrite t.head at bytes a) a b (Ok tt)
+alters_overwritten a b t had at bytes few none now =
+    let message = had_message a t had in
+    let held : held_at a t.head ≡ Some (message_at a t.head) = message.1.held ∙ ap Some (sym (ap blocks_of message.1.held)) in
+    alters_to a b t (overwrite t.head at bytes a) tt
+    (cond-false _ _ _ few ∙ cond-false _ _ _ none ∙ ap (λ (x : Arena). Ok (tt, x)) (sym now))
+    (subst (λ x. has x t ≡ true) (sym now) had)
+    (subst (Leaves (t.head ∷ []) a) (sym now) (leaves_overwritten a t.head (message_at a t.head) held at bytes none))
 
 -- ==== the first blocks of a message get shapes, one after the other
 

@@ -1,4 +1,4 @@
-use Rattle.std.proofs.Common.{◌≡◌, ◌+◌, ◌≤◌, ◌<◌, ◌&&◌, ℕ, true, false, List, [], ◌∷◌, length, take, Ok, Some, refl, sym, ap, ◌∙◌, subst, arith}
+use Rattle.std.proofs.Common.{◌≡◌, ◌+◌, ◌≤◌, ◌<◌, ◌&&◌, ℕ, false, List, length, take, Some, refl, sym, ap, ◌∙◌, subst, arith}
 use Rattle.std.specs.Prelude.{is_some, nat_lt, slice_get}
 use Rattle.std.proofs.lemmas.Bool.{cond-false, cond-true, le-ltb, lt-ltb}
 use Rattle.std.proofs.lemmas.List.{get_or_read}
@@ -8,17 +8,15 @@ use Rattle.strm_data.specs.declared.refusal.Refusal.TheVariants.{Shared}
 use Rattle.strm_data.proofs.store.Kept.{capacity_range}
 use Rattle.strm_links.specs.StrandLists.{strand_at}
 use Rattle.strm_mblk.specs.declared.blocks.Fields.{Fields}
-use Rattle.strm_mblk.specs.Arena.{Arena, has, held_at, message_at, references_to}
+use Rattle.strm_mblk.specs.Arena.{Arena, message_at, references_to}
 use Rattle.strm_mblk.specs.Block.{Block, Message, size_of}
 use Rattle.strm_mblk.specs.BlockCalls.{with_bytes}
 use Rattle.strm_mblk.specs.BlocksLayout.{IsPlaced, IsStart, block_at, fields_at, message_of, no_fields}
 use Rattle.strm_mblk.specs.InPlace.{overwrite, store_overwritten, touches_shared}
-use Rattle.strm_mblk.specs.Messages.{blocks_of}
 use Rattle.strm_mblk.specs.NodeLists.{nodes_at}
-use Rattle.strm_mblk.proofs.Altering.{leaves_overwritten, one_long, one_overwritten, one_touched}
-use Rattle.strm_mblk.proofs.arena.Calls.{alters_none, alters_to}
+use Rattle.strm_mblk.proofs.Altering.{alters_overwritten, one_long, one_overwritten, one_touched}
+use Rattle.strm_mblk.proofs.arena.Calls.{alters_none}
 use Rattle.strm_mblk.proofs.arena.Counts.{had_message}
-use Rattle.strm_mblk.proofs.arena.Frame.{Leaves}
 use Rattle.strm_mblk.proofs.layout.Places.{IsAt, IsHeldHead, block_some, seen_head}
 use Rattle.strm_mblk.proofs.blocks.Blocks.overwrite.Goals.{After-head, After-find_byte-start, After-index-fields}
 use Rattle.strm_mblk.proofs.blocks.Blocks.overwrite.Goals as goal
@@ -136,12 +134,8 @@ returns c =
     let here = (goal.at.returns c).After-index-fields in
     let strand = strand_is (goal.at.returns c).After-head in
     let at = at found strand in
-    let h = c.args.token.now.head in
     let a = c.args.self.now in
-    let m = message_at a h in
     let bytes = c.args.bytes.now in
-    let message = had_message a c.args.token.now c.requires in
-    let held : held_at a h ≡ Some m = message.1.held ∙ ap Some (sym (ap blocks_of message.1.held)) in
     let refs = references_to a (fields_at c.self.inside.blocks.items c.find_byte-start.result.node).data_number in
     let unshared : (nat_lt 0 (length bytes) && nat_lt 1 refs) ≡ false = elim c.else-bytes-gt0.branch [
       | goal.else-bytes-gt0-via-then-bytes-gt0+else-count-gt1 w ↦
@@ -150,9 +144,7 @@ returns c =
           ap (λ p. nat_lt 0 (length bytes) && p) (le-ltb 1 _ once) ∙ and-false (nat_lt 0 (length bytes))
       | goal.else-bytes-gt0-via-else-bytes-gt0 w ↦ ap (λ p. p && nat_lt 1 refs) (le-ltb 0 _ w.if-bytes-gt0.false)
     ] in
-    let none : touches_shared a c.args.at (length bytes) m ≡ false = touched here at (before found strand) c.if-start-bytes.false ∙ unshared in
-    let now : c.write_data.new.self ≡ record a { store = store_overwritten c.args.at bytes m a.store } = c.write_data.ensures ∙ written here at (before found strand) c.if-start-bytes.false in
-    alters_to a _ c.args.token.now (overwrite h c.args.at bytes a) tt
-    (cond-false _ _ _ (few here at (before found strand) c.if-start-bytes.false) ∙ cond-false _ _ _ none ∙ ap (λ (x : Arena). Ok (tt, x)) (sym now))
-    (subst (λ x. has x c.args.token.now ≡ true) (sym now) c.requires)
-    (subst (Leaves (h ∷ []) a) (sym now) (leaves_overwritten a h m held c.args.at bytes none))
+    alters_overwritten a _ c.args.token.now c.requires c.args.at bytes
+    (few here at (before found strand) c.if-start-bytes.false)
+    (touched here at (before found strand) c.if-start-bytes.false ∙ unshared)
+    (c.write_data.ensures ∙ written here at (before found strand) c.if-start-bytes.false)
