@@ -1,5 +1,5 @@
 -- What each call on blocks of messages does to the arena. A call gets the head of a message instead of its token.
-use Rattle.std.specs.Prelude.{ℕ, ◌+◌, ◌-◌, ◌≤◌, Bool, ◌==◌, nat_lt, List, [], ◌∷◌, length, map, take, drop, Option, None, Some, Result, Ok, Err, ok_or, slice_get, slice_set, count_by, if◌then◌else◌}
+use Rattle.std.specs.Prelude.{ℕ, ◌+◌, ◌-◌, ◌≤◌, min, Bool, ◌==◌, nat_lt, List, [], ◌∷◌, length, map, take, drop, Option, None, Some, Result, Ok, Err, ok_or, slice_get, slice_set, count_by, if◌then◌else◌}
 use Rattle.std.specs.List.{list_all, list_any, zip}
 use Rattle.std.specs.Result.{is_ok}
 use Rattle.strm_data.specs.declared.msg_type.MsgType.{MsgType}
@@ -40,6 +40,10 @@ pub record IsSupplied (size : ℕ) (a : Arena) (supply : Supply) : Type 0 where
   pub class : IsClassFor size a.store supply.class
   pub data_blocks : supply.count ≤ length (free_of a.store supply.class)
   pub message_blocks : supply.count ≤ length a.free
+
+-- the number of calls of `allocb` for which class c has data blocks and message blocks are free: the lesser of both numbers
+abbrev pub calls_supplied : ℕ → Arena → ℕ
+calls_supplied c a = min (length a.free) (length (free_of a.store c))
 
 -- these blocks with other numbers
 abbrev pub blocks_renumbered : List ℕ → List Block → List Block

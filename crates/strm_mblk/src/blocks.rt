@@ -5,7 +5,7 @@ ghost use Rattle.strm_data.specs.Classes.{are_lawful, fits_a_class};
 ghost use Rattle.strm_data.specs.DataStore.{class_infos, class_region};
 ghost use Rattle.strm_data.specs.CountedStore.{IsKept};
 ghost use Rattle.strm_mblk.specs.Arena.{IsLeastFree, IsParted, IsWithin, blocks_in, census_of, counted_in, has, held_at, message_at, opening_arena, token_of, with_least_reset};
-ghost use Rattle.strm_mblk.specs.BlockCalls.{IsSupplied};
+ghost use Rattle.strm_mblk.specs.BlockCalls.{IsSupplied, calls_supplied};
 ghost use Rattle.strm_mblk.specs.Calls.{Gives, itself};
 ghost use Rattle.strm_mblk.specs.NodeLists.{nodes_at};
 ghost use Rattle.strm_mblk.specs.Given.{answer_of};
@@ -284,13 +284,14 @@ impl Blocks {
         Ok(self.allocb_from(size, supply))
     }
 
-    /// Returns the class from which `allocb` takes a data block for this size, and for how many calls: as long as the class has
-    /// data blocks and message blocks are free. Changes nothing.
+    /// Returns the class from which `allocb` takes a data block for this size, and for how many calls: the lesser of the number
+    /// of the class's free data blocks and that of the free message blocks. Changes nothing.
     ///
     /// Refused as `allocb` would be. Takes at most two steps for each class.
     #[inline(always)]
     pub fn supply(&self, size: u32) -> Result<Supply, Refusal>
         ensures supply { IfOk result (IsSupplied size self.now) }
+        ensures count { IfOk result (λ supply. supply.count ≡ calls_supplied supply.class self.now) }
         ensures some { IfOk result (λ supply. 0 < supply.count) }
         ensures refused { IfErr result (λ why. model.allocb size self.now ≡ Err why) }
     {
