@@ -25,8 +25,7 @@ use Rattle.strm_queue.specs.declared.tally.Placed.{Placed}
 use Rattle.strm_queue.proofs.Laid.{marks_below}
 use Rattle.strm_queue.proofs.Counting.{band_count-placed, tally_joined, tally_left, tally_none, IsPlaced}
 use Rattle.strm_queue.proofs.order.Order.{around}
-use Rattle.strm_queue.proofs.Lists.{get_or-map_same, get_or-replicate_same}
-use Rattle.strm_queue.proofs.Shelf.{heads}
+use Rattle.strm_queue.proofs.Shelf.{get_or-map_same, get_or-replicate_same, heads}
 use Rattle.std.proofs.lemmas.Grind.{common_steps}
 use Rattle.strm_links.specs.Rows as rows
 

@@ -19,15 +19,14 @@ use Rattle.strm_mblk.proofs.arena.Stands.{heads_room}
 use Rattle.strm_links.proofs.lists.OneList.{is_some_of-same}
 use Rattle.strm_queue.specs.Flow.{band_count, band_of_rank, bytes_on, every_band, is_of_band, fills}
 use Rattle.strm_queue.specs.Limits.{bands, ranks}
-use Rattle.strm_queue.specs.Rank.{rank_of, is_ordered}
+use Rattle.strm_queue.specs.Rank.{rank_of, is_ordered, put_behind}
 use Rattle.strm_queue.specs.declared.tally.Placed.{Placed}
 use Rattle.strm_queue.specs.Ends.{first_of_rank, last_of_rank, of_rank}
-use Rattle.strm_queue.specs.Tallies.{AreEndsOf, IsMarkTrue, IsNumbered, IsTallyOf, IsUseTrue, Tally, count_of, end_after_joining, end_after_leaving, first_in, last_in, no_tally, one_less, one_more, with_full_mark, with_count, with_ends}
-use Rattle.strm_queue.proofs.Lists.{get_or-replicate_same}
+use Rattle.strm_queue.specs.Tallies.{AreEndsOf, IsFollowing, IsMarkTrue, IsNumbered, IsTallyOf, IsUseTrue, Tally, count_of, end_after_joining, end_after_leaving, first_in, last_in, no_tally, one_less, one_more, with_full_mark, with_count, with_ends}
 use Rattle.strm_queue.proofs.bands.Used.{set_still}
 use Rattle.strm_queue.proofs.bands.Bands.{has_band_where, length-bands_where, length_every_band}
-use Rattle.strm_queue.proofs.Shelf.{at_there, first_there, heads, last_there}
-use Rattle.strm_queue.proofs.order.Ends.{first_joined, first_left, joins_last, last_joined, last_left, leaves_first, more_behind, of_rank-other}
+use Rattle.strm_queue.proofs.Shelf.{at_there, first_there, get_or-replicate_same, heads, last_there}
+use Rattle.strm_queue.proofs.order.Ends.{first_joined, first_left, first_put, joins_last, last_put, last_joined, last_left, leaves_first, more_behind, of_rank-other}
 use Rattle.std.proofs.lemmas.Grind.{common_steps}
 
 -- ---- the bytes of messages: of all, and of those of a band
@@ -233,6 +232,19 @@ module _ (hiwat : ℕ) (p : Placed) (t : Tally) (used : IsUseTrue p.rank t) wher
   abbrev its_band : ℕ
   its_band = band_of_rank p.rank
 
+  -- a message follows the last one of its rank
+  pub joined_behind : IsFollowing p t → (let u = with_count hiwat its_band (count_of t its_band + p.size) (record t { len = t.len + 1; bytes = t.bytes + p.size }) in record u { lasts = set t.lasts p.rank (Some p.head) }) ≡ one_more hiwat p t
+  joined_behind follows =
+      λ i. record {
+        len = t.len + 1;
+        bytes = t.bytes + p.size;
+        counts = set t.counts its_band (count_of t its_band + p.size);
+        full = set t.full its_band (fills hiwat (count_of t its_band + p.size));
+        firsts = (sym (ap (set t.firsts p.rank) follows.first ∙ set-get_or t.firsts p.rank None)) i;
+        lasts = set t.lasts p.rank (sym follows.last i);
+        used = (sym (ap (λ o. set t.used p.rank (is_some o)) follows.first ∙ set_still t.used p.rank (is_some (first_in t p.rank)) used)) i;
+      }
+
   -- the first message leaves, and another one of its rank is behind it
   pub left_front : first_in t p.rank ≡ Some p.head → is_some p.behind ≡ true → is_some_of p.head (last_in t p.rank) ≡ false
       → (let u = with_count hiwat its_band (count_of t its_band - p.size) (record t { len = t.len - 1; bytes = t.bytes - p.size }) in record u { firsts = set t.firsts p.rank p.behind }) ≡ one_less hiwat p t
@@ -338,6 +350,21 @@ module _ (s : DataStore) (m : Message) where
           (λ i. end_after_joining (last_in t (placed.rank i)) (placed.ahead i) (placed.head i))
           ∙ ap (λ o. end_after_joining o (last (heads pre)) (head_of m)) (is.ends.lasts (rank_of s m)) ∙ joins_last (rank_of s) pre post m ordered apart (sym placed.behind ∙ none)
           ∙ ap Some (sym placed.head)
+
+      -- one that is put after its equals follows the last of them
+      pub follows_equal : is_ordered (rank_of s) (pre ++ m ∷ post) ≡ true → IsApart (heads (pre ++ m ∷ post)) → pre ++ m ∷ post ≡ put_behind (rank_of s) m (pre ++ post) → first_of_rank (rank_of s) p.rank (pre ++ post) ≢ None → IsFollowing p t
+      follows_equal ordered apart place some = record {
+        first =
+            (λ i. end_after_joining (first_in t (placed.rank i)) (placed.behind i) (placed.head i))
+            ∙ ap (λ o. end_after_joining o (first (heads post)) (head_of m)) (is.ends.firsts (rank_of s m)) ∙ first_joined (rank_of s) pre post m ordered apart
+            ∙ ap (first_of_rank (rank_of s) (rank_of s m)) place ∙ first_put (rank_of s) m (pre ++ post) (λ none. some (ap (λ r. first_of_rank (rank_of s) r (pre ++ post)) placed.rank ∙ none))
+            ∙ sym (ap (first_in t) placed.rank ∙ is.ends.firsts (rank_of s m));
+        last =
+            (λ i. end_after_joining (last_in t (placed.rank i)) (placed.ahead i) (placed.head i))
+            ∙ ap (λ o. end_after_joining o (last (heads pre)) (head_of m)) (is.ends.lasts (rank_of s m)) ∙ last_joined (rank_of s) pre post m ordered apart
+            ∙ ap (last_of_rank (rank_of s) (rank_of s m)) place ∙ last_put (rank_of s) m (pre ++ post) ∙ ap Some (sym placed.head);
+        used = use_true (rank_of s) (pre ++ post) t is.ends p.rank;
+      }
 
     -- a message leaves
     module _ (is : IsTallyOf s hiwat (pre ++ m ∷ post) t) where

@@ -19,7 +19,7 @@ use Rattle.strm_queue.specs.declared.marks.Marks.{Marks}
 use Rattle.strm_queue.proofs.Laid.{nexts_lawful, lowat_of-same, marks_at-apart, marks_at-other}
 use Rattle.strm_queue.proofs.Agreeing.{enabled_alone, in_order_state}
 use Rattle.strm_queue.proofs.bands.Bands.{bands_where-same, has_band_where, some_same, wanted_past}
-use Rattle.strm_queue.proofs.Lists.{get_or-map_same}
+use Rattle.strm_queue.proofs.Shelf.{get_or-map_same}
 use Rattle.strm_queue.proofs.Counting.{tally_recounted}
 use Rattle.std.proofs.lemmas.Grind.{common_steps}
 

@@ -1,5 +1,4 @@
 mod Constants
-pub mod Lists
 pub mod bands
 pub mod Shelf
 pub mod order

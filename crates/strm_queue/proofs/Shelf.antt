@@ -1,5 +1,5 @@
--- Messages on a shelf, and a shelf split at a place.
-use Rattle.std.proofs.Common.{arith, ◌≡◌, ℕ, zero, suc, ◌+◌, ◌<◌, ◌≤◌, Bool, true, false, ◌==◌, ◌||◌, List, [], ◌∷◌, ◌++◌, length, map, drop, set, Option, Some, None, is_none, refl, sym, ap, ◌∙◌, subst, inl, inr, if◌then◌else◌, ◌≢◌, Ok, take, get_or}
+-- Messages on a shelf, a shelf split at a place, and lists whose elements are all equal.
+use Rattle.std.proofs.Common.{arith, ◌≡◌, ℕ, zero, suc, ◌+◌, ◌<◌, ◌≤◌, Bool, true, false, ◌==◌, ◌||◌, List, [], ◌∷◌, ◌++◌, length, map, drop, set, Option, Some, None, is_none, refl, sym, ap, ◌∙◌, subst, inl, inr, if◌then◌else◌, ◌≢◌, Ok, take, get_or, replicate}
 use Rattle.std.specs.Prelude.{filter, nat_lt, not, option_map, slice_get, count_by, is_some, ok_or}
 use Rattle.std.specs.List.{position, position_or_len, All, flat_map}
 use Rattle.std.proofs.lemmas.Bool.{cond-true, cond-false, eq-eqb, eqb-true, lt-ltb, ne_eqb, false≢true, not_from_true, not_from_false, cases_Bool, cases_eq}
@@ -22,6 +22,19 @@ use Rattle.strm_mblk.proofs.Shelving.{none_begins, parted_adds}
 use Rattle.strm_mblk.proofs.arena.Stands.{heads_apart, shelf_of-there}
 use Rattle.strm_queue.specs.QueueLooks.{info_of_message}
 use Rattle.std.proofs.lemmas.Grind.{common_steps}
+
+-- ---- a list of one value
+
+-- past the end the default is that value too
+pub get_or-map_same : {X Y : Type 0} (xs : List X) (y : Y) (i : ℕ) → get_or (map (λ x. y) xs) i y ≡ y
+get_or-map_same [] y i = refl
+get_or-map_same (x ∷ xs) y zero = refl
+get_or-map_same (x ∷ xs) y (suc i) = get_or-map_same xs y i
+
+pub get_or-replicate_same : {X : Type 0} (n : ℕ) (x : X) (i : ℕ) → get_or (replicate n x) i x ≡ x
+get_or-replicate_same zero x i = refl
+get_or-replicate_same (suc n) x zero = refl
+get_or-replicate_same (suc n) x (suc i) = get_or-replicate_same n x i
 
 -- ---- the messages of one shelf, found by their heads, which are all different
 

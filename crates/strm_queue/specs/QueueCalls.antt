@@ -1,5 +1,5 @@
 -- What each call on queues does to queues and message blocks. A message that is put is given by its head, and was held.
-use Rattle.std.specs.Prelude.{ℕ, Bool, true, false, not, nat_le, nat_lt, filter, List, [], ◌∷◌, drop, length, Option, None, Some, Ok, Err, slice_get, if◌then◌else◌}
+use Rattle.std.specs.Prelude.{◌≡◌, ◌<◌, ℕ, IsTrue, Bool, true, false, not, nat_le, nat_lt, filter, List, [], ◌∷◌, drop, length, Option, None, Some, Ok, Err, slice_get, if◌then◌else◌}
 use Rattle.std.specs.Option.{option_map_or}
 use Rattle.strm_data.specs.declared.refusal.Refusal.TheVariants.{BadMarks, BadOrder, NoSuchPlace, NoSuchQueue}
 use Rattle.strm_links.specs.Chains.{without_place}
@@ -7,12 +7,16 @@ use Rattle.strm_links.specs.Rows as rows
 use Rattle.strm_mblk.specs.Arena.{message_at, shelf_at, with_held, with_shelf, without_held}
 use Rattle.strm_mblk.specs.Block.{Message, head_of}
 use Rattle.strm_mblk.specs.Given.{Given}
+use Rattle.strm_mblk.specs.Shelves.{heads_at}
 use Rattle.strm_queue.specs.declared.band_info.BandInfo.{BandInfo}
 use Rattle.strm_queue.specs.declared.flush.Flush.{Flush}
+use Rattle.strm_queue.specs.declared.queues.putting.BurstPlace.{BurstPlace}
+use Rattle.strm_queue.specs.Ends.{last_of_rank}
 use Rattle.strm_queue.specs.declared.marks.Marks.{Marks}
 use Rattle.strm_queue.specs.declared.queue_info.QueueInfo.{QueueInfo}
 use Rattle.strm_queue.specs.Flow.{Flags, QueueState, band_count, bytes_on, with_enabled, enabled_where, enables_inserted, enables_put, enables_put_back, fills, flags_at, has_band, hiwat_of, lowat_of, marks_at, some_relieved, still_wanted, target, waker, with_flags, with_marks, with_noenable, with_read, with_wanted}
 use Rattle.strm_queue.specs.Flush.{is_picked, with_freed}
+use Rattle.strm_queue.specs.Limits.{ranks}
 use Rattle.strm_queue.specs.QueuedBlocks.{QueuedBlocks}
 use Rattle.strm_queue.specs.Rank.{as_queued, is_ordered, put_ahead, put_at, put_behind, rank_of}
 
@@ -102,6 +106,18 @@ insq q k h v =
     else (if is_ordered (rank_of v.arena.store) (put_at k (message_put h v) (messages_on v q))
     then Ok (tt, with_state (enabled_where (enables_inserted (flags_of v q)) q) (with_put q h (put_at k (message_put h v) (messages_on v q)) v))
     else Err BadOrder))
+
+-- A burst's next message of this rank joins queue q after the last message of the rank, and enables q no more.
+pub record IsPlaceOn (p : BurstPlace) (q : ℕ) (v : QueuedBlocks) : Type 0 where
+  pub there : IsTrue (has_queue v q)
+  pub end : ℕ
+  pub last : last_of_rank (rank_of v.arena.store) p.rank (messages_on v q) ≡ Some end
+  pub before : p.before ≡ rows.after end (heads_at v.arena q)
+  pub enabled : enabled_where (enables_put (flags_of v q) p.rank) q v.queues ≡ v.queues
+
+-- the same, once the burst has a message
+abbrev pub IsBurstPlace : BurstPlace → ℕ → QueuedBlocks → Type 0
+IsBurstPlace p q v = p.rank < ranks → IsPlaceOn p q v
 
 -- ---- messages are taken off a queue
 

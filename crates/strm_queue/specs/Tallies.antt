@@ -80,6 +80,17 @@ IsMarkTrue hiwat band t = has_band t.full band ≡ fills hiwat (count_of t band)
 abbrev pub IsUseTrue : ℕ → Tally → Type 0
 IsUseTrue r t = r < length t.used → has_band t.used r ≡ is_some (first_in t r)
 
+-- an end of a rank after a message joined it: the message, if the rank was empty or its end is beside; else the old end
+abbrev pub end_after_joining : Option ℕ → Option ℕ → ℕ → Option ℕ
+end_after_joining None beside head = Some head
+end_after_joining (Some at) beside head = if rows.is_some_of at beside then Some head else Some at
+
+-- the message goes after the last one of its rank, and not before the first
+pub record IsFollowing (p : Placed) (t : Tally) : Type 0 where
+  pub first : end_after_joining (first_in t p.rank) p.behind p.head ≡ first_in t p.rank
+  pub last : end_after_joining (last_in t p.rank) p.ahead p.head ≡ Some p.head
+  pub used : IsUseTrue p.rank t
+
 -- a band is stored with n bytes, and with its full mark by this high water mark
 abbrev pub with_count : ℕ → ℕ → ℕ → Tally → Tally
 with_count hiwat band n t = record t { counts = slice_set t.counts band n; full = slice_set t.full band (fills hiwat n) }
@@ -91,11 +102,6 @@ with_full_mark hiwat band t = with_count hiwat band (count_of t band) t
 -- these heads are stored as the first and the last message of a rank
 abbrev pub with_ends : ℕ → Option ℕ → Option ℕ → Tally → Tally
 with_ends r first last t = record t { firsts = slice_set t.firsts r first; lasts = slice_set t.lasts r last; used = slice_set t.used r (is_some first) }
-
--- an end of a rank after a message joined it: the message, if the rank was empty or its end is beside; else the old end
-abbrev pub end_after_joining : Option ℕ → Option ℕ → ℕ → Option ℕ
-end_after_joining None beside head = Some head
-end_after_joining (Some at) beside head = if rows.is_some_of at beside then Some head else Some at
 
 -- An end of a rank after a message left it. If the message was that end: the one beside, or none if it was the other end too.
 -- Else the old end.

@@ -21,5 +21,5 @@ pub use marks::Marks;
 pub use queue_info::QueueInfo;
 pub use queue_spec::QueueSpec;
 pub use queued_info::QueuedInfo;
-pub use queues::Queues;
+pub use queues::{BurstPlace, Queues};
 pub use receiver::Receiver;

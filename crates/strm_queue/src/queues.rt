@@ -10,7 +10,7 @@ ghost use Rattle.strm_queue.specs.QueueSpecs.{are_lawful};
 ghost use Rattle.strm_queue.specs.QueuedBlocks.{Agrees, AreCountsTrue, AreMarksLawful, AreFullMarksTrue, opening_value, tally_at, with_tally};
 ghost use Rattle.strm_queue.specs.QueuesLayout.{new_queue};
 ghost use Rattle.strm_queue.specs.Rank.{is_ordered, rank_of};
-ghost use Rattle.strm_queue.specs.Tallies.{IsMarkTrue, IsNumbered, IsUseTrue, count_of, end_after_joining, first_in, last_in, one_less, one_more, with_full_mark};
+ghost use Rattle.strm_queue.specs.Tallies.{IsFollowing, IsMarkTrue, IsNumbered, IsUseTrue, count_of, end_after_joining, first_in, last_in, one_less, one_more, with_full_mark};
 
 mod asking;
 mod counts;
@@ -31,6 +31,7 @@ use crate::mark_table::MarkTable;
 use crate::marks::Marks;
 use crate::queue_spec::QueueSpec;
 use crate::tally::{Placed, Tally, band_of};
+pub use putting::BurstPlace;
 use std::alloc::{AllocError, Global};
 use std::marker::Model;
 use strm_links::Links;
@@ -137,9 +138,9 @@ impl Queues {
         &self.queues[usize::from(queue)].tally
     }
 
-    // Notes that a message has joined a queue.
+    // Notes that a message has joined a queue; `follows` says that it is known to follow the last one of its rank.
     #[inline(always)]
-    fn join(&mut self, queue: u8, placed: Placed)
+    fn join(&mut self, queue: u8, placed: Placed, follows: bool)
         requires queue { queue < length self.old.state.specs }
         requires rank { placed.rank < ranks }
         requires numbered { IsNumbered placed }
@@ -151,11 +152,14 @@ impl Queues {
         requires last { placed.behind ≡ None
             → end_after_joining (last_in (tally_at self.old queue) placed.rank) placed.ahead placed.head
             ≡ Some placed.head }
+        requires follows { IsTrue follows → IsFollowing placed (tally_at self.old queue) }
         ensures { self.new ≡ with_tally queue (one_more (hiwat_of self.old.state queue (band_of_rank placed.rank))
             placed (tally_at self.old queue)) self.old }
     {
         let hiwat = self.hiwat(queue, band_of(placed.rank));
-        self.queues[usize::from(queue)].tally.join(hiwat, placed);
+        self.queues[usize::from(queue)]
+            .tally
+            .join(hiwat, placed, follows);
     }
 
     // Notes that a message has left a queue.

@@ -1,10 +1,10 @@
 //! What is stored of a queue's messages, so that `qsize`, `bcanput` and `putq` walk along no list.
-ghost use Rattle.std.specs.Prelude.{◌≡◌, ◌+◌, ◌-◌, ◌<◌, ◌≤◌, ◌^◌, ℕ, false, None, Some, is_some, true};
+ghost use Rattle.std.specs.Prelude.{◌≡◌, ◌+◌, ◌-◌, ◌<◌, ◌≤◌, ◌^◌, ℕ, IsTrue, false, None, Some, is_some, true};
 ghost use Rattle.std.specs.Option.{ForSome, IfNone, IfSome};
 ghost use Rattle.strm_queue.specs.Flow.{band_of_rank, has_band};
 ghost use Rattle.strm_links.specs.Rows.{is_some_of};
 ghost use Rattle.strm_queue.specs.Limits.{ranks};
-ghost use Rattle.strm_queue.specs.Tallies.{IsMarkTrue, IsNumbered, IsRankFrom, IsRankTo, IsUseTrue, count_of, end_after_joining, end_after_leaving, first_in, has_rank, last_in, no_tally, one_less, one_more, with_full_mark, with_count, with_ends};
+ghost use Rattle.strm_queue.specs.Tallies.{IsFollowing, IsMarkTrue, IsNumbered, IsRankFrom, IsRankTo, IsUseTrue, count_of, end_after_joining, end_after_leaving, first_in, has_rank, last_in, no_tally, one_less, one_more, with_full_mark, with_count, with_ends};
 
 use crate::band_set::BandSet;
 use crate::limits::{BANDS, HIGH_RANK, RANKS};
@@ -155,9 +155,11 @@ impl Tally {
         Some(0)
     }
 
-    // Counts a message that has joined the queue; `hiwat` is the high water mark of its band.
+    // Counts a message that has joined the queue; `hiwat` is the high water mark of its band. If it is known to follow the last
+    // message of its rank, only that changes beside the counts.
     #[inline(always)]
-    pub(crate) fn join(&mut self, hiwat: u32, placed: Placed)
+    #[tactic(auto, using(crate::proofs::Counting::joined_behind))]
+    pub(crate) fn join(&mut self, hiwat: u32, placed: Placed, follows: bool)
         requires rank { placed.rank < ranks }
         requires numbered { IsNumbered placed }
         requires len { self.old.len + 1 < 2 ^ 32 }
@@ -166,6 +168,7 @@ impl Tally {
         requires marked { IsMarkTrue hiwat (band_of_rank placed.rank) self.old }
         requires last { placed.behind ≡ None
             → end_after_joining (last_in self.old placed.rank) placed.ahead placed.head ≡ Some placed.head }
+        requires follows { IsTrue follows → IsFollowing placed self.old }
         ensures { self.new ≡ one_more hiwat placed self.old }
     {
         let Placed {
@@ -175,12 +178,15 @@ impl Tally {
             ahead,
             behind,
         } = placed;
-        let band = band_of(rank);
-        let first = end_after_joining(self.firsts[usize::from(rank)], behind, head);
-        let last = last_after_joining(self.lasts[usize::from(rank)], ahead, behind, head);
         self.len += 1;
         self.bytes += size;
-        self.grow(hiwat, band, size);
+        self.grow(hiwat, band_of(rank), size);
+        if follows {
+            self.lasts[usize::from(rank)] = Slot::some(head);
+            return;
+        }
+        let first = end_after_joining(self.firsts[usize::from(rank)], behind, head);
+        let last = last_after_joining(self.lasts[usize::from(rank)], ahead, behind, head);
         self.set_ends(rank, first, last, true);
     }
 

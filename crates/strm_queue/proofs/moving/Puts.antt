@@ -1,31 +1,39 @@
 -- What the calls that put a message on a queue do, by the model.
-use Rattle.std.proofs.Common.{◌≡◌, ℕ, ◌≤◌, Bool, true, false, List, length, take, drop, Option, None, Result, Ok, Err, refl, sym, ap, ◌∙◌, subst, if◌then◌else◌, ◌≢◌, suc, ◌<◌, [], ◌∷◌, Some, arith, length-append}
+use Rattle.std.proofs.Common.{◌≡◌, ℕ, ◌≤◌, Bool, true, false, ◌&&◌, ◌++◌, inl, inr, List, length, take, drop, Option, None, Result, Ok, Err, refl, sym, ap, ◌∙◌, subst, if◌then◌else◌, ◌≢◌, suc, ◌<◌, [], ◌∷◌, Some, arith, length-append}
 use Rattle.std.proofs.lemmas.Grind.{common_steps}
-use Rattle.std.specs.Prelude.{nat_lt, ok_or, slice_get}
-use Rattle.std.proofs.lemmas.Bool.{cond-true, cond-false}
+use Rattle.std.specs.Prelude.{nat_lt, not, ok_or, slice_get}
+use Rattle.std.proofs.lemmas.Bool.{cases_Bool, cond-true, cond-false, or_right}
 use Rattle.std.proofs.lemmas.List.{length-map, take-append-drop, set-set}
 use Rattle.std.proofs.lemmas.Option.{slice_get_past}
+use Rattle.strm_links.specs.Rows as rows
 use Rattle.strm_links.specs.Rows.{IsApart}
+use Rattle.strm_links.proofs.lists.OneList.{has-append, has_head}
 use Rattle.strm_data.specs.declared.refusal.Refusal.{Refusal}
 use Rattle.strm_data.specs.declared.refusal.Refusal.TheVariants.{BadOrder, NoSuchPlace}
-use Rattle.strm_mblk.specs.Arena.{Arena, IsParted, message_at, shelf_at, census_of, held_at, with_shelf, without_held}
+use Rattle.strm_mblk.specs.declared.token.TokenValue.{TokenValue}
+use Rattle.strm_mblk.specs.Arena.{Arena, IsParted, has, message_at, shelf_at, census_of, held_at, with_shelf, without_held}
 use Rattle.strm_mblk.specs.Block.{Message, head_of}
 use Rattle.strm_mblk.specs.Given.{Given, and_then, value_after}
 use Rattle.strm_mblk.specs.Messages.{put_before_head}
 use Rattle.strm_mblk.specs.Shelves.{heads_at, is_on, shelve}
 use Rattle.strm_mblk.proofs.arena.Stands.{heads_apart}
-use Rattle.strm_queue.specs.Flow.{enabled_where, enables_inserted, enables_put, enables_put_back}
+use Rattle.strm_queue.specs.declared.queues.putting.BurstPlace.{BurstPlace}
+use Rattle.strm_queue.specs.Ends.{last_of_rank}
+use Rattle.strm_queue.specs.Flow.{QueueState, enabled_where, enables_inserted, enables_put, enables_put_back, flags_at, spec_at, with_enabled}
 use Rattle.strm_queue.specs.HeadCalls.{insq_before, place_before}
-use Rattle.strm_queue.specs.QueueCalls.{has_queue, insq, flags_of, messages_on, putbq, putq, rank_put, with_put, with_state}
-use Rattle.strm_queue.specs.QueuedBlocks.{QueuedBlocks, QueuesValue, queued_blocks}
+use Rattle.strm_queue.specs.QueueCalls.{IsPlaceOn, has_queue, insq, flags_of, messages_on, putbq, putq, rank_put, with_put, with_state}
+use Rattle.strm_queue.specs.QueuedBlocks.{AreInOrder, QueuedBlocks, QueuesValue, queued_blocks}
 use Rattle.strm_queue.specs.Rank.{as_queued, is_ordered, put_ahead, put_at, put_behind, rank_of}
 use Rattle.strm_queue.proofs.Shelf.{first_at, heads, place_missing, place_there, placed-between}
 use Rattle.std.specs.List.{All, flat_map}
 use Rattle.strm_mblk.specs.BlockCalls.{with_band, setband}
 use Rattle.strm_mblk.proofs.Lists.{flat_map-set_adds, length_adds}
-use Rattle.strm_mblk.proofs.arena.Counts.{held_within}
+use Rattle.strm_mblk.proofs.arena.Counts.{had_message, held_within}
 use Rattle.strm_queue.specs.Limits.{high_rank}
-use Rattle.strm_queue.proofs.order.Order.{low_queued}
+use Rattle.strm_queue.proofs.order.Ends.{last_of_rank-has, last_put}
+use Rattle.strm_queue.proofs.order.Places.{after_there, placed_behind-some}
+use Rattle.strm_queue.proofs.order.Order.{head_of-queued, low_queued, rank_of-queued}
+use Rattle.strm_queue.proofs.Agreeing.{enabled_alone}
 
 module _ (v : QueuesValue) (a : Arena) (q h : ℕ) (there : nat_lt q (length v.state.specs) ≡ true) where
   -- the message, as a queue has it
@@ -134,3 +142,59 @@ few_messages (x ∷ xs) some =
 pub few_on_shelf : (a : Arena) → IsParted a → (q n : ℕ) → q < length a.shelves → (census_of a).queued ≤ n → length (shelf_at a q) ≤ n
 few_on_shelf a parted q n within few =
     omega (arith, few, few_messages (shelf_at a q) (parted.shelved q), flat_map-set_adds length_adds (flat_map (λ x. x)) a.shelves q [] [] within)
+
+-- ---- a burst
+
+-- a held message begins with its token's head, also as the queue has it
+head_held : (a : Arena) → IsParted a → (t : TokenValue) → has a t ≡ true → head_of (message_at a t.head) ≡ t.head
+head_held a parted t had = grind (arith, common_steps, had_message)
+
+pub head_put : (a : Arena) → IsParted a → (t : TokenValue) → has a t ≡ true → head_of (as_queued a.store (message_at a t.head)) ≡ t.head
+head_put a parted t had = head_of-queued a.store (message_at a t.head) ∙ head_held a parted t had
+
+-- one that is put after its equals is the last of its rank
+pub put_last : (a b : Arena) → IsParted a → (q r : ℕ) (t : TokenValue) → has a t ≡ true → b.store ≡ a.store → shelf_at b q ≡ put_behind (rank_of a.store) (as_queued a.store (message_at a t.head)) (shelf_at a q)
+    → r ≡ rank_of a.store (message_at a t.head) → last_of_rank (rank_of b.store) r (shelf_at b q) ≡ Some t.head
+put_last a b parted q r t had store is rank =
+    let m = as_queued a.store (message_at a t.head) in
+    let same : r ≡ rank_of a.store m = rank ∙ sym (rank_of-queued a.store (message_at a t.head)) in
+    (λ i. last_of_rank (rank_of (store i)) (same i) (is i)) ∙ last_put (rank_of a.store) m (shelf_at a q) ∙ ap Some (head_put a parted t had)
+
+-- the place of a burst's next message
+module _ (p : BurstPlace) (q : ℕ) (v : QueuesValue) (a : Arena) (in_order : AreInOrder v a) (parted : IsParted a) (placed : IsPlaceOn p q (queued_blocks v a)) where
+  -- the message after it is on the queue
+  pub burst_there : (x : ℕ) → p.before ≡ Some x → is_on a q x ≡ true
+  burst_there x some =
+      after_there placed.end x (shelf_at a q) (heads_apart a parted q) (last_of_rank-has (rank_of a.store) placed.end p.rank (shelf_at a q) placed.last) (sym placed.before ∙ some)
+
+  -- a message of the rank goes there, after its equals
+  pub burst_place : (h : ℕ) → p.rank ≡ rank_of a.store (message_at a h)
+      → put_before_head head_of p.before (as_queued a.store (message_at a h)) (shelf_at a q) ≡ put_behind (rank_of a.store) (as_queued a.store (message_at a h)) (shelf_at a q)
+  burst_place h rank =
+      let m = as_queued a.store (message_at a h) in
+      ap (λ o. put_before_head head_of o m (shelf_at a q)) placed.before
+      ∙ placed_behind-some (rank_of a.store) (shelf_at a q) (in_order.ordered q) (heads_apart a parted q) p.rank p.rank placed.end (omega arith) placed.last (λ x least less. absurd (omega (arith, least, less)))
+      m (rank_of-queued a.store (message_at a h) ∙ sym rank)
+
+and_off : (b : Bool) → (b && false) ≡ false
+and_off true = refl
+and_off false = refl
+
+-- a queue that is enabled is not enabled again
+enabled_twice : (so : Bool) (q : ℕ) (s : QueueState) → enabled_where so q (enabled_where so q s) ≡ enabled_where so q s
+enabled_twice false q s = refl
+enabled_twice true q s =
+    elim (cases_Bool ((spec_at s.specs q).service && not (rows.has q s.run))) [
+      | inl goes ↦
+          let is : with_enabled q s ≡ record s { run = s.run ++ q ∷ [] } = cond-true _ _ _ goes in
+          let there : rows.has q (s.run ++ q ∷ []) ≡ true = has-append q s.run (q ∷ []) ∙ or_right (rows.has q s.run) (rows.has q (q ∷ [])) (has_head q q [] refl) in
+          ap (with_enabled q) is ∙ cond-false _ _ _ ((λ i. (spec_at s.specs q).service && not (there i)) ∙ and_off (spec_at s.specs q).service) ∙ sym is
+      | inr stays ↦ ap (with_enabled q) (cond-false _ _ _ stays)
+    ]
+
+-- so another message of the rank enables it no more
+pub enabled_still : (q r : ℕ) (s t : QueueState) → t ≡ enabled_where (enables_put (flags_at s q) r) q s → enabled_where (enables_put (flags_at t q) r) q t ≡ t
+enabled_still q r s t is =
+    let so = enables_put (flags_at s q) r in
+    let flags : flags_at t q ≡ flags_at s q = ap (λ (x : QueueState). flags_at x q) (is ∙ enabled_alone so q s) in
+    (λ i. enabled_where (enables_put (flags i) r) q (is i)) ∙ enabled_twice so q s ∙ sym is

@@ -2,9 +2,9 @@
 use Rattle.std.proofs.Common.{◌≡◌, ◌≢◌, ◌⊎◌, ℕ, ◌<◌, Bool, true, false, ◌==◌, List, [], ◌∷◌, ◌++◌, Option, Some, None, refl, sym, ap, ◌∙◌, subst, inl, inr, arith}
 use Rattle.std.proofs.lemmas.Grind.{common_steps}
 use Rattle.std.specs.Prelude.{nat_le, cond, is_some, if◌then◌else◌}
-use Rattle.std.specs.List.{list_all}
+use Rattle.std.specs.List.{list_all, list_any}
 use Rattle.std.specs.Option.{option_or}
-use Rattle.std.proofs.lemmas.Bool.{and_parts, cases_eq, cond-true, cond-false, eq-eqb, false≢true, leb-true, lt-leb, ne_eqb}
+use Rattle.std.proofs.lemmas.Bool.{and_parts, cases_Bool, cases_eq, cond-true, cond-false, eq-eqb, false≢true, le-leb, leb-true, lt-leb, ne_eqb, or_parts}
 use Rattle.std.proofs.lemmas.List.{append-nil, append_assoc, map-append}
 use Rattle.std.proofs.lemmas.List.Elements.{filter-append}
 use Rattle.std.proofs.lemmas.Option.{none-some, same_Some}
@@ -12,7 +12,7 @@ use Rattle.strm_links.specs.Rows.{IsApart, first, has, is_some_of, last, last_or
 use Rattle.strm_links.proofs.lists.OneList.{ApartParts, IsApart-parts, absent_parts, differ, first_has, has_cases, has_head, has_tail, is_some_of-same, last_has, last_or-append}
 use Rattle.strm_mblk.specs.Block.{Message, head_of}
 use Rattle.strm_queue.specs.Ends.{first_of_rank, last_of_rank, of_rank}
-use Rattle.strm_queue.specs.Rank.{is_ordered}
+use Rattle.strm_queue.specs.Rank.{is_ordered, put_behind}
 use Rattle.strm_queue.specs.Tallies.{end_after_joining, end_after_leaving}
 use Rattle.strm_queue.proofs.Shelf.{first_none, heads, last_none, last_of}
 use Rattle.strm_queue.proofs.order.Order.{around, ordered_last}
@@ -150,6 +150,52 @@ module _ (rank : Message → ℕ) where
 
   pub last_of_rank-has : (h r : ℕ) (ms : List Message) → last_of_rank rank r ms ≡ Some h → has h (heads ms) ≡ true
   last_of_rank-has h r ms is = has_of_rank h r ms (last_has (heads (of_rank rank r ms)) h (is_some_of-same h _ is))
+
+  -- ---- a message goes after its equals
+
+  -- a last message of the rank is the last one also with another message ahead
+  last_beyond : (r h : ℕ) (x : Message) (ms : List Message) → last_of_rank rank r ms ≡ Some h → last_of_rank rank r (x ∷ ms) ≡ Some h
+  last_beyond r h x ms is =
+      ap (λ ys. last (heads ys)) (of_rank-append r (x ∷ []) ms) ∙ last_or_other (of_rank rank r (x ∷ [])) (of_rank rank r ms) ∙ ap (λ o. option_or o (last (heads (of_rank rank r (x ∷ []))))) is
+
+  -- where all are of lower rank, none has the rank
+  of_rank-below : (r : ℕ) (ms : List Message) → list_any (λ y. nat_le r (rank y)) ms ≡ false → of_rank rank r ms ≡ []
+  of_rank-below r [] below = refl
+  of_rank-below r (y ∷ ys) below =
+      let parts = or_parts (nat_le r (rank y)) (list_any (λ z. nat_le r (rank z)) ys) below in
+      cond-false _ _ _ (ne_eqb (rank y) r (λ same. false≢true (sym parts.0 ∙ le-leb r (rank y) (omega (arith, same))))) ∙ of_rank-below r ys parts.1
+
+  -- if the rank has messages, its first one stays
+  pub first_put : (m : Message) (ms : List Message) → first_of_rank rank (rank m) ms ≢ None → first_of_rank rank (rank m) (put_behind rank m ms) ≡ first_of_rank rank (rank m) ms
+  first_put m [] some = absurd (some refl)
+  first_put m (x ∷ xs) some =
+      elim (cases_Bool (list_any (λ y. nat_le (rank m) (rank y)) (x ∷ xs))) [
+        | inl more ↦
+            ap (first_of_rank rank (rank m)) (cond-true _ (x ∷ put_behind rank m xs) (m ∷ x ∷ xs) more)
+            ∙ elim (cases_eq (rank x) (rank m)) [
+              | inl same ↦
+                  let here = eq-eqb (rank x) (rank m) same in
+                  ap (λ ys. first (heads ys)) (cond-true _ (x ∷ of_rank rank (rank m) (put_behind rank m xs)) (of_rank rank (rank m) (put_behind rank m xs)) here)
+                  ∙ sym (ap (λ ys. first (heads ys)) (cond-true _ (x ∷ of_rank rank (rank m) xs) (of_rank rank (rank m) xs) here))
+              | inr other ↦
+                  let past = ne_eqb (rank x) (rank m) other in
+                  let rest : first_of_rank rank (rank m) (x ∷ xs) ≡ first_of_rank rank (rank m) xs = ap (λ ys. first (heads ys)) (cond-false _ (x ∷ of_rank rank (rank m) xs) (of_rank rank (rank m) xs) past) in
+                  ap (λ ys. first (heads ys)) (cond-false _ (x ∷ of_rank rank (rank m) (put_behind rank m xs)) (of_rank rank (rank m) (put_behind rank m xs)) past)
+                  ∙ first_put m xs (λ none. some (rest ∙ none)) ∙ sym rest
+            ]
+        | inr none ↦ absurd (some (ap (λ ys. first (heads ys)) (of_rank-below (rank m) (x ∷ xs) none)))
+      ]
+
+  -- it is then the last of its rank
+  pub last_put : (m : Message) (ms : List Message) → last_of_rank rank (rank m) (put_behind rank m ms) ≡ Some (head_of m)
+  last_put m [] = ap (λ ys. last (heads ys)) (of_rank-here m [])
+  last_put m (x ∷ xs) =
+      elim (cases_Bool (list_any (λ y. nat_le (rank m) (rank y)) (x ∷ xs))) [
+        | inl some ↦ ap (last_of_rank rank (rank m)) (cond-true _ (x ∷ put_behind rank m xs) (m ∷ x ∷ xs) some) ∙ last_beyond (rank m) (head_of m) x (put_behind rank m xs) (last_put m xs)
+        | inr none ↦
+            ap (last_of_rank rank (rank m)) (cond-false _ (x ∷ put_behind rank m xs) (m ∷ x ∷ xs) none)
+            ∙ ap (λ ys. last (heads ys)) (of_rank-here m (x ∷ xs) ∙ ap (λ ys. m ∷ ys) (of_rank-below (rank m) (x ∷ xs) none))
+      ]
 
   -- ---- in order
 

@@ -6,16 +6,41 @@ ghost use Rattle.strm_mblk.specs.Given.{given_nothing};
 ghost use Rattle.strm_mblk.specs.Shelves.{heads_at, is_on};
 ghost use Rattle.strm_mblk.specs.Calls.{Puts, itself};
 ghost use Rattle.strm_queue.specs.HeadCalls as by_head;
-ghost use Rattle.strm_queue.specs.Joining.{IsRank, shelf_with};
+ghost use Rattle.strm_queue.specs.Joining.{IsAfterEqual, IsRank, shelf_with};
 ghost use Rattle.strm_queue.specs.QueueCalls as model;
-ghost use Rattle.strm_queue.specs.QueuedBlocks.{Agrees, AreInOrder, queued_blocks, arena};
+ghost use Rattle.strm_queue.specs.QueueCalls.{IsBurstPlace, IsPlaceOn};
+ghost use Rattle.strm_queue.specs.QueuedBlocks.{Agrees, AreInOrder, QueuedBlocks, queued_blocks, arena};
 ghost use Rattle.strm_queue.specs.Rank.{is_ordered, rank_of};
 
 use super::Queues;
 use super::places::{fits_before, head_at, held_rank, is_at};
-use crate::limits::HIGH_RANK;
+use crate::limits::{HIGH_RANK, RANKS};
 use strm_data::Refusal;
 use strm_mblk::{BlockNo, Blocks, Rejected, Token};
+
+/// Where the next message of a burst joins a queue if it has the band of the last one, so that it need not be looked up
+/// again.
+///
+/// It is for one queue, and holds only while no other call changes queues or message blocks.
+#[derive(Clone, Copy, Debug)]
+pub struct BurstPlace {
+    // The rank of the last message, or `RANKS` before the first one.
+    rank: u16,
+    // The head of the message after the last one, if any.
+    before: Option<BlockNo>,
+}
+
+impl BurstPlace {
+    /// The place before the first message of a burst: that one looks its place up.
+    pub fn new() -> BurstPlace
+        ensures { (queue : ℕ) (v : QueuedBlocks) → IsBurstPlace result queue v }
+    {
+        BurstPlace {
+            rank: RANKS as u16,
+            before: None,
+        }
+    }
+}
 
 impl Queues {
     // Does what `shelve` does. Most messages go last. Each call is inlined, and the first one is then shorter.
@@ -26,12 +51,14 @@ impl Queues {
         queue: u8,
         before: Option<BlockNo>,
         rank: u16,
+        follows: bool,
         token: Token,
     )
         requires queue { queue < length self.old.state.specs }
         requires in_order { AreInOrder self.old blocks.old }
         requires had { IsTrue (has blocks.old token) }
         requires rank { IsRank blocks.old token rank }
+        requires follows { IsTrue follows → IsAfterEqual blocks.old queue before token rank }
         requires before { ForSome before (λ head. IsTrue (is_on blocks.old queue head)) }
         requires ordered { IsTrue (is_ordered (rank_of blocks.old.store)
             (shelf_with blocks.old queue before token.head)) }
@@ -42,8 +69,8 @@ impl Queues {
         ensures in_order { AreInOrder self.new blocks.new }
     {
         match before {
-            None => self.shelve(blocks, queue, None, rank, token),
-            Some(_) => self.shelve(blocks, queue, before, rank, token),
+            None => self.shelve(blocks, queue, None, rank, follows, token),
+            Some(_) => self.shelve(blocks, queue, before, rank, follows, token),
         }
     }
 
@@ -60,7 +87,7 @@ impl Queues {
     {
         // Whether the message enables the queue is asked last: then most messages need no more than the want-to-read mark.
         let before = self.place_behind(blocks, queue, rank).get();
-        self.lay(blocks, queue, before, rank, token);
+        self.lay(blocks, queue, before, rank, false, token);
         let enables = self.enables_put(queue, rank);
         self.enable_where(enables, queue);
     }
@@ -109,6 +136,94 @@ impl Queues {
         Ok(())
     }
 
+    // Puts the next message of a burst on a queue, as `putq` does. It has the rank of the last one, and follows it.
+    #[inline(always)]
+    fn join_burst(
+        &mut self,
+        blocks: &mut Blocks,
+        queue: u8,
+        place: BurstPlace,
+        rank: u16,
+        token: Token,
+    )
+        requires agrees { Agrees self.old blocks.old }
+        requires had { IsTrue (has blocks.old token) }
+        requires rank { IsRank blocks.old token rank }
+        requires same { rank ≡ place.rank }
+        requires place { IsPlaceOn place queue (queued_blocks self.old blocks.old) }
+        ensures does { Puts arena token (model.putq queue token.head (queued_blocks self.old blocks.old))
+            (queued_blocks self.old blocks.old) (queued_blocks self.new blocks.new) (Ok tt) }
+        ensures agrees { Agrees self.new blocks.new }
+        ensures place { IsPlaceOn place queue (queued_blocks self.new blocks.new) }
+    {
+        blocks.lawful();
+        self.lay(blocks, queue, place.before, rank, true, token);
+        blocks.lawful();
+    }
+
+    // Puts a message of a burst on a queue, as `putq` does. Its rank is not that of the last one.
+    #[inline(never)]
+    #[tactic(auto, using(strm_mblk::proofs::arena::Calls::puts_none))]
+    fn begin_burst(
+        &mut self,
+        blocks: &mut Blocks,
+        queue: u8,
+        place: &mut BurstPlace,
+        rank: u16,
+        token: Token,
+    ) -> Result<(), Rejected>
+        requires agrees { Agrees self.old blocks.old }
+        requires had { IsTrue (has blocks.old token) }
+        requires rank { IsRank blocks.old token rank }
+        requires place { IsBurstPlace place.old queue (queued_blocks self.old blocks.old) }
+        ensures does { Puts arena token (model.putq queue token.head (queued_blocks self.old blocks.old))
+            (queued_blocks self.old blocks.old) (queued_blocks self.new blocks.new) result }
+        ensures agrees { Agrees self.new blocks.new }
+        ensures place { IsBurstPlace place.new queue (queued_blocks self.new blocks.new) }
+    {
+        if !self.has_queue(queue) {
+            let why = Refusal::NoSuchQueue;
+            return Err(Rejected { why, token });
+        }
+        blocks.lawful();
+        let head = token.head();
+        self.put_ranked(blocks, queue, rank, token);
+        blocks.lawful();
+        let before = blocks.after(head);
+        *place = BurstPlace { rank, before };
+        Ok(())
+    }
+
+    /// Puts the next message of a burst on a queue, as [`Queues::putq`] does. `place` is where the last message of the burst
+    /// went, and then where this one did. A message with the rank of the last one needs no search, and enables the queue no
+    /// more.
+    ///
+    /// Rejected as `NoSuchQueue`; then nothing changes, and the token comes back. Takes a step for each block of the
+    /// message. This project's own call.
+    #[inline(always)]
+    pub fn putq_in_burst(
+        &mut self,
+        blocks: &mut Blocks,
+        queue: u8,
+        place: &mut BurstPlace,
+        token: Token,
+    ) -> Result<(), Rejected>
+        requires agrees { Agrees self.old blocks.old }
+        requires had { IsTrue (has blocks.old token) }
+        requires place { IsBurstPlace place.old queue (queued_blocks self.old blocks.old) }
+        ensures does { Puts arena token (model.putq queue token.head (queued_blocks self.old blocks.old))
+            (queued_blocks self.old blocks.old) (queued_blocks self.new blocks.new) result }
+        ensures agrees { Agrees self.new blocks.new }
+        ensures place { IsBurstPlace place.new queue (queued_blocks self.new blocks.new) }
+    {
+        let rank = held_rank(blocks, &token);
+        if rank == HIGH_RANK || rank != place.rank {
+            return self.begin_burst(blocks, queue, place, rank, token);
+        }
+        self.join_burst(blocks, queue, *place, rank, token);
+        Ok(())
+    }
+
     /// Puts a message on a queue, before the first message whose rank is at most its own. A high priority message
     /// ranks above all bands, and its first block gets band 0.
     ///
@@ -131,7 +246,7 @@ impl Queues {
         }
         let rank = held_rank(blocks, &token);
         let before = self.place_ahead(blocks, queue, rank);
-        self.lay(blocks, queue, before, rank, token);
+        self.lay(blocks, queue, before, rank, false, token);
         let enables = self.enables_put_back(queue, rank);
         self.enable_where(enables, queue);
         Ok(())
@@ -232,7 +347,7 @@ impl Queues {
             let why = Refusal::BadOrder;
             return Err(Rejected { why, token });
         }
-        self.lay(blocks, queue, before, rank, token);
+        self.lay(blocks, queue, before, rank, false, token);
         let enables = self.enables_inserted(queue);
         self.enable_where(enables, queue);
         Ok(())

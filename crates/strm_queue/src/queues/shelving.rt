@@ -7,7 +7,7 @@ ghost use Rattle.strm_mblk.specs.Given.{given_nothing};
 ghost use Rattle.strm_mblk.specs.Shelves as model;
 ghost use Rattle.strm_mblk.specs.Shelves.{heads_at, is_on};
 ghost use Rattle.strm_mblk.specs.Calls.{Puts, Takes, itself};
-ghost use Rattle.strm_queue.specs.Joining.{IsRank, shelf_with};
+ghost use Rattle.strm_queue.specs.Joining.{IsAfterEqual, IsRank, shelf_with};
 ghost use Rattle.strm_queue.specs.QueuedBlocks.{AreInOrder};
 ghost use Rattle.strm_queue.specs.Rank.{is_ordered, rank_of};
 
@@ -19,7 +19,8 @@ use strm_mblk::{BlockNo, Blocks, Token};
 
 impl Queues {
     // Puts a message of this rank on a queue's shelf, before the one with this head, or last. Ranks must not rise then.
-    // High priority gives the first block band 0. Takes a step for each block of the message.
+    // High priority gives the first block band 0. `follows` says that the message is known to follow the last one of its
+    // rank. Takes a step for each block of the message.
     #[inline(always)]
     pub(super) fn shelve(
         &mut self,
@@ -27,12 +28,14 @@ impl Queues {
         queue: u8,
         before: Option<BlockNo>,
         rank: u16,
+        follows: bool,
         token: Token,
     )
         requires queue { queue < length self.old.state.specs }
         requires in_order { AreInOrder self.old blocks.old }
         requires had { IsTrue (has blocks.old token) }
         requires rank { IsRank blocks.old token rank }
+        requires follows { IsTrue follows → IsAfterEqual blocks.old queue before token rank }
         requires before { ForSome before (λ head. IsTrue (is_on blocks.old queue head)) }
         requires ordered { IsTrue (is_ordered (rank_of blocks.old.store)
             (shelf_with blocks.old queue before token.head)) }
@@ -55,7 +58,7 @@ impl Queues {
         }
         blocks.shelve(queue, before, token);
         blocks.lawful();
-        self.join(queue, placed);
+        self.join(queue, placed, follows);
     }
 
     // Takes the message with this head off a queue's shelf. Takes a step for each of its blocks.

@@ -9,9 +9,10 @@ use Rattle.strm_queue.specs.Flow.{bytes_on, hiwat_of}
 use Rattle.strm_queue.specs.Joining.{shelf_with}
 use Rattle.strm_queue.specs.QueuedBlocks.{AreInOrder, tally_at}
 use Rattle.strm_queue.specs.Tallies.{IsTallyOf}
-use Rattle.strm_queue.specs.Rank.{as_queued, rank_of, is_ordered}
+use Rattle.strm_queue.specs.Ends.{first_of_rank}
+use Rattle.strm_queue.specs.Rank.{as_queued, put_behind, rank_of, is_ordered}
 use Rattle.strm_queue.proofs.Agreeing.{in_order_put}
-use Rattle.strm_queue.proofs.Counting.{bytes_fit, joins_all, joins_few, joins_last_of_rank, mark_true, numbered, IsPlaced}
+use Rattle.strm_queue.proofs.Counting.{bytes_fit, joins_all, joins_few, follows_equal, joins_last_of_rank, mark_true, numbered, IsPlaced}
 use Rattle.strm_queue.proofs.order.Order.{rank_of-queued, size_of-queued, head_of-queued, IsParting, parting, placed_here}
 use Rattle.strm_queue.proofs.moving.Puts.{few_on_shelf, shelve_high, shelve_low}
 use Rattle.strm_queue.proofs.queues.Queues.shelve.Goals as goal
@@ -114,6 +115,15 @@ pub join-requires-clause-last : goal.join-requires-clause-last
 join-requires-clause-last c =
     let at = (goal.at.join-requires-clause-last c).After-lawful-2 in
     joins_last_of_rank c.args.blocks.now.store (m at) (hiwat_of c.args.self.now.state c.args.queue) (tally_at c.args.self.now c.args.queue) (sides at).pre (sides at).post (own at) (placed at) (true_of at) (ordered at) (apart at)
+
+-- if it follows its equals, it is the last of its rank, and the first one stays
+pub join-requires-clause-follows : goal.join-requires-clause-follows
+join-requires-clause-follows c follows =
+    let at = (goal.at.join-requires-clause-follows c).After-lawful-2 in
+    let equal = c.requires.follows follows in
+    follows_equal c.args.blocks.now.store (m at) (hiwat_of c.args.self.now.state c.args.queue) (tally_at c.args.self.now c.args.queue) (sides at).pre (sides at).post (own at) (placed at) (true_of at) (ordered at) (apart at)
+    (sym (between at) ∙ equal.place ∙ ap (put_behind (rank_of c.args.blocks.now.store) (m at)) (sides at).is)
+    (λ none. equal.some (ap (λ ms. first_of_rank (rank_of c.args.blocks.now.store) c.args.rank ms) (sides at).is ∙ none))
 
 pub returns-clause-puts : goal.returns-clause-puts
 returns-clause-puts c =

@@ -8,7 +8,7 @@ use Rattle.strm_mblk.specs.Block.{Message}
 use Rattle.strm_queue.specs.declared.queue_spec.QueueSpec.{QueueSpec}
 use Rattle.strm_queue.specs.Flow.{Flags, opening_flags}
 use Rattle.strm_queue.specs.QueueCalls.{flags_of}
-use Rattle.strm_queue.proofs.Lists.{get_or-map_same, get_or-replicate_same}
+use Rattle.strm_queue.proofs.Shelf.{get_or-map_same, get_or-replicate_same}
 use Rattle.strm_scheduler.specs.declared.sides_fault.SidesFault.{SidesFault}
 use Rattle.strm_scheduler.specs.declared.sides_fault.SidesFault.TheVariants.{NoNext, NoService, NotMade}
 use Rattle.strm_scheduler.specs.Awake.{may_rest}
