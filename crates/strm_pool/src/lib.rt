@@ -32,6 +32,7 @@ pub use strm_mblk::{
     BlockInfo, BlockPlace, Blocks, Census, Rejected, Shape, Supply, Token, TokenValue,
 };
 pub use strm_queue::{
-    BANDS, BandInfo, Flush, MOST_QUEUES, Marks, QueueInfo, QueueSpec, QueuedInfo, Queues, Receiver,
+    BANDS, BandInfo, BurstPlace, Flush, MOST_QUEUES, Marks, QueueInfo, QueueSpec, QueuedInfo,
+    Queues, Receiver,
 };
 pub use token_slot::TokenSlot;

@@ -6,13 +6,14 @@ ghost use Rattle.strm_mblk.specs.Given.{answer_of};
 ghost use Rattle.strm_pool.specs.PoolValue.{arena, on_queues, queued_blocks_of};
 ghost use Rattle.strm_queue.specs.HeadCalls as by_head;
 ghost use Rattle.strm_queue.specs.QueueCalls as queues;
+ghost use Rattle.strm_queue.specs.QueueCalls.{IsBurstPlace};
 ghost use Rattle.strm_queue.specs.Taking as taking;
 ghost use Rattle.strm_queue.specs.Taking.{Hands};
 
 use super::Pool;
 use strm_data::Refusal;
 use strm_mblk::{Rejected, Token};
-use strm_queue::{BandInfo, Flush, Marks, QueueInfo, Receiver};
+use strm_queue::{BandInfo, BurstPlace, Flush, Marks, QueueInfo, Receiver};
 
 impl Pool {
     /// Puts a message on a queue, after the last message whose rank is at least its own. Rejected as `NoSuchQueue`. As
@@ -24,6 +25,25 @@ impl Pool {
             self.old self.new result }
     {
         self.queues.putq(&mut self.blocks, queue, token)
+    }
+
+    /// Puts the next message of a burst on a queue as `putq` does, by the place of the last one. Rejected as `NoSuchQueue`. As
+    /// [`Queues::putq_in_burst`] of strm_queue.
+    #[inline(always)]
+    pub fn putq_in_burst(
+        &mut self,
+        queue: u8,
+        place: &mut BurstPlace,
+        token: Token,
+    ) -> Result<(), Rejected>
+        requires had { IsTrue (has self.old.arena token) }
+        requires place { IsBurstPlace place.old queue (queued_blocks_of self.old) }
+        ensures does { Puts arena token (on_queues self.old (queues.putq queue token.head (queued_blocks_of self.old)))
+            self.old self.new result }
+        ensures place { IsBurstPlace place.new queue (queued_blocks_of self.new) }
+    {
+        self.queues
+            .putq_in_burst(&mut self.blocks, queue, place, token)
     }
 
     /// Puts a message on a queue, before the first message whose rank is at most its own. Rejected as `NoSuchQueue`. As
