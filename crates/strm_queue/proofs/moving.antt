@@ -3,3 +3,4 @@ pub mod Puts
 pub mod Gets
 pub mod Flushing
 pub mod Taking
+pub mod Fronts

@@ -1,11 +1,12 @@
 -- Queues together with message blocks, what `Queues` stores of them, and when the two agree.
 use Rattle.std.specs.Prelude.{◌≡◌, ℕ, ◌<◌, List, length, map, slice_index_or, slice_set, IsTrue}
 use Rattle.strm_queue.specs.declared.queue_spec.QueueSpec.{QueueSpec}
+use Rattle.strm_queue.specs.declared.tally.Leaving.{Leaving}
 use Rattle.strm_mblk.specs.Arena.{Arena, shelf_at}
-use Rattle.strm_queue.specs.Flow.{QueueState, band_count, fills, flags_at, has_band, hiwat_of, lowat_of, opening_queues}
+use Rattle.strm_queue.specs.Flow.{QueueState, band_count, band_of_rank, fills, flags_at, has_band, hiwat_of, lowat_of, opening_queues}
 use Rattle.strm_queue.specs.Limits.{bands}
 use Rattle.strm_queue.specs.Rank.{is_ordered, rank_of}
-use Rattle.strm_queue.specs.Tallies.{IsTallyOf, Tally, count_of, no_tally}
+use Rattle.strm_queue.specs.Tallies.{IsTallyOf, Tally, count_of, no_tally, without_front}
 
 -- Queues with the message blocks of their messages: shelf q has the messages of queue q, front to back.
 pub record QueuedBlocks : Type 0 where
@@ -29,6 +30,10 @@ tally_at v q = slice_index_or v.tallies q no_tally
 -- queue q has this tally (no public clause cites it)
 abbrev pub with_tally : ℕ → Tally → QueuesValue → QueuesValue
 with_tally q t v = record v { tallies = slice_set v.tallies q t }
+
+-- the first messages of a rank of queue q have left (no public clause cites it)
+abbrev pub with_front_left : ℕ → Leaving → QueuesValue → QueuesValue
+with_front_left q l v = with_tally q (without_front (hiwat_of v.state q (band_of_rank l.rank)) l (tally_at v q)) v
 
 -- There is a shelf for each queue, each shelf is in priority order, and what is stored of it is true.
 pub record AreInOrder (v : QueuesValue) (a : Arena) : Type 0 where

@@ -1,5 +1,5 @@
 -- Messages that a flush would free leave their queue instead, and their tokens go to a receiver.
-use Rattle.std.specs.Prelude.{◌≡◌, ℕ, zero, suc, Bool, true, List, [], ◌∷◌, length, map, filter, take, Option, None, Some, Result, Ok, Err, IsTrue, if◌then◌else◌}
+use Rattle.std.specs.Prelude.{◌≡◌, ◌≤◌, ℕ, zero, suc, Bool, true, List, [], ◌∷◌, length, map, filter, take, Option, None, Some, Result, Ok, Err, IsTrue, if◌then◌else◌}
 use Rattle.std.specs.List.{FoldsTo}
 use Rattle.strm_data.specs.declared.refusal.Refusal.{Refusal}
 use Rattle.strm_data.specs.declared.refusal.Refusal.TheVariants.{NoSuchQueue}
@@ -7,6 +7,7 @@ use Rattle.strm_links.specs.Rows as rows
 use Rattle.strm_mblk.specs.declared.token.TokenValue.{TokenValue}
 use Rattle.strm_mblk.specs.Arena.{Arena, has, held_at, token_of, with_held, with_shelf}
 use Rattle.strm_mblk.specs.Block.{Message, head_of}
+use Rattle.strm_mblk.specs.Calls.{TakesAny}
 use Rattle.strm_mblk.specs.Frame.{LeavesOthers}
 use Rattle.strm_mblk.specs.Given.{Given, answer_map, answer_of, value_after}
 use Rattle.strm_queue.specs.declared.flush.Flush.{Flush}
@@ -69,3 +70,13 @@ pub record Hands {V R : Type 0} (arena : V → Arena) (receives : R → TokenVal
   pub left : new ≡ value_after old call
   pub count : result ≡ answer_map (λ heads. length heads) (answer_of call)
   pub tokens : AreHanded receives (heads_taken (answer_of call)) (arena old) (arena new) before after
+
+-- ---- messages that are taken one after another
+
+-- A call that takes messages off a shelf, at most `most`, each as `call` takes one. It hands their tokens to a receiver, and returns how
+-- many there were.
+pub record TakesEach {V R : Type 0} (arena : V → Arena) (receives : R → TokenValue → R → Type 0) (call : V → Given V (Option ℕ)) (most : ℕ) (old new : V) (before after : R) (result : ℕ) : Type 0 where
+  pub tokens : List TokenValue
+  pub each : FoldsTo (λ (v : V × R) t (w : V × R). TakesAny arena (call v.0) v.0 w.0 (Ok (Some t)) × receives v.1 t w.1) (old, before) tokens (new, after)
+  pub count : result ≡ length tokens
+  pub few : result ≤ most

@@ -4,6 +4,7 @@ use Rattle.std.specs.Option.{ForSome}
 use Rattle.strm_data.specs.DataStore.{DataStore}
 use Rattle.strm_links.specs.Rows as rows
 use Rattle.strm_mblk.specs.Block.{Message}
+use Rattle.strm_queue.specs.declared.tally.Leaving.{Leaving}
 use Rattle.strm_queue.specs.declared.tally.Placed.{Placed}
 use Rattle.strm_queue.specs.Ends.{first_of_rank, last_of_rank}
 use Rattle.strm_queue.specs.Flow.{band_count, band_of_rank, bands_where, bytes_on, fills, has_band}
@@ -119,6 +120,22 @@ abbrev pub one_less : ℕ → Placed → Tally → Tally
 one_less hiwat p t =
     with_ends p.rank (end_after_leaving (first_in t p.rank) (last_in t p.rank) p.behind p.head) (end_after_leaving (last_in t p.rank) (first_in t p.rank) p.ahead p.head)
     (with_count hiwat (band_of_rank p.rank) (count_of t (band_of_rank p.rank) - p.size) (record t { len = t.len - 1; bytes = t.bytes - p.size }))
+
+-- the tally once the first messages of a rank have left, but not all: their number and bytes, and the head of the first that is left
+abbrev pub without_front : ℕ → Leaving → Tally → Tally
+without_front hiwat l t =
+    let u = with_count hiwat (band_of_rank l.rank) (count_of t (band_of_rank l.rank) - l.bytes) t in
+    record u { len = t.len - l.len; bytes = t.bytes - l.bytes; firsts = slice_set t.firsts l.rank (Some l.first) }
+
+-- messages that leave are among those of the tally, and all these numbers fit
+pub record AreAmong (l : Leaving) (t : Tally) : Type 0 where
+  pub len : l.len ≤ t.len
+  pub bytes : l.bytes ≤ t.bytes
+  pub count : l.bytes ≤ count_of t (band_of_rank l.rank)
+  pub few : t.len < 2 ^ 32
+  pub light : t.bytes < 2 ^ 32
+  pub rank : l.rank < ranks
+  pub first : l.first < 2 ^ 32 - 1
 
 -- ---- ranks that have messages
 

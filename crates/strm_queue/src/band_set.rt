@@ -186,6 +186,13 @@ impl Wanted {
         self.set.has(band)
     }
 
+    // Whether a band may be wanted; if not, none is.
+    pub(crate) fn any(&self) -> bool
+        ensures { result ≡ false → (band : ℕ) → has_band self.now band ≡ false }
+    {
+        self.any
+    }
+
     // Adds a band.
     pub(crate) fn insert(&mut self, band: u8)
         ensures { self.new ≡ slice_set self.old band true }

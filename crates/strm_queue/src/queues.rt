@@ -7,10 +7,10 @@ ghost use Rattle.strm_mblk.specs.Shelves.{heads_at};
 ghost use Rattle.strm_queue.specs.Flow.{AreMarksApart, band_count, band_of_rank, bytes_on, every_band, flags_at, hiwat_of, marks_at, marks_of, spec_at};
 ghost use Rattle.strm_queue.specs.Limits.{bands, most_queues, ranks};
 ghost use Rattle.strm_queue.specs.QueueSpecs.{are_lawful};
-ghost use Rattle.strm_queue.specs.QueuedBlocks.{Agrees, AreCountsTrue, AreMarksLawful, AreFullMarksTrue, opening_value, tally_at, with_tally};
+ghost use Rattle.strm_queue.specs.QueuedBlocks.{Agrees, AreCountsTrue, AreMarksLawful, AreFullMarksTrue, opening_value, tally_at, with_front_left, with_tally};
 ghost use Rattle.strm_queue.specs.QueuesLayout.{new_queue};
 ghost use Rattle.strm_queue.specs.Rank.{is_ordered, rank_of};
-ghost use Rattle.strm_queue.specs.Tallies.{IsFollowing, IsMarkTrue, IsNumbered, IsUseTrue, count_of, end_after_joining, first_in, last_in, one_less, one_more, with_full_mark};
+ghost use Rattle.strm_queue.specs.Tallies.{IsFollowing, IsMarkTrue, IsNumbered, IsUseTrue, count_of, end_after_joining, first_in, last_in, one_less, one_more, with_full_mark, AreAmong};
 
 mod asking;
 mod counts;
@@ -30,7 +30,7 @@ use crate::band_set::Wanted;
 use crate::mark_table::MarkTable;
 use crate::marks::Marks;
 use crate::queue_spec::QueueSpec;
-use crate::tally::{Placed, Tally, band_of};
+use crate::tally::{Leaving, Placed, Tally, band_of};
 pub use putting::BurstPlace;
 use std::alloc::{AllocError, Global};
 use std::marker::Model;
@@ -183,6 +183,22 @@ impl Queues {
     {
         let hiwat = self.hiwat(queue, band_of(placed.rank));
         self.queues[usize::from(queue)].tally.leave(hiwat, placed);
+    }
+
+    // Notes that the first messages of a rank have left a queue, but not all.
+    #[inline(always)]
+    fn leave_front(&mut self, queue: u8, leaving: Leaving)
+        requires queue { queue < length self.old.state.specs }
+        requires among { AreAmong leaving (tally_at self.old queue) }
+        requires marked { let band = band_of_rank leaving.rank in
+            IsMarkTrue (hiwat_of self.old.state queue band) band (tally_at self.old queue) }
+        requires some { is_some (first_in (tally_at self.old queue) leaving.rank) ≡ true }
+        ensures { self.new ≡ with_front_left queue leaving self.old }
+    {
+        let hiwat = self.hiwat(queue, band_of(leaving.rank));
+        self.queues[usize::from(queue)]
+            .tally
+            .leave_front(hiwat, leaving);
     }
 
     // Stores anew whether a band of a queue is full.

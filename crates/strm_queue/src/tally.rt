@@ -4,7 +4,7 @@ ghost use Rattle.std.specs.Option.{ForSome, IfNone, IfSome};
 ghost use Rattle.strm_queue.specs.Flow.{band_of_rank, has_band};
 ghost use Rattle.strm_links.specs.Rows.{is_some_of};
 ghost use Rattle.strm_queue.specs.Limits.{ranks};
-ghost use Rattle.strm_queue.specs.Tallies.{IsFollowing, IsMarkTrue, IsNumbered, IsRankFrom, IsRankTo, IsUseTrue, count_of, end_after_joining, end_after_leaving, first_in, has_rank, last_in, no_tally, one_less, one_more, with_full_mark, with_count, with_ends};
+ghost use Rattle.strm_queue.specs.Tallies.{IsFollowing, IsMarkTrue, IsNumbered, IsRankFrom, IsRankTo, IsUseTrue, count_of, end_after_joining, end_after_leaving, first_in, has_rank, last_in, no_tally, one_less, one_more, with_full_mark, with_count, with_ends, AreAmong, without_front};
 
 use crate::band_set::BandSet;
 use crate::limits::{BANDS, HIGH_RANK, RANKS};
@@ -21,6 +21,15 @@ pub(crate) struct Placed {
     pub(crate) size: u32,
     pub(crate) ahead: Option<BlockNo>,
     pub(crate) behind: Option<BlockNo>,
+}
+
+// The first messages of a rank, which leave together: their rank, number and bytes, and the head of the first message that is left.
+#[derive(Clone, Copy, Debug)]
+pub(crate) struct Leaving {
+    pub(crate) rank: u16,
+    pub(crate) len: u32,
+    pub(crate) bytes: u32,
+    pub(crate) first: BlockNo,
 }
 
 // What is stored of a queue's messages: their number and bytes, the bytes of each band, and the bands that are full. For
@@ -227,6 +236,20 @@ impl Tally {
         let next_first = end_after_leaving(first, last, behind, head);
         let next_last = end_after_leaving(last, first, ahead, head);
         self.set_ends(rank, next_first, next_last, next_first.get().is_some());
+    }
+
+    // Counts out the first messages of a rank, of which some are left; `hiwat` is the high water mark of its band.
+    #[tactic(auto, using(crate::proofs::bands::Used::used_still))]
+    pub(crate) fn leave_front(&mut self, hiwat: u32, leaving: Leaving)
+        requires among { AreAmong leaving self.old }
+        requires marked { IsMarkTrue hiwat (band_of_rank leaving.rank) self.old }
+        requires some { is_some (first_in self.old leaving.rank) ≡ true }
+        ensures { self.new ≡ without_front hiwat leaving self.old }
+    {
+        self.len -= leaving.len;
+        self.bytes -= leaving.bytes;
+        self.shrink(hiwat, band_of(leaving.rank), leaving.bytes);
+        self.firsts[usize::from(leaving.rank)] = Slot::some(leaving.first);
     }
 
     // Adds bytes to a band. Writes its full mark only if that changes: if the band becomes full.

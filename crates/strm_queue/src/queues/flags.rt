@@ -1,5 +1,5 @@
 //! The flags of a queue: want to read, no enabling, and the wanted bands.
-ghost use Rattle.std.specs.Prelude.{◌≡◌, ◌<◌, length};
+ghost use Rattle.std.specs.Prelude.{◌≡◌, ◌<◌, ℕ, false, length};
 ghost use Rattle.strm_mblk.specs.Calls.{LeavesBlocks};
 ghost use Rattle.strm_queue.specs.Flow.{flags_at, has_band, lowat_of, some_relieved, still_wanted, with_flags, with_noenable, with_read, with_wanted};
 ghost use Rattle.strm_mblk.specs.Arena.{Arena};
@@ -33,6 +33,14 @@ impl Queues {
         ensures { result ≡ has_band (flags_at self.now.state queue).wanted band }
     {
         self.queues[usize::from(queue)].wanted.has(band)
+    }
+
+    // Whether the wanted mark of a band may be set; if not, none is.
+    pub(super) fn is_any_wanted(&self, queue: u8) -> bool
+        requires { queue < length self.now.state.specs }
+        ensures { result ≡ false → (band : ℕ) → has_band (flags_at self.now.state queue).wanted band ≡ false }
+    {
+        self.queues[usize::from(queue)].wanted.any()
     }
 
     // Sets or clears the want-to-read mark.

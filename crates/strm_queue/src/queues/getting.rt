@@ -5,9 +5,12 @@ ghost use Rattle.strm_mblk.specs.Shelves.{heads_at, is_on};
 ghost use Rattle.strm_queue.specs.HeadCalls as by_head;
 ghost use Rattle.strm_queue.specs.QueueCalls as model;
 ghost use Rattle.strm_queue.specs.QueuedBlocks.{Agrees, queued_blocks, arena};
+ghost use Rattle.strm_queue.specs.Taking.{TakesEach};
 
 use super::Queues;
-use super::places::head_at;
+use super::places::{head_at, queued_rank};
+use crate::Receiver;
+use crate::tally::Leaving;
 use strm_data::Refusal;
 use strm_mblk::{BlockNo, Blocks, Token};
 
@@ -42,6 +45,63 @@ impl Queues {
         self.settle(queue);
         self.set_read(queue, false);
         Ok(Some(token))
+    }
+
+    /// Removes the first messages of a queue, at most `most`, each as [`Queues::getq`] does. Their tokens go to `into`, and their
+    /// number is returned. What is stored of the queue is written once.
+    ///
+    /// It may remove fewer messages than there are, or none: it leaves the last one of the first message's rank. It removes none if the
+    /// want-to-read mark is set, which `getq` clears, or if a band may be wanted. So a caller takes turns: `getq`, then this.
+    /// Takes a step for each block of the messages. This project's own call.
+    #[inline(always)]
+    #[tactic(auto, using(crate::proofs::moving::Fronts::takes_none))]
+    pub fn getq_run<R: Receiver>(
+        &mut self,
+        blocks: &mut Blocks,
+        queue: u8,
+        most: u32,
+        into: &mut R,
+    ) -> u32
+        requires { Agrees self.old blocks.old }
+        ensures takes { TakesEach arena R.receives (model.getq queue) most (queued_blocks self.old blocks.old)
+            (queued_blocks self.new blocks.new) into.old into.new result }
+        ensures agrees { Agrees self.new blocks.new }
+    {
+        blocks.lawful();
+        self.lawful(blocks);
+        if !self.has_queue(queue) {
+            return 0;
+        }
+        if self.is_read(queue) || self.is_any_wanted(queue) {
+            return 0;
+        }
+        let Some(first) = blocks.first(queue) else {
+            return 0;
+        };
+        let rank = queued_rank(blocks, first);
+        let Some(last) = self.tally(queue).last(rank).get() else {
+            return 0;
+        };
+        if first == last {
+            return 0;
+        }
+        let mut leaving = Leaving {
+            rank,
+            len: 0,
+            bytes: 0,
+            first,
+        };
+        while leaving.len < most && leaving.first != last {
+            blocks.lawful();
+            let head = leaving.first;
+            leaving.len += 1;
+            leaving.bytes += blocks.head_size(head);
+            leaving.first = blocks.after(head).unwrap();
+            let token = blocks.unshelve(queue, head);
+            into.receive(token);
+        }
+        self.leave_front(queue, leaving);
+        leaving.len
     }
 
     /// Removes the message at `place`, counted from 0, and returns its token. It settles the queue, as [`Queues::getq`]
