@@ -4,12 +4,12 @@
  */
 #include "heap.h"
 
-/* The pieces of a pool, beside one for the bytes of each size class. One of them is bytes too. */
+/* The pieces of a pool, beside one for the bytes of each size class. */
 #define PIECES 15
 
 size_t strm_region_more(const struct strm_config *config)
 {
-	size_t pieces = PIECES + config->class_count, lines = 1 + config->class_count;
+	size_t lines = config->class_count, pieces = PIECES + lines;
 
 	return sizeof(struct strm_region) + pieces * (sizeof(struct strm_region *) + STRM_OF_OTHERS)
 		+ lines * (STRM_OF_BYTES - STRM_OF_OTHERS);

@@ -15,13 +15,13 @@ use strm_pool::{ClassSpec, Config};
 // The bytes for a pool itself, and for each message block, queue, size class and, beside its own bytes, data block.
 const POOL: usize = 908;
 
-const MESSAGE_BLOCK: usize = 64;
+const MESSAGE_BLOCK: usize = 68;
 
 const QUEUE: usize = 5288;
 
 const CLASS: usize = 44;
 
-const DATA_BLOCK: usize = 7;
+const DATA_BLOCK: usize = 8;
 
 // The bytes for these size classes.
 fn bytes_of_classes(classes: &[ClassSpec]) -> usize

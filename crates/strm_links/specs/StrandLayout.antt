@@ -15,11 +15,11 @@ no_span = record { last = 0; len = 0 }
 
 -- the result of a read past the nodes
 abbrev pub no_node : Node
-no_node = record { next = None; span = no_span }
+no_node = record { next = None; span = no_span; unused = 0 }
 
 -- free node k of `nodes` new ones, which leads on to the node with the next number, if any
 abbrev pub free_node : ℕ → ℕ → Node
-free_node nodes k = record { next = (if nat_lt (k + 1) nodes then Some (k + 1) else None); span = no_span }
+free_node nodes k = record no_node { next = (if nat_lt (k + 1) nodes then Some (k + 1) else None) }
 
 -- the fields of a node, each as a function of its number
 abbrev pub node_at : List Node → ℕ → Node
