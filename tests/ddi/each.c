@@ -9,12 +9,24 @@
 #include <stdlib.h>
 #include <string.h>
 #include <time.h>
+#include <unistd.h>
 
 static int passed, failed;
 
 #define CHECK(what) ((what) ? (void)passed++ : (void)(failed++, printf("%s:%d: not %s\n", __FILE__, __LINE__, #what)))
 
 static unsigned char frame[8192], back[8192];
+
+/* A stream with this many modules, before the driver that echoes. */
+static strhead_t *opened(int modules)
+{
+	strhead_t *head = NULL;
+
+	CHECK(str_open(&echoinfo, 0, 0, &head) == 0);
+	for (int k = 0; k < modules; k++)
+		CHECK(str_push(head, &holdinfo) == 0);
+	return head;
+}
 
 static int comes_back(strhead_t *head, size_t size)
 {
@@ -132,10 +144,9 @@ static void fill(queue_t *q, size_t size, int band)
 /* A band is full from its high water mark on, and no other one is then. */
 static void test_full(void)
 {
-	strhead_t *head = NULL;
+	strhead_t *head = str_init(NULL) == 0 ? opened(0) : NULL;
 	queue_t *q;
 
-	CHECK(str_init(NULL) == 0 && str_open(&echoinfo, 0, 0, &head) == 0);
 	q = WR(str_queue(head, 1));
 	CHECK(getq(q) == NULL);
 	CHECK(strqset(q, QLOWAT, 0, 10) == 0 && strqset(q, QHIWAT, 0, 100) == 0);
@@ -192,13 +203,11 @@ static void test_order(void)
 
 static void test_flow(void)
 {
-	strhead_t *head;
+	strhead_t *head = str_init(NULL) == 0 ? opened(0) : NULL;
 	int sent, came, way;
 	size_t count;
 	mblk_t *mp;
 
-	CHECK(str_init(NULL) == 0);
-	CHECK(str_open(&echoinfo, 0, 0, &head) == 0);
 	for (way = 0; way < 3; way++) {
 		if (way > 0)
 			CHECK(str_push(head, way == 1 ? &passinfo : &holdinfo) == 0);
@@ -230,15 +239,11 @@ static void test_flow(void)
 /* Streams with more queues than a pool has, between which messages pass in both directions and flow control holds. */
 static void test_many_queues(void)
 {
-	strhead_t *head;
+	strhead_t *head = str_init(NULL) == 0 ? opened(40) : NULL;
 	int sent, came, modules = 40;
 	size_t count;
 	mblk_t *mp;
 
-	CHECK(str_init(NULL) == 0);
-	CHECK(str_open(&echoinfo, 0, 0, &head) == 0);
-	for (int k = 0; k < modules; k++)
-		CHECK(str_push(head, &holdinfo) == 0);
 	for (size_t k = 0; k < sizeof frame; k++)
 		frame[k] = (unsigned char)(k * 7);
 	CHECK(comes_back(head, 1) && comes_back(head, 1500) && comes_back(head, 8192));
@@ -355,14 +360,13 @@ static void test_rest(void)
 
 static void test_perimeter(void)
 {
-	strhead_t *head;
+	strhead_t *head = NULL;
 
-	CHECK(str_init(NULL) == 0);
-	CHECK(str_open(&suminfo, 0, 0, &head) == 0 && str_push(head, &holdinfo) == 0 && str_push(head, &holdinfo) == 0);
+	CHECK(str_init(NULL) == 0 && str_open(&suminfo, 0, 0, &head) == 0 && str_push(head, &holdinfo) == 0 && str_push(head, &holdinfo) == 0);
 	hold_deepest = 0;
 	send_signal(head);
 	CHECK(hold_depth == 0 && hold_deepest == 1);
-	CHECK(str_close(head) == 0 && str_open(&echoinfo, 0, 0, &head) == 0 && str_push(head, &holdinfo) == 0 && str_push(head, &holdinfo) == 0);
+	CHECK(str_close(head) == 0 && (head = opened(2)) != NULL);
 	for (int flag = D_MP; flag <= D_MTPERMOD; flag += D_MTPERMOD - D_MP) {
 		str_flag(&holdinfo, flag);
 		hold_deepest = 0;
@@ -379,11 +383,10 @@ static void test_perimeter(void)
 
 static void test_copying(void)
 {
-	strhead_t *head;
+	strhead_t *head = NULL;
 	int pair[2] = { 30, 12 }, value = 0;
 
-	CHECK(str_init(NULL) == 0);
-	CHECK(str_open(&suminfo, 0, 0, &head) == 0);
+	CHECK(str_init(NULL) == 0 && str_open(&suminfo, 0, 0, &head) == 0);
 	CHECK(str_ioctl_transparent(head, 1, pair, &value) == 0 && value == 42 && pair[0] == 42);
 	CHECK(str_close(head) == 0 && str_fini() == 0);
 }
@@ -396,42 +399,55 @@ static double nanoseconds(void)
 	return (double)now.tv_sec * 1e9 + (double)now.tv_nsec;
 }
 
-/* How long messages of 64 bytes take through `modules` with service procedures and back, each: the best of many turns of 4,800 in bursts. */
-static double time_of(int modules, int burst)
-{
-	strhead_t *head = NULL;
-	double best = 1e9, start;
+enum { MESSAGES = 96, PAIRS = 8001 };
 
-	CHECK(str_init(NULL) == 0 && str_open(&echoinfo, 0, 0, &head) == 0);
-	for (int k = 0; k < modules; k++)
-		CHECK(str_push(head, &holdinfo) == 0);
-	for (int turn = 0; turn < 200; turn++) {
-		start = nanoseconds();
-		for (int k = 0; k < 4800; k++) {
-			if (str_write(head, frame, 64) != 0)
+/* How long messages of 64 bytes take through service procedures and back, in bursts. */
+static double time_of(strhead_t *head, int burst)
+{
+	double start = nanoseconds();
+
+	for (int k = 0; k < MESSAGES; k++) {
+		if (str_write(head, frame, 64) != 0)
+			abort();
+		for (size_t b = 0, count; k % burst == burst - 1 && b < (size_t)burst; b++)
+			if (str_read(head, back, sizeof back, &count) != 0 || count != 64)
 				abort();
-			for (size_t b = 0, count; k % burst == burst - 1 && b < (size_t)burst; b++)
-				if (str_read(head, back, sizeof back, &count) != 0 || count != 64)
-					abort();
-		}
-		start = (nanoseconds() - start) / 4800;
-		best = start < best ? start : best;
 	}
-	CHECK(str_close(head) == 0 && str_fini() == 0);
-	return best;
+	return nanoseconds() - start;
 }
 
-/* Three modules more are six stops more. */
-static double time_of_stop(int burst)
+static int by_size(const void *one, const void *other)
 {
-	return (time_of(4, burst) - time_of(1, burst)) / 6;
+	return (*(const double *)one > *(const double *)other) - (*(const double *)one < *(const double *)other);
+}
+
+/* Three modules more are six stops more. At times the machine has half its speed, for both lines: so this is the median by which the longer one takes
+ * longer in pairs of short runs, of the time that the shorter one takes in the fastest ones, without the few that a clock makes too fast. */
+static void print_stops(void)
+{
+	static double shorter[2][PAIRS], more[2][PAIRS];
+	strhead_t *one = str_init(NULL) == 0 ? opened(1) : NULL, *four = opened(4);
+
+	for (int k = 0; k < 2 * PAIRS; k++) {
+		double *took = &shorter[k % 2][k / 2];
+
+		*took = time_of(one, k % 2 ? 16 : 1);
+		more[k % 2][k / 2] = time_of(four, k % 2 ? 16 : 1) / *took - 1;
+		if (k % 100 == 0)
+			usleep(20000);
+	}
+	for (int k = 0; k < 2; k++) {
+		qsort(shorter[k], PAIRS, sizeof shorter[k][0], by_size);
+		qsort(more[k], PAIRS, sizeof more[k][0], by_size);
+		printf(k ? "%.1f ns in bursts of 16\n" : "a stop takes %.1f ns, ", more[k][PAIRS / 2] * shorter[k][PAIRS / 500] / MESSAGES / 6);
+	}
+	CHECK(str_close(one) == 0 && str_close(four) == 0 && str_fini() == 0);
 }
 
 int main(int count, char **words)
 {
 	if (count > 1 && strcmp(words[1], "stop") == 0) {
-		printf("a stop takes %.1f ns, ", time_of_stop(1));
-		printf("%.1f ns in bursts of 16\n", time_of_stop(16));
+		print_stops();
 		return failed > 0;
 	}
 	if (count > 1) {
