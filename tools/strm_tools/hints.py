@@ -3,11 +3,14 @@ from __future__ import annotations
 
 import functools
 import itertools
+import os
 import re
+import shlex
+import shutil
+import sys
 import unicodedata
 from typing import Callable, Iterator, NamedTuple
 
-from strm_tools.beside import as_word, beside
 from strm_tools.faults import AFTER, BYTE_ORDER_MARK, FITS, FORMS, MOST, STAGE, ConfigFault, LineFault, bare_of, first_fault, has_form, line_kind, misfit
 from strm_tools.model import HIGH_PRIORITY, ORDINARY
 from strm_tools.script import Wrong
@@ -26,6 +29,17 @@ OTHER_FILES = {
 }
 # Longer words are none that somebody mistyped.
 LONGEST_WORD = 16
+
+
+def beside(tool: str) -> str:
+    """The name of a tool if the shell finds it, or else its path, if it is in the folder from which this tool was called."""
+    path = os.path.join(os.path.dirname(sys.argv[0]), tool)
+    return tool if shutil.which(tool) or not os.path.isfile(path) else shlex.quote(path)
+
+
+def as_word(path: str) -> str:
+    """A path as the shell takes it for a file of a tool beside, or `-` for standard input."""
+    return shlex.quote(f"./{path}" if path.startswith("-") and path != "-" else path)
 
 
 class Faulty(NamedTuple):
