@@ -19,3 +19,4 @@ pub mod Holding
 pub mod Started
 pub mod Needing
 pub mod Accounting
+pub mod Wanting

@@ -12,3 +12,4 @@ pub mod Moves
 pub mod Steps
 pub mod Modules
 pub mod Holding
+pub mod Writers

@@ -13,6 +13,7 @@ mod sides_fault;
 mod starting;
 mod steps;
 mod treating;
+mod writers;
 
 pub use ended::Ended;
 pub use module::Module;
@@ -23,3 +24,4 @@ pub use sides::Sides;
 pub use sides_fault::SidesFault;
 pub use starting::{Service, serve};
 pub use steps::{enable, flush, hold, send};
+pub use writers::Writers;

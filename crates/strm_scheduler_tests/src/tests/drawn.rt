@@ -10,7 +10,7 @@ use super::{MESSAGES, QUEUES, opened, queue};
 use std::alloc::Global;
 use std::process::Abort;
 use strm_pool::{MsgType, QueueSpec, Refusal, Token};
-use strm_scheduler::{Ended, Service, Sides};
+use strm_scheduler::{Ended, Service, Sides, Writers};
 
 // The ways in which queues are served, and those that are mixed with a line of modules.
 const WAYS: [Way; 5] = [Way::Forward, Way::Pass, Way::Mark, Way::Drop, Way::Borrow];
@@ -31,17 +31,22 @@ enum Shape {
 struct Drawn {
     sides: Sides,
     plain: Plain,
+    // The writers that wait, and for each queue the band that its writer waits for.
+    writers: Writers,
+    waits: [Option<u8>; QUEUES],
     // As many bytes as a message may have: to write, and to read into.
     bytes: Vec<u8>,
     room: Vec<u8>,
     count: u8,
     shape: Shape,
     draw: u32,
-    // How often a message waited after a run, how often one was held back, one was given, and one was taken.
+    // How often a message waited after a run, how often one was held back, one was given, and one was taken; how often a writer was
+    // given.
     waited: u32,
     held: u32,
     given: u32,
     taken: u32,
+    woken: u32,
 }
 
 // The next number below `limit` of a fixed sequence.
@@ -169,6 +174,8 @@ impl Drawn {
         Drawn {
             sides: opened(rt, alloc, specs).expect(rt, "sides"),
             plain: Plain::new(rt, alloc, specs),
+            writers: Writers::new(),
+            waits: [None; QUEUES],
             bytes: most_bytes(rt, alloc),
             room: most_bytes(rt, alloc),
             count,
@@ -178,6 +185,7 @@ impl Drawn {
             held: 0,
             given: 0,
             taken: 0,
+            woken: 0,
         }
     }
 
@@ -238,12 +246,36 @@ impl Drawn {
         self.take(rt, self.shape.end(self.count, side));
     }
 
-    // Asks whether a band of a queue has room.
+    // The writer of a queue asks whether a band has room, and waits if it has none.
     fn ask(&mut self, rt: &impl Abort) {
         let queue = self.any_queue();
         let band = band(&mut self.draw);
         let room = self.plain.bcanput(rt, queue, band);
         assert_eq!(rt; self.sides.bcanput(queue, band), Ok(room));
+        self.writers.record(queue, band, room);
+        self.waits[usize::from(queue)] = (!room).then_some(band);
+    }
+
+    // Whether the writer of a queue waits for this band, and the band is no longer wanted.
+    fn is_ready(&self, queue: u8, band: u8) -> bool {
+        let queues = self.plain.queues();
+        queues
+            .get(usize::from(queue))
+            .is_some_and(|queue| !queue.band(band).wanted)
+    }
+
+    // Each writer whose band has drained is given, once, and no other one.
+    fn wake(&mut self, rt: &impl Abort) {
+        for queue in 0..self.count {
+            if let Some(band) = self.waits[usize::from(queue)]
+                && self.is_ready(queue, band)
+            {
+                assert_eq!(rt; self.writers.next(self.sides.pool()), Some((queue, band)));
+                self.waits[usize::from(queue)] = None;
+                self.woken = self.woken.wrapping_add(1);
+            }
+        }
+        assert_eq!(rt; self.writers.next(self.sides.pool()), None);
     }
 
     // Sets the water marks of a band.
@@ -352,8 +384,11 @@ impl Drawn {
             self.call(rt);
             let last = if step % 16 == 0 { u8::MAX } else { 2 };
             assert_same(rt, &self.sides, &self.plain, last);
+            if step % 4 == 0 {
+                self.wake(rt);
+            }
         }
-        assert!(rt; self.waited > 0 && self.given > 0 && self.taken > 0);
+        assert!(rt; self.waited > 0 && self.given > 0 && self.taken > 0 && self.woken > 0);
     }
 
     // Takes the first message of each side.
@@ -370,6 +405,8 @@ impl Drawn {
             self.take_each(rt);
         }
         assert_same(rt, &self.sides, &self.plain, u8::MAX);
+        self.wake(rt);
+        assert!(rt; self.waits.iter().all(|waits| waits.is_none()));
         let census = self.sides.pool().census();
         assert_eq!(rt; (census.free, census.queued, census.held), (MESSAGES, 0, 0));
     }

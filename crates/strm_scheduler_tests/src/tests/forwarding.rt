@@ -8,15 +8,14 @@ use strm_pool::{
     ClassSpec, ClassSpecs, Config, MsgType, NewFault, Pool, QueueSpec, QueueSpecs, Refusal,
     Rejected, Token,
 };
-use strm_scheduler::forward;
+use strm_scheduler::{Writers, forward};
 
-// Opens a pool with two queues; queue 1 is next of queue 0.
-fn opened(alloc: Global) -> Result<Pool, NewFault> {
+// Opens a pool with these queues.
+fn opened(rt: &impl Abort, alloc: Global, specs: &[QueueSpec]) -> Result<Pool, NewFault> {
     let mut classes = ArrayVec::new();
     classes.push(ClassSpec { size: 64, count: 8 });
     let mut queues = ArrayVec::new();
-    queues.push(queue(100, 50, Some(1)));
-    queues.push(queue(10, 4, None));
+    assert!(rt; queues.try_extend_from_slice(specs).is_ok());
     let config = Config {
         id: 1,
         mblks: 8,
@@ -130,7 +129,8 @@ fn assert_each(rt: &impl Abort, pool: &mut Pool, rows: &[Row], census: (u32, u32
 
 // The same on a new pool.
 fn assert_rows(rt: &impl Abort, alloc: Global, rows: &[Row], census: (u32, u32, u32)) {
-    let mut pool = opened(alloc).expect(rt, "a pool");
+    let specs = [queue(100, 50, Some(1)), queue(10, 4, None)];
+    let mut pool = opened(rt, alloc, &specs).expect(rt, "a pool");
     assert_each(rt, &mut pool, rows, census);
 }
 
@@ -168,4 +168,117 @@ fn asks_for_both_queues(rt: HostRuntime) {
         Row::Forward(0, 2, Err(Refusal::NoSuchQueue)),
     ];
     assert_rows(&rt, rt.alloc(), &rows, (7, 1, 0));
+}
+
+// A call of writers and their pool, and what it returns.
+#[derive(Clone, Copy)]
+enum Asked {
+    // Puts a message of this band and this number of bytes on queue 2.
+    Put(u8, usize),
+    // Takes the first message off queue 2.
+    Take,
+    // Gives a band of queue 2 this high and this low water mark.
+    Marks(u8, u32, u32),
+    // The writer of a queue asks about a band.
+    Ask(u8, u8, Result<bool, Refusal>),
+    // `next` gives this writer, or none.
+    Next(Option<(u8, u8)>),
+}
+
+// A message of this band and this number of bytes can be put on queue 2.
+fn assert_band_put(rt: &impl Abort, pool: &mut Pool, band: u8, size: usize) {
+    let token = pool.allocb(16).expect(rt, "a block");
+    assert!(rt; pool.has(&token));
+    assert!(rt; pool.write(&token, 0, &[0; 16][..size]).is_ok());
+    pool.setband(&token, band);
+    if let Err(Rejected { why, token }) = pool.putq(2, token) {
+        pool.freemsg(token);
+        panic!(rt; "{why:?}");
+    }
+}
+
+// The call of a row returns what it has to.
+fn assert_asked(rt: &impl Abort, pool: &mut Pool, writers: &mut Writers, row: &Asked) {
+    match row {
+        Asked::Put(band, size) => assert_band_put(rt, pool, *band, *size),
+        Asked::Take => {
+            taken(rt, pool, 2);
+        }
+        Asked::Marks(band, hiwat, lowat) => {
+            assert!(rt; pool.strqset(2, *band, *hiwat, *lowat).is_ok());
+        }
+        Asked::Ask(queue, band, wanted) => {
+            assert!(rt; writers.bcanput(pool, *queue, *band) == *wanted);
+        }
+        Asked::Next(wanted) => assert!(rt; writers.next(pool) == *wanted),
+    }
+}
+
+// Writers put on queue 2, by itself or by queue 0 or 1, which have no service procedure. There 8 bytes fill a band, and 2 are at
+// its low water mark. A writer is given once its band has drained so far, and not before, nor twice. It waits for the band of its
+// last question, and no longer if that has room.
+#[test]
+fn writers_wait_for_room(rt: HostRuntime) {
+    let passes = |next| QueueSpec {
+        service: false,
+        ..queue(1, 0, Some(next))
+    };
+    let specs = [
+        passes(1),
+        passes(2),
+        queue(8, 2, Some(3)),
+        queue(1, 0, None),
+    ];
+    let mut pool = opened(&rt, rt.alloc(), &specs).expect(&rt, "a pool");
+    let mut writers = Writers::new();
+    let rows = [
+        Asked::Ask(0, 0, Ok(true)),
+        Asked::Put(0, 8),
+        Asked::Next(None),
+        Asked::Ask(0, 0, Ok(false)),
+        Asked::Put(1, 8),
+        Asked::Ask(2, 1, Ok(false)),
+        Asked::Next(None),
+        Asked::Take,
+        Asked::Next(Some((2, 1))),
+        Asked::Next(None),
+        Asked::Take,
+        Asked::Next(Some((0, 0))),
+        Asked::Next(None),
+        // One byte is left above the low water mark, and then none.
+        Asked::Put(0, 5),
+        Asked::Put(0, 3),
+        Asked::Ask(1, 0, Ok(false)),
+        Asked::Take,
+        Asked::Next(None),
+        Asked::Take,
+        Asked::Next(Some((1, 0))),
+        // There is room, although the band is still wanted.
+        Asked::Put(0, 5),
+        Asked::Put(0, 3),
+        Asked::Ask(1, 0, Ok(false)),
+        Asked::Take,
+        Asked::Ask(1, 0, Ok(true)),
+        Asked::Take,
+        Asked::Next(None),
+        // Another band.
+        Asked::Put(0, 8),
+        Asked::Put(1, 8),
+        Asked::Ask(0, 1, Ok(false)),
+        Asked::Ask(0, 0, Ok(false)),
+        Asked::Take,
+        Asked::Next(None),
+        // Other water marks, and queues that do not exist.
+        Asked::Marks(0, 20, 8),
+        Asked::Ask(4, 0, Err(Refusal::NoSuchQueue)),
+        Asked::Ask(255, 0, Err(Refusal::NoSuchQueue)),
+        Asked::Next(Some((0, 0))),
+        Asked::Next(None),
+        Asked::Take,
+    ];
+    for row in &rows {
+        assert_asked(&rt, &mut pool, &mut writers, row);
+    }
+    writers.record(255, 0, false);
+    assert!(&rt; writers.next(&pool).is_none());
 }

@@ -6,7 +6,7 @@ use super::{CLASS, MESSAGES, configured, opened, queue};
 use std::alloc::Global;
 use std::process::Abort;
 use strm_pool::{NewFault, Pool, QueueSpec, Refusal, Rejected, Token, Which};
-use strm_scheduler::{Ended, Sides, SidesFault};
+use strm_scheduler::{Ended, Sides, SidesFault, Writers};
 
 // Three queues in a side. Each band of the last two is full at one byte, and wakes the queue behind at none.
 fn narrow() -> [QueueSpec; 3] {
@@ -355,6 +355,31 @@ fn assert_refused(rt: &impl Abort, sides: &mut Sides) {
     }
     assert_no_queue(rt, sides);
     assert_sizes(rt, sides, &[0, 1, 0]);
+}
+
+// The writer of queue 1 puts a and b there, and must wait with the next message. Queue 0 stays empty. Once the user has taken a,
+// queue 1 gives b: then queue 1 has drained, queue 0 is enabled, and the writer is given.
+#[test]
+fn a_writer_waits(rt: HostRuntime) {
+    let mut sides = opened(&rt, rt.alloc(), &narrow()).expect(&rt, "sides");
+    let mut writers = Writers::new();
+    for byte in *b"ab" {
+        assert_eq!(rt; sides.bcanput(1, 0), Ok(true));
+        assert!(rt; put(&mut sides, 1, 0, &[byte]).is_ok());
+        sides.run();
+    }
+    assert_eq!(rt; sides.bcanput(1, 0), Ok(false));
+    writers.record(1, 0, false);
+    assert_eq!(rt; writers.next(sides.pool()), None);
+    assert_taken(&rt, &mut sides, b'a');
+    assert_eq!(rt; sides.pool().run_at(0), Some(1));
+    assert_eq!(rt; writers.next(sides.pool()), None);
+    assert_passed(&rt, &mut sides, 0, 1, 0);
+    assert_eq!(rt; sides.pool().run_at(0), Some(0));
+    assert_eq!(rt; writers.next(sides.pool()), Some((1, 0)));
+    assert_eq!(rt; writers.next(sides.pool()), None);
+    assert_eq!(rt; sides.bcanput(1, 0), Ok(true));
+    assert_taken(&rt, &mut sides, b'b');
 }
 
 #[test]
