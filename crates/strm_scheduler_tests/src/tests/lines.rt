@@ -7,7 +7,7 @@ use std::process::Abort;
 use strm_pool::{ClassSpec, MsgType, Pool, QueueSpec, QueuedInfo, Rejected, Token};
 use strm_scheduler::{Module, Service, hold, serve};
 
-// The number of steps on each line, and the numbers to which lines of 2 to 8 queues come.
+// The number of steps on each line that the plain model takes too, and the numbers to which lines of 2 to 8 queues come.
 const STEPS: u32 = 10_000;
 
 const DIGESTS: [u32; 7] = [
@@ -18,6 +18,19 @@ const DIGESTS: [u32; 7] = [
     1_220_840_473,
     3_111_154_543,
     1_565_327_723,
+];
+
+// The number of all steps on each line, a million on all lines, and the numbers to which lines come then.
+const ALL_STEPS: u32 = 143_000;
+
+const LAST_DIGESTS: [u32; 7] = [
+    3_489_173_436,
+    3_543_179_977,
+    1_922_664_709,
+    2_453_797_962,
+    4_292_841_557,
+    39_814_498,
+    2_644_083_099,
 ];
 
 const BLOCKS: u32 = 16;
@@ -430,7 +443,6 @@ impl Walk {
             (census.held, census.free + census.queued + census.held),
             (held, BLOCKS)
         );
-        self.happened(census.free);
     }
 
     fn step(&mut self, rt: &impl Abort) {
@@ -452,7 +464,17 @@ impl Walk {
             7 => self.put_kept_back(rt),
             _ => self.serve(rt),
         }
-        self.look(rt);
+        self.happened(self.pool.census().free);
+    }
+
+    // Takes this number of steps, and looks after each one whose number is a multiple of `every`.
+    fn steps(&mut self, rt: &impl Abort, count: u32, every: u32) {
+        for step in 0..count {
+            self.step(rt);
+            if step % every == 0 {
+                self.look(rt);
+            }
+        }
     }
 
     // Serves until nothing is left to do but for the user.
@@ -482,15 +504,15 @@ impl Walk {
 #[test]
 fn message_by_message(rt: HostRuntime) {
     let mut waited = 0;
-    for (queues, digest) in (2..=8).zip(DIGESTS.iter()) {
+    for (queues, (digest, last_digest)) in (2..=8).zip(DIGESTS.iter().zip(LAST_DIGESTS.iter())) {
         let mut walk = Walk::opened(&rt, rt.alloc(), queues);
-        for _step in 0..STEPS {
-            walk.step(&rt);
-        }
+        walk.steps(&rt, STEPS, 1);
         assert_eq!(rt; walk.digest, *digest);
+        walk.steps(&rt, ALL_STEPS - STEPS, 16);
+        assert_eq!(rt; walk.digest, *last_digest);
         walk.finish(&rt);
-        assert!(rt; walk.arrived > STEPS / 50);
+        assert!(rt; walk.arrived > ALL_STEPS / 50);
         waited += walk.waited;
     }
-    assert!(rt; waited > STEPS / 50);
+    assert!(rt; waited > ALL_STEPS / 50);
 }
