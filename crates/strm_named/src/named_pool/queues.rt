@@ -4,6 +4,7 @@ ghost use Rattle.strm_named.specs.NamedCalls.{Does, LeavesNames, ServesNamed, an
 ghost use Rattle.strm_pool.specs.PoolValue.{on_queues, queued_blocks_of};
 ghost use Rattle.strm_queue.specs.HeadCalls as by_head;
 ghost use Rattle.strm_queue.specs.QueueCalls as queues;
+ghost use Rattle.strm_queue.specs.QueueCalls.{IsBurstPlace};
 ghost use Rattle.strm_scheduler.specs.Laws.{AreKeptAwake, hold};
 
 use super::NamedPool;
@@ -11,7 +12,7 @@ use crate::fault::Fault;
 use crate::name::Name;
 use crate::naming::Naming;
 use crate::tokens::{answered, taken};
-use strm_pool::{Flush, Refusal};
+use strm_pool::{BurstPlace, Flush, Refusal};
 use strm_scheduler::{Service, hold, serve};
 
 // The most messages that a call takes.
@@ -30,6 +31,28 @@ impl NamedPool {
         }
         let token = taken(&self.pool, &mut self.places, name);
         let put = self.pool.putq(queue, token);
+        self.places.spend(put)
+    }
+
+    /// Puts the next message of a burst on a queue as `putq` does, by the place of the last one, and spends its name. Refused as
+    /// `Invalid`, then `NoSuchQueue`. As [`Queues::putq_in_burst`] of strm_queue.
+    #[inline(always)]
+    pub fn putq_in_burst(
+        &mut self,
+        queue: u8,
+        place: &mut BurstPlace,
+        name: Name,
+    ) -> Result<(), Fault>
+        requires place { IsBurstPlace place.old queue (queued_blocks_of self.old.pool) }
+        ensures does { Does no_message (on_name self.old name (on_queues self.old.pool
+            (queues.putq queue name.head (queued_blocks_of self.old.pool)))) (name.head ∷ []) self.old self.new result }
+        ensures place { IsBurstPlace place.new queue (queued_blocks_of self.new.pool) }
+    {
+        if !self.has(name) {
+            return Err(Fault::Invalid);
+        }
+        let token = taken(&self.pool, &mut self.places, name);
+        let put = self.pool.putq_in_burst(queue, place, token);
         self.places.spend(put)
     }
 
