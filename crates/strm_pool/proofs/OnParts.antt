@@ -1,6 +1,7 @@
 -- A call on a part of a pool is one on the whole.
-use Rattle.std.proofs.Common.{◌≡◌, ℕ, List, [], ◌∷◌, length, Option, None, Result, Ok, Err, refl, sym, ap, ◌∙◌, subst}
+use Rattle.std.proofs.Common.{◌≡◌, ℕ, List, [], ◌∷◌, length, Option, None, Some, Result, Ok, Err, refl, sym, ap, ◌∙◌, subst}
 use Rattle.std.specs.Prelude.{MatchResult, option_map}
+use Rattle.std.specs.List.{FoldsTo}
 use Rattle.strm_data.specs.declared.refusal.Refusal.{Refusal}
 use Rattle.strm_mblk.specs.declared.rejected.Rejected.{Rejected}
 use Rattle.strm_mblk.specs.declared.token.TokenValue.{TokenValue}
@@ -10,7 +11,7 @@ use Rattle.strm_mblk.specs.Frame.{LeavesShelves}
 use Rattle.strm_mblk.specs.Freeing as freeing
 use Rattle.strm_mblk.specs.Given.{Given, answer_map, answer_of, or_rejected, value_after, without_token}
 use Rattle.strm_mblk.proofs.arena.Frame.{leaves_same}
-use Rattle.strm_queue.specs.Taking.{AreHanded, Hands, heads_taken}
+use Rattle.strm_queue.specs.Taking.{AreHanded, Hands, TakesEach, heads_taken}
 use Rattle.strm_queue.specs.QueuedBlocks as on
 use Rattle.strm_queue.specs.QueuedBlocks.{Agrees, QueuedBlocks, QueuesValue}
 use Rattle.strm_queue.proofs.Agreeing.{agrees_left}
@@ -210,3 +211,23 @@ module _ {u v : PoolValue} {q : QueuedBlocks} (view : u ≡ v) where
         count = g.count ∙ ap (answer_map (λ heads. length heads)) (sym (queues_answer u (call (queued_blocks_of u))));
         tokens = subst (λ a. AreHanded receives (heads_taken a) u.arena q.arena before after) (sym (queues_answer u (call (queued_blocks_of u)))) g.tokens;
       })
+
+-- ---- messages that are taken one after another
+
+module _ {R : Type 0} (receives : R → TokenValue → R → Type 0) (call : QueuedBlocks → Given QueuedBlocks (Option ℕ)) where
+  abbrev on_pool : PoolValue → Given PoolValue (Option ℕ)
+  on_pool v = on_queues v (call (queued_blocks_of v))
+
+  each_on : (v : PoolValue) (q : QueuedBlocks) (r s : R) (ts : List TokenValue)
+      → FoldsTo (λ (x : QueuedBlocks × R) t (y : QueuedBlocks × R). TakesAny on.arena (call x.0) x.0 y.0 (Ok (Some t)) × receives x.1 t y.1) (queued_blocks_of v, r) ts (q, s)
+      → FoldsTo (λ (x : PoolValue × R) t (y : PoolValue × R). TakesAny arena (on_pool x.0) x.0 y.0 (Ok (Some t)) × receives x.1 t y.1) (v, r) ts (with_queued v q, s)
+  each_on v q r s [] is = λ i. (with_queued v (is i).0, (is i).1)
+  each_on v q r s (t ∷ ts) is =
+      let mid = with_queued v is.0.0 in
+      ((mid, is.0.1), (takes_any_on {u = v} {v = v} {q = is.0.0} refl call is.1.0, is.1.1), each_on mid q is.0.1 s ts is.2)
+
+  pub takes_each_on : {u v : PoolValue} {q : QueuedBlocks} {most taken : ℕ} {before after : R} → u ≡ v → TakesEach on.arena receives call most (queued_blocks_of u) q before after taken
+      → TakesEach arena receives on_pool most v (with_queued u q) before after taken
+  takes_each_on {u} {v} {q} {most} {taken} {before} {after} view g =
+      subst (λ w. TakesEach arena receives on_pool most w (with_queued u q) before after taken) view
+      (record { tokens = g.tokens; each = each_on u q before after g.tokens g.each; count = g.count; few = g.few })

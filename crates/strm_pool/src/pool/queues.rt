@@ -8,7 +8,7 @@ ghost use Rattle.strm_queue.specs.HeadCalls as by_head;
 ghost use Rattle.strm_queue.specs.QueueCalls as queues;
 ghost use Rattle.strm_queue.specs.QueueCalls.{IsBurstPlace};
 ghost use Rattle.strm_queue.specs.Taking as taking;
-ghost use Rattle.strm_queue.specs.Taking.{Hands};
+ghost use Rattle.strm_queue.specs.Taking.{Hands, TakesEach};
 
 use super::Pool;
 use strm_data::Refusal;
@@ -90,6 +90,17 @@ impl Pool {
             (queued_blocks_of self.old))) self.old self.new result }
     {
         self.queues.getq(&mut self.blocks, queue)
+    }
+
+    /// Removes the first messages of a queue, at most `most`, each as [`Pool::getq`] does. Their tokens go to `into`, and their
+    /// number is returned. It may remove fewer messages than there are, or none; call `getq` before it. As [`Queues::getq_run`]
+    /// of strm_queue.
+    #[inline(always)]
+    pub fn getq_run<R: Receiver>(&mut self, queue: u8, most: u32, into: &mut R) -> u32
+        ensures { TakesEach arena R.receives (λ v. on_queues v (queues.getq queue (queued_blocks_of v))) most
+            self.old self.new into.old into.new result }
+    {
+        self.queues.getq_run(&mut self.blocks, queue, most, into)
     }
 
     /// Removes the message at `place` of a queue, counted from 0, and returns its token. Refused as `NoSuchQueue`, then
