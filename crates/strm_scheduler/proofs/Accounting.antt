@@ -24,12 +24,10 @@ use Rattle.strm_queue.specs.QueuedBlocks.{QueuedBlocks}
 use Rattle.strm_queue.specs.Rank.{as_queued, put_ahead, put_behind, rank_of}
 use Rattle.strm_queue.proofs.Agreeing.{rank_of-same}
 use Rattle.strm_queue.proofs.order.Order.{low_queued}
-use Rattle.strm_scheduler.specs.Forwarding.{has_leave, with_put}
-use Rattle.strm_scheduler.specs.Handing.{hand_first, handed_on, with_band_wanted, with_first_off, with_one_placed}
+use Rattle.strm_scheduler.specs.Forwarding.{hand_first, handed_on, has_leave, with_band_wanted, with_first_off, with_one_placed, with_put}
 use Rattle.strm_scheduler.specs.Modules.{AreTreated, AreTurns, Ends, IsTreated, IsTurn, Needs, Treats, service_moves, treated_moves, turn_moves, turns_moves}
-use Rattle.strm_scheduler.specs.Moves.{Accounts, AreMoved, Move, Ranked, all_freed, all_joined, all_taken, free_of_queue, join, moves_at, ranked, ranked_at, take_off, with_rank}
+use Rattle.strm_scheduler.specs.Steps.{Accounts, AreMoved, AreSteps, Changed, Enabled, Flushed, IsStep, Move, Put, Ranked, Step, all_freed, all_joined, all_taken, free_of_queue, join, moves_at, ranked, ranked_at, step_moves, steps_moves, take_off, with_message_put, with_queue_flushed, with_rank}
 use Rattle.strm_scheduler.specs.Serving.{IsTaken}
-use Rattle.strm_scheduler.specs.Steps.{AreSteps, Changed, Enabled, Flushed, IsStep, Put, Step, step_moves, steps_moves, with_message_put, with_queue_flushed}
 use Rattle.strm_scheduler.proofs.Beginning.{joined_parts}
 use Rattle.strm_scheduler.proofs.Holding.{enabled_specs}
 use Rattle.strm_scheduler.proofs.Moving.{enabling_keeps, put_keeps, put_leaves}

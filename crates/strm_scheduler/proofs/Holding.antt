@@ -10,18 +10,15 @@ use Rattle.strm_queue.specs.declared.queue_spec.QueueSpec.{QueueSpec}
 use Rattle.strm_queue.specs.Flow.{QueueState, flags_at, spec_at, with_enabled}
 use Rattle.strm_queue.specs.Limits.{most_queues}
 use Rattle.strm_queue.specs.QueueLooks.{queued_at}
-use Rattle.strm_scheduler.specs.Awake.{is_awake}
-use Rattle.strm_scheduler.specs.Holding.{AreLastHeldBack, is_spent, work_left}
-use Rattle.strm_scheduler.specs.Laws.{AreKeptAwake}
+use Rattle.strm_scheduler.specs.Laws.{AreKeptAwake, is_awake}
+use Rattle.strm_scheduler.specs.Waits.{AreLastHeldBack, is_spent, work_left}
 use Rattle.strm_scheduler.specs.Modules.{AreHeldBack, IsHeldBack, IsTurned, Needs, services_of, with_run}
 use Rattle.strm_scheduler.specs.Needs.{are_free, can_be_free}
-use Rattle.strm_scheduler.specs.Serving.{IsBegun, IsServing}
+use Rattle.strm_scheduler.specs.Serving.{IsBegun, IsServing, most_powers, powers, times_of, weigh, work}
 use Rattle.strm_scheduler.specs.Sides.{AreSides, next_of}
 use Rattle.strm_scheduler.specs.Steps.{with_queue_enabled}
-use Rattle.strm_scheduler.specs.Work.{most_powers, powers, times_of, weigh, work}
 use Rattle.strm_scheduler.proofs.Falling.{powers-append, times_of_le}
-use Rattle.strm_scheduler.proofs.Keeping.{awake_grown, awake_on_run}
-use Rattle.strm_scheduler.proofs.Waking.{enabled_grows, enabled_on}
+use Rattle.strm_scheduler.proofs.Keeping.{awake_grown, awake_on_run, enabled_grows, enabled_on}
 
 -- ---- a queue is enabled
 
@@ -31,6 +28,12 @@ there_same q v w specs there = ap (λ (s : List QueueSpec). nat_lt q (length s))
 
 pub enabled_specs : (q : ℕ) (v : PoolValue) → (with_queue_enabled q v).queues.specs ≡ v.queues.specs
 enabled_specs q v = ap (λ (s : QueueState). s.specs) (enabled_grows q v.queues).alone
+
+-- it is the last one of the run list then, if it was not there
+pub enabled_last : (q : ℕ) (v : PoolValue) → (spec_at v.queues.specs q).service ≡ true → rows.has q v.queues.run ≡ false → with_queue_enabled q v ≡ with_run (v.queues.run ++ q ∷ []) v
+enabled_last q v serves once = λ i.
+    let t : QueueState = if serves i && not (once i) then record v.queues { run = v.queues.run ++ q ∷ [] } else v.queues in
+    record v { queues = t }
 
 -- the queue that is being served is enabled
 module _ (q n : ℕ) (v : PoolValue) (s : IsServing q n v) where
@@ -52,12 +55,6 @@ module _ (q n : ℕ) (v : PoolValue) (s : IsServing q n v) where
             ];
       }
 
-  -- it is the last one of the run list then
-  pub enabled_last : rows.has q v.queues.run ≡ false → with_queue_enabled q v ≡ with_run (v.queues.run ++ q ∷ []) v
-  enabled_last once = λ i.
-      let t : QueueState = if serves i && not (once i) then record v.queues { run = v.queues.run ++ q ∷ [] } else v.queues in
-      record v { queues = t }
-
 -- ---- what is held back stays so while only the run list changes
 
 module _ {M : Type 0} (needs : Needs M) (m : M) where
@@ -76,7 +73,7 @@ module _ {M : Type 0} (needs : Needs M) (m : M) where
   -- the first queue of the run list of v left it, is held back, and was enabled again
   pub turned : (q n : ℕ) (v x w : PoolValue) (ever : Bool) → AreKeptAwake v → IsBegun q n v x → IsHeldBack needs m q x ever → w ≡ with_queue_enabled q x → IsTurned needs q ever m v m w
   turned q n v x w ever kept begun held after =
-      let last : w ≡ with_run (x.queues.run ++ q ∷ []) x = after ∙ enabled_last q n x (begun.serving kept) begun.once in
+      let last : w ≡ with_run (x.queues.run ++ q ∷ []) x = after ∙ enabled_last q x (serves q n x (begun.serving kept)) begun.once in
       record {
         rest = x.queues.run;
         run = begun.run;

@@ -1,13 +1,7 @@
 pub mod Moving
-pub mod Looping
 pub mod Hops
-pub mod Waking
 pub mod Keeping
 pub mod Settling
-pub mod Calls
-pub mod Delivering
-pub mod Underway
-pub mod Weighing
 pub mod Falling
 pub mod Ordering
 pub mod Beginning
@@ -16,7 +10,7 @@ pub mod Unchanged
 pub mod Stepping
 pub mod Treated
 pub mod Holding
-pub mod Started
+pub mod Resting
 pub mod Needing
 pub mod Accounting
 pub mod Wanting

@@ -18,10 +18,9 @@ use Rattle.strm_queue.specs.QueueSpecs.{are_lawful}
 use Rattle.strm_queue.specs.Rank.{as_queued, put_behind, rank_of}
 use Rattle.strm_queue.proofs.order.Ends.{of_rank-append}
 use Rattle.strm_queue.proofs.order.Order.{rank_of-queued}
-use Rattle.strm_scheduler.specs.Sides.{next_of}
-use Rattle.strm_scheduler.specs.Order.{KeepsOrder, side_of, side_within, part_of}
+use Rattle.strm_scheduler.specs.Sides.{KeepsOrder, next_of, part_of, side_of, side_within}
 use Rattle.strm_scheduler.proofs.Hops.{behind_is, behind_next, hop_ahead}
-use Rattle.strm_scheduler.proofs.Weighing.{forwarded_weighs}
+use Rattle.strm_scheduler.proofs.Falling.{forwarded_weighs}
 
 -- ---- one message joins a queue
 

@@ -22,22 +22,18 @@ use Rattle.strm_queue.specs.QueuedBlocks.{QueuedBlocks}
 use Rattle.strm_queue.specs.QueueSpecs.{are_lawful}
 use Rattle.strm_queue.specs.Rank.{as_queued, put_behind, rank_of}
 use Rattle.strm_queue.proofs.order.Order.{rank_of-queued}
-use Rattle.strm_scheduler.specs.Awake.{is_awake, may_rest}
-use Rattle.strm_scheduler.specs.Laws.{KeepsQueued}
-use Rattle.strm_scheduler.specs.Serving.{IsServing}
+use Rattle.strm_scheduler.specs.Laws.{KeepsQueued, is_awake, may_rest}
+use Rattle.strm_scheduler.specs.Serving.{IsServing, from_here, weigh}
 use Rattle.strm_pool.specs.Lawful.{IsLawful}
 use Rattle.strm_scheduler.specs.Sides.{AreSides, next_of}
 use Rattle.strm_scheduler.specs.Steps.{AreSteps, AreStill, Changed, Enabled, Flushed, IsStep, PassOne, Put, Step, with_message_put, with_queue_enabled, with_queue_flushed}
-use Rattle.strm_scheduler.specs.Work.{from_here, weigh}
 use Rattle.strm_scheduler.proofs.Beginning.{banded_of}
-use Rattle.strm_scheduler.proofs.Calls.{awake_put}
+use Rattle.strm_scheduler.proofs.Settling.{AreBanded, awake_put, awake_settled, banded_left, flags_all, settled_flags, settled_specs}
 use Rattle.strm_scheduler.proofs.Hops.{hop_ahead}
-use Rattle.strm_scheduler.proofs.Keeping.{SameOff, awake_grown, awake_on_run, enabling_on, flags_related}
+use Rattle.strm_scheduler.proofs.Keeping.{Grows, SameOff, awake_grown, awake_on_run, enabled_grows, enabled_on, enabled_where_grows, enabling_on, flags_related}
 use Rattle.strm_scheduler.proofs.Moving.{put_leaves}
-use Rattle.strm_scheduler.proofs.Settling.{AreBanded, awake_settled, banded_left, flags_all, settled_flags, settled_specs}
 use Rattle.strm_scheduler.proofs.Unchanged.{awake_same}
-use Rattle.strm_scheduler.proofs.Waking.{Grows, enabled_grows, enabled_on, enabled_where_grows}
-use Rattle.strm_scheduler.proofs.Weighing.{each-put, weigh-set}
+use Rattle.strm_scheduler.proofs.Falling.{each-put, weigh-set}
 
 -- ---- messages are freed
 

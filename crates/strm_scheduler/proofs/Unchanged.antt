@@ -1,25 +1,27 @@
 -- A call on held messages keeps the laws of sides: it leaves the queues and the ranks of the messages on them.
-use Rattle.std.proofs.Common.{◌≡◌, ℕ, zero, suc, ◌<◌, length, Ok, Err, Bool, not, ◌&&◌, ◌||◌, ◌==◌, List, [], ◌∷◌, get_or, refl, sym, ap, ◌∙◌, subst, arith}
+use Rattle.std.proofs.Common.{◌≡◌, ℕ, zero, suc, ◌<◌, length, Ok, Err, Bool, true, false, not, ◌&&◌, ◌||◌, ◌==◌, List, [], ◌∷◌, get_or, Option, Some, None, refl, sym, ap, ◌∙◌, subst, arith, if◌then◌else◌}
 use Rattle.std.specs.List.{All, flat_map}
-use Rattle.std.specs.Prelude.{MatchResult, Result}
+use Rattle.std.specs.Prelude.{MatchResult, Result, slice_get}
 use Rattle.strm_data.specs.DataStore.{DataStore}
 use Rattle.strm_links.specs.Rows as rows
-use Rattle.strm_mblk.specs.Arena.{Arena, shelf_at, shelved_blocks}
+use Rattle.strm_mblk.specs.Arena.{Arena, message_at, shelf_at, shelved_blocks, without_held}
 use Rattle.strm_mblk.specs.Block.{Block, Message}
+use Rattle.strm_mblk.specs.BlockCalls as blocks
+use Rattle.strm_mblk.specs.BlockCalls.{with_rest}
 use Rattle.strm_mblk.specs.Frame.{IsSameData, LeavesShelves}
 use Rattle.strm_mblk.specs.Calls.{Spends}
 use Rattle.strm_mblk.specs.Freeing as freeing
 use Rattle.strm_mblk.specs.Given.{Given, value_after}
-use Rattle.strm_mblk.specs.Messages.{blocks_on}
+use Rattle.strm_mblk.specs.Messages.{blocks_on, chains_joined, without_place}
 use Rattle.strm_mblk.specs.declared.rejected.Rejected.{Rejected}
 use Rattle.strm_mblk.specs.declared.token.TokenValue.{TokenValue}
-use Rattle.strm_pool.specs.PoolValue.{PoolValue, arena, on_arena, queued_blocks_of, with_token_spent}
+use Rattle.strm_pool.specs.PoolValue.{PoolValue, arena, on_arena, queued_blocks_of, with_arena, with_token_spent}
 use Rattle.strm_queue.specs.Flow.{QueueState, flags_at, has_band}
 use Rattle.strm_queue.specs.Limits.{high_rank}
 use Rattle.strm_queue.proofs.Agreeing.{rank_of-same}
-use Rattle.strm_scheduler.specs.Awake.{is_awake, may_rest}
-use Rattle.strm_scheduler.specs.Laws.{AreKeptAwake, KeepsQueued}
-use Rattle.strm_scheduler.specs.Sides.{AreSides, next_of}
+use Rattle.strm_scheduler.specs.Laws.{KeepsQueued, is_awake, may_rest}
+use Rattle.strm_scheduler.specs.declared.need.Need.{Need}
+use Rattle.strm_scheduler.specs.Needs.{are_free}
 use Rattle.strm_scheduler.proofs.Beginning.{joined_parts}
 
 module _ (s t : DataStore) where
@@ -41,12 +43,6 @@ awake_same v w keeps q n =
     && (rows.has q (keeps.queues i).run || may_rest w.arena.store (flags_at (keeps.queues i) q).read (flags_at (keeps.queues i) n).wanted (get_or (keeps.shelves i) q [])))
     ∙ ap (λ r. not (flags_at v.queues q).noenable && (rows.has q v.queues.run || r))
     (rest_same v.arena.store w.arena.store (flags_at v.queues q).read (flags_at v.queues n).wanted (shelf_at v.arena q) (shelf_data v.arena.store w.arena.store v.arena.shelves q keeps.contents))
-
-pub queued_kept : (v w : PoolValue) → KeepsQueued v w → AreKeptAwake v → AreKeptAwake w
-queued_kept v w keeps kept = record {
-  sides = subst (λ (s : QueueState). AreSides s.specs) (sym keeps.queues) kept.sides;
-  awake = λ q n next. awake_same v w keeps q n ∙ kept.awake q n (ap (λ (s : QueueState). next_of s.specs q) (sym keeps.queues) ∙ next);
-}
 
 -- ---- for users of `change` and authors of modules
 
@@ -74,3 +70,27 @@ pub transfer_keeps : (t : TokenValue) (v w : PoolValue) (result : Result TokenVa
     → MatchResult result (λ u. Spends arena t (with_token_spent v t) v w) (λ rejected. (rejected.token ≡ t) × (w ≡ v)) → KeepsQueued v w
 transfer_keeps t v w (Ok u) here = arena_keeps (t.head ∷ []) v w (Ok (t.head, freeing.with_token_spent v.arena t)) here.after here.shelves
 transfer_keeps t v w (Err rejected) here = subst (λ (x : PoolValue). KeepsQueued v x) (sym here.1) (keeps_same v)
+
+-- ---- calls that free no block
+
+-- blocks of two messages are joined, or one is taken out of a message
+pub linkb_free : (h g : ℕ) (v w : PoolValue) → w ≡ with_arena v (blocks.linkb h g v.arena) → (need : Need) → are_free need w.arena ≡ are_free need v.arena
+linkb_free h g v w after need = ap (λ (p : PoolValue). are_free need p.arena) after ∙ by_same (h == g)
+  where
+    by_same : (same : Bool) → (let a : Arena = if same then v.arena else record v.arena { held = chains_joined h g v.arena.held } in are_free need a) ≡ are_free need v.arena
+    by_same true = refl
+    by_same false = refl
+
+rest_free : (need : Need) (rest : Message) (a : Arena) → are_free need (with_rest rest a) ≡ are_free need a
+rest_free need [] a = refl
+rest_free need (b ∷ rest) a = refl
+
+pub rmvb_free : (h k : ℕ) (v w : PoolValue) → w ≡ value_after v (on_arena v (blocks.rmvb h k v.arena)) → (need : Need) → are_free need w.arena ≡ are_free need v.arena
+rmvb_free h k v w after need = ap (λ (p : PoolValue). are_free need p.arena) after ∙ by_block (slice_get (message_at v.arena h) k)
+  where
+    rest : Message
+    rest = without_place k (message_at v.arena h)
+
+    by_block : (o : Option Block) → are_free need (value_after v (on_arena v (blocks.rmvb_of h v.arena rest o))).arena ≡ are_free need v.arena
+    by_block None = refl
+    by_block (Some b) = rest_free need rest (without_held h v.arena)

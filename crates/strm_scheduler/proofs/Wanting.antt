@@ -15,7 +15,7 @@ use Rattle.strm_queue.specs.QueueCalls.{ask_for_room, bcanput, has_queue, is_ful
 use Rattle.strm_queue.specs.QueuedBlocks.{QueuedBlocks}
 use Rattle.strm_queue.specs.QueueLooks as looks
 use Rattle.strm_queue.specs.QueueSpecs.{are_lawful}
-use Rattle.strm_scheduler.specs.Awake.{IsAwaited}
+use Rattle.strm_scheduler.specs.Laws.{IsAwaited}
 use Rattle.strm_scheduler.specs.Writers.{AreWritersWaiting, first_ready, is_wanted, or_ready, ready_at}
 use Rattle.strm_scheduler.proofs.Beginning.{banded_of}
 use Rattle.strm_scheduler.proofs.Hops.{hop_ahead}

@@ -3,9 +3,9 @@ use Rattle.std.specs.Prelude.{◌≡◌, ◌<◌, ◌≤◌, ◌⊎◌, ℕ, zer
 use Rattle.std.specs.List.{All}
 use Rattle.strm_mblk.specs.declared.token.TokenValue.{TokenValue}
 use Rattle.strm_scheduler.specs.declared.ended.Ended.{Ended}
-use Rattle.strm_scheduler.specs.declared.ended.Ended.TheVariants.{Idle, HeldBack, NeverMet, Spent}
+use Rattle.strm_scheduler.specs.declared.ended.Ended.TheVariants.{HeldBack, Idle, NeverMet, Spent}
 use Rattle.strm_scheduler.specs.declared.need.Need.{Need}
-use Rattle.strm_scheduler.specs.Handing.{handed_on}
+use Rattle.strm_scheduler.specs.Forwarding.{handed_on}
 use Rattle.strm_links.specs.Rows as rows
 use Rattle.strm_mblk.specs.Arena.{message_at}
 use Rattle.strm_pool.specs.PoolValue.{PoolValue, queued_blocks_of, with_queued}
@@ -13,12 +13,10 @@ use Rattle.strm_queue.specs.declared.queued_info.QueuedInfo.{QueuedInfo}
 use Rattle.strm_queue.specs.QueueCalls.{next_service}
 use Rattle.strm_queue.specs.QueueLooks.{info_of_message, queued_at}
 use Rattle.strm_scheduler.specs.Needs.{are_free, can_be_free}
-use Rattle.strm_scheduler.specs.Moves.{AreMoved, Move, ranked, take_off}
-use Rattle.strm_scheduler.specs.Order.{KeepsOrder}
+use Rattle.strm_scheduler.specs.Steps.{AreMoved, AreSteps, Move, PassOne, Put, Step, ranked, steps_moves, take_off, with_queue_enabled}
+use Rattle.strm_scheduler.specs.Sides.{KeepsOrder, next_of}
 use Rattle.strm_scheduler.specs.Running.{IsServed}
-use Rattle.strm_scheduler.specs.Sides.{next_of}
 use Rattle.strm_scheduler.specs.Serving.{IsTaken}
-use Rattle.strm_scheduler.specs.Steps.{AreSteps, PassOne, Put, Step, steps_moves, with_queue_enabled}
 
 -- `treats m v q n t steps k w`: the module m, with pool v, can treat the message of token t, which has left queue q and may go on to
 -- queue n, by these steps, and then be k, with pool w

@@ -41,6 +41,10 @@ are_free need a = not need.later && is_enough false need (length a.free) (class_
 abbrev pub can_be_free : Need → Arena → Bool
 can_be_free need a = is_enough true need (length a.held) (class_infos a.store)
 
+-- what is needed is not free, and can become free: the module does not want the message later for another reason
+abbrev pub can_wait : Need → Arena → Bool
+can_wait need a = not need.later && (not (are_free need a) && can_be_free need a)
+
 -- `allocb` of each of these sizes, one after another, succeeds, and then at least this many message blocks are free
 abbrev pub AreAllocated : List ℕ → ℕ → Arena → Type 0
 AreAllocated [] mblks a = mblks ≤ length a.free

@@ -8,7 +8,7 @@ use Rattle.strm_pool.specs.PoolValue.{PoolValue, queued_blocks_of, with_queued}
 use Rattle.strm_queue.specs.QueueCalls.{next_service}
 use Rattle.strm_queue.specs.QueuedBlocks.{QueuedBlocks}
 use Rattle.strm_scheduler.specs.declared.starting.Service.{Service}
-use Rattle.strm_scheduler.specs.Handing.{all_forwarded, handed_on}
+use Rattle.strm_scheduler.specs.Forwarding.{all_forwarded, handed_on}
 use Rattle.strm_scheduler.specs.Serving.{IsTaken}
 use Rattle.strm_scheduler.specs.Sides.{next_of}
 use Rattle.strm_scheduler.specs.Steps.{with_queue_enabled}

@@ -1,18 +1,58 @@
--- A service procedure at work on one queue. Of this module, public clauses cite only `IsTaken`.
-use Rattle.std.specs.Prelude.{◌≡◌, ◌≢◌, ◌⊎◌, ◌+◌, ◌<◌, ℕ, false, true, IsTrue, List, ◌∷◌, Option, None, Some}
+-- A service procedure at work on one queue, and the work that is left, which falls with each service. Of this module, public clauses cite
+-- only `IsTaken`.
+use Rattle.std.specs.Prelude.{ℕ, zero, suc, ◌+◌, List, [], ◌∷◌, length, ◌≡◌, ◌≢◌, ◌⊎◌, ◌<◌, false, true, IsTrue, Option, None, Some}
+use Rattle.strm_mblk.specs.Block.{Message, head_of}
+use Rattle.strm_queue.specs.QueuedBlocks.{QueuedBlocks}
 use Rattle.strm_mblk.specs.declared.token.TokenValue.{TokenValue}
-use Rattle.strm_scheduler.specs.Handing.{handed_on, with_first_off, with_one_placed}
-use Rattle.strm_scheduler.specs.Forwarding.{has_leave, may_go, with_put_either}
+use Rattle.strm_scheduler.specs.Forwarding.{handed_on, has_leave, may_go, with_first_off, with_one_placed, with_put_either}
 use Rattle.strm_links.specs.Rows as rows
 use Rattle.strm_mblk.specs.Arena.{has, message_at, shelf_at, with_held, with_shelf}
-use Rattle.strm_mblk.specs.Block.{Message, head_of}
 use Rattle.strm_pool.specs.Lawful.{IsLawful}
 use Rattle.strm_pool.specs.PoolValue.{PoolValue, has_queue, queued_blocks_of, with_queued}
 use Rattle.strm_queue.specs.QueueCalls.{flags_of, next_service}
-use Rattle.strm_scheduler.specs.Awake.{is_awake}
-use Rattle.strm_scheduler.specs.Laws.{AreKeptAwake}
+use Rattle.strm_scheduler.specs.Laws.{AreKeptAwake, is_awake}
 use Rattle.strm_scheduler.specs.Sides.{AreSides, next_of}
-use Rattle.strm_scheduler.specs.Work.{power, powers, weigh}
+
+-- this number for each message
+abbrev pub each : ℕ → List Message → ℕ
+each k [] = 0
+each k (m ∷ ms) = k + each k ms
+
+-- the number of queues from queue q on
+abbrev pub from_here : List (List Message) → ℕ → ℕ
+from_here [] q = 0
+from_here (ms ∷ rest) zero = suc (length rest)
+from_here (ms ∷ rest) (suc q) = from_here rest q
+
+-- for each message, the number of queues from its queue on
+abbrev pub weigh : List (List Message) → ℕ
+weigh [] = 0
+weigh (ms ∷ rest) = each (suc (length rest)) ms + weigh rest
+
+-- a number, added a number of times
+abbrev pub times_of : ℕ → ℕ → ℕ
+times_of zero k = 0
+times_of (suc count) k = k + times_of count k
+
+-- two, raised to a number
+abbrev pub power : ℕ → ℕ
+power zero = 1
+power (suc q) = power q + power q
+
+-- the powers of the queues on the run list
+abbrev pub powers : List ℕ → ℕ
+powers [] = 0
+powers (q ∷ qs) = power q + powers qs
+
+-- more than the powers of any run list of this number of queues
+abbrev pub most_powers : ℕ → ℕ
+most_powers queues = suc (times_of queues (power queues))
+
+-- The work: above all the queues that messages have ahead of them, then the queues that are enabled.
+unfoldable pub work : QueuedBlocks → ℕ
+work v = times_of (weigh v.arena.shelves) (most_powers (length v.queues.specs)) + powers v.queues.run
+
+-- ---- a service
 
 -- queue q is being served, its next is queue n, and all other queues are awake
 pub record IsServing (q n : ℕ) (v : PoolValue) : Type 0 where

@@ -3,7 +3,7 @@ use Rattle.std.specs.Prelude.{◌≡◌, ℕ, ◌+◌, Bool, List, [], ◌∷◌
 use Rattle.strm_data.specs.declared.refusal.Refusal.{Refusal}
 use Rattle.strm_queue.specs.Flow.{QueueState, flags_at, has_band, target}
 use Rattle.strm_queue.specs.QueuedBlocks.{QueuedBlocks}
-use Rattle.strm_scheduler.specs.Awake.{IsAwaited}
+use Rattle.strm_scheduler.specs.Laws.{IsAwaited}
 
 -- The writer of queue q was answered whether a band has room. If it has, the writer waits for none, otherwise for this one.
 abbrev pub with_answer : ℕ → ℕ → Bool → List (Option ℕ) → List (Option ℕ)

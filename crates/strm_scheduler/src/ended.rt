@@ -3,10 +3,10 @@
 /// How a run with a module ended.
 #[derive(Clone, Copy, Debug, PartialEq, Eq)]
 pub enum Ended {
-    /// No queue is enabled.
+    /// No queue is enabled. Queues may wait for blocks.
     Idle,
-    /// Each queue that is enabled is held back: what the module needs for its first message is not free. Free blocks, and run
-    /// again. The run list has the order in which the last service left it.
+    /// Queues are enabled, and held back: the module wants their first messages later. Run again then. The run list has the order
+    /// in which the last service left it.
     HeldBack,
     /// The budget of services is spent, and a queue is enabled.
     Spent,

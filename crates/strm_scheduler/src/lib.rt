@@ -5,7 +5,6 @@
 mod ended;
 mod module;
 mod need;
-mod passing;
 mod service;
 mod serving;
 mod sides;
@@ -13,12 +12,12 @@ mod sides_fault;
 mod starting;
 mod steps;
 mod treating;
+mod waits;
 mod writers;
 
 pub use ended::Ended;
-pub use module::Module;
+pub use module::{Module, Passing};
 pub use need::{MOST_SIZES, Need};
-pub use passing::Passing;
 pub use service::{forward, may_go};
 pub use sides::Sides;
 pub use sides_fault::SidesFault;

@@ -1,14 +1,15 @@
-//! What a service procedure does with messages.
-ghost use Rattle.std.specs.Prelude.{◌≢◌, ℕ, IsTrue, List};
+//! What a service procedure does with messages, and one that changes nothing.
+ghost use Rattle.std.specs.Prelude.{◌≡◌, ◌≢◌, ℕ, IsTrue, List, [], ◌∷◌, false};
 ghost use Rattle.strm_mblk.specs.Arena.{has};
 ghost use Rattle.strm_mblk.specs.declared.token.TokenValue.{TokenValue};
 ghost use Rattle.strm_pool.specs.PoolValue.{PoolValue, has_queue};
 ghost use Rattle.strm_queue.specs.declared.queued_info.QueuedInfo.{QueuedInfo};
 ghost use Rattle.strm_scheduler.specs.Modules.{IsReady};
-ghost use Rattle.strm_scheduler.specs.Steps.{AreSteps, Step};
+ghost use Rattle.strm_scheduler.specs.Steps.{AreSteps, Put, Step};
 ghost use Rattle.strm_scheduler.specs.declared.need.Need.{Need as NeedValue};
 
 use crate::need::Need;
+use crate::steps::send;
 use strm_pool::{Pool, QueuedInfo, Token};
 
 /// A STREAMS module: its service procedure treats each message on its way to the next queue. Which messages may go, and when,
@@ -39,4 +40,22 @@ pub trait Module {
         requires apart { queue ≢ next }
         ensures { (steps : List Step) × treats self.old pool.old queue next token steps self.new pool.new
             × AreSteps queue steps pool.old pool.new };
+}
+
+/// A module that passes each message on as it is.
+#[derive(Clone, Copy, Debug)]
+pub struct Passing;
+
+impl Module for Passing {
+    ghost needs = { λ m v q i r. r ≡ record { sizes = []; mblks = 0; later = false } };
+
+    ghost treats = { λ m v q n t steps k w. (steps ≡ Put n t ∷ []) × (k ≡ m) };
+
+    fn need(&self, _pool: &Pool, _queue: u8, _first: &QueuedInfo) -> Need {
+        Need::none()
+    }
+
+    fn treat(&mut self, pool: &mut Pool, _queue: u8, next: u8, token: Token) {
+        send(pool, next, token);
+    }
 }

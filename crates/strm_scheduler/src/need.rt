@@ -1,7 +1,7 @@
 //! What must be free before a module treats a message.
 ghost use Rattle.std.specs.Prelude.{◌≡◌, ◌≤◌, [], ◌∷◌, IsTrue, drop, false, length, nat_le, true};
 ghost use Rattle.strm_data.specs.DataStore.{class_infos};
-ghost use Rattle.strm_scheduler.specs.Needs.{AreAllocated, are_fitted, are_free, as_large, can_be_free, fitting, fitting_in, has_blocks};
+ghost use Rattle.strm_scheduler.specs.Needs.{AreAllocated, are_fitted, are_free, as_large, can_be_free, can_wait, fitting, fitting_in, has_blocks};
 
 use arrayvec::ArrayVec;
 use strm_pool::{ClassInfo, Pool, ShortList};
@@ -64,6 +64,13 @@ impl Need {
         let census = pool.census();
         let all = census.free + census.queued + census.held;
         self.has_blocks(all) && all_fit(pool, true, self.sizes.items(), self.sizes.items())
+    }
+
+    // Whether the queue is to rest until as much is free.
+    pub(crate) fn can_wait(&self, pool: &Pool) -> bool
+        ensures { result ≡ can_wait self.now pool.now.arena }
+    {
+        !(self.later || self.is_free(pool)) && self.can_be_free(pool)
     }
 
     /// Law: if what is needed is free, `allocb` of each size, in their order, succeeds. Then the message blocks are free that are

@@ -1,8 +1,7 @@
 //! The service procedure, as one of a STREAMS module that changes nothing.
 ghost use Rattle.std.specs.Prelude.{◌≡◌, ◌≢◌, IfErr, IfOk, IsTrue, ◌&&◌, false, true};
 ghost use Rattle.strm_data.specs.declared.refusal.Refusal.TheVariants.{NoSuchQueue};
-ghost use Rattle.strm_scheduler.specs.Forwarding.{Forwards, HandsOn, KeepsRest, has_leave, with_put_either};
-ghost use Rattle.strm_scheduler.specs.Handing.{all_forwarded, handed_on, with_leave_asked, with_one_placed};
+ghost use Rattle.strm_scheduler.specs.Forwarding.{Forwards, HandsOn, KeepsRest, all_forwarded, handed_on, has_leave, with_leave_asked, with_one_placed, with_put_either};
 ghost use Rattle.strm_mblk.specs.Arena.{has, message_at};
 ghost use Rattle.strm_pool.specs.PoolValue.{has_queue, queued_blocks_of};
 

@@ -2,10 +2,9 @@
 ghost use Rattle.std.specs.Prelude.{◌≡◌, ◌<◌, ℕ, IsTrue, None, [], length, false};
 ghost use Rattle.strm_pool.specs.PoolValue.{queued_blocks_of};
 ghost use Rattle.strm_scheduler.specs.Laws.{AreKeptAwake};
-ghost use Rattle.strm_scheduler.specs.Sides.{next_of};
-ghost use Rattle.strm_scheduler.specs.Order.{KeepsOrder};
+ghost use Rattle.strm_scheduler.specs.Sides.{KeepsOrder, next_of};
 ghost use Rattle.strm_scheduler.specs.Running.{IsServed, with_first_served};
-ghost use Rattle.strm_scheduler.specs.Work.{work};
+ghost use Rattle.strm_scheduler.specs.Serving.{work};
 
 use crate::service::forward;
 use crate::starting::begin;

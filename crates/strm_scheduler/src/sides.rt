@@ -1,17 +1,16 @@
 //! Sides of streams over a pool.
-ghost use Rattle.std.specs.Prelude.{◌≡◌, ◌≤◌, ℕ, IsTrue, Ok, [], None, length};
+ghost use Rattle.std.specs.Prelude.{◌≡◌, ◌≤◌, ℕ, IsTrue, Ok, [], None, is_some, length};
 ghost use Rattle.std.specs.Fn.{FnOnceReturnsAtMut, FnOnceTakesAtMut};
 ghost use Rattle.strm_mblk.specs.Arena.{has};
 ghost use Rattle.strm_mblk.specs.BlockCalls as blocks;
 ghost use Rattle.strm_mblk.specs.Calls.{Frees, Joins, LeavesBlocks, Parts, Puts, Spends, TakesAny, Transfers};
 ghost use Rattle.strm_pool.specs.PoolValue.{PoolValue, arena, on_arena, on_queues, queued_blocks_of, with_arena, with_token_spent};
 ghost use Rattle.strm_queue.specs.QueueCalls as queues;
-ghost use Rattle.strm_scheduler.specs.Awake.{AreAllEmpty, AreEndsEmpty, AreWaiting};
-ghost use Rattle.strm_scheduler.specs.Laws.{AreKeptAwake, AreWoken, KeepsQueued, hold, take};
-ghost use Rattle.strm_scheduler.specs.Sides.{SidesOpen, fault_from, fault_of_queue, next_of};
-ghost use Rattle.strm_scheduler.specs.Modules.{IsRunWith, PassesOne};
-ghost use Rattle.strm_scheduler.specs.Order.{KeepsOrder};
+ghost use Rattle.strm_scheduler.specs.Laws.{AreAllEmpty, AreEndsEmpty, AreKept, AreWaiting, AreWoken, KeepsQueued, hold, take};
+ghost use Rattle.strm_scheduler.specs.Sides.{KeepsOrder, NoneWaits, SidesOpen, fault_from, fault_of_queue, need_at, next_of};
+ghost use Rattle.strm_scheduler.specs.Modules.{PassesOne};
 ghost use Rattle.strm_scheduler.specs.Running.{IsServed, Starts};
+ghost use Rattle.strm_scheduler.specs.Waits.{AreReadyWoken, IsRunOfSides, ThenWakes, with_all_woken};
 
 use crate::ended::Ended;
 use crate::module::Module;
@@ -20,6 +19,7 @@ use crate::sides_fault::SidesFault;
 use crate::starting::{Service, serve};
 use crate::steps::hold;
 use crate::treating::treat_all;
+use crate::waits::{Waits, rest_all};
 use std::alloc::Global;
 use std::marker::Model;
 use strm_pool::{Config, Pool, QueueSpec, Refusal, Rejected, Token};
@@ -32,18 +32,19 @@ use strm_pool::{Config, Pool, QueueSpec, Refusal, Rejected, Token};
 #[derive(Debug, Drop)]
 pub struct Sides {
     pool: Pool,
+    waits: Waits,
 }
 
 impl Model for Sides {
-    ghost use Rattle.strm_pool.specs.PoolValue.{PoolValue};
+    ghost use Rattle.strm_scheduler.specs.Sides.{SidesValue};
 
-    ghost Value = { PoolValue };
+    ghost Value = { SidesValue };
 
-    ghost view = { λ a. a.pool };
+    ghost view = { λ a. record { pool = a.pool; waits = a.waits } };
 
-    ghost use Rattle.strm_scheduler.specs.Laws.{AreKeptAwake};
+    ghost use Rattle.strm_scheduler.specs.Laws.{AreKept};
 
-    ghost invariant = { λ a. AreKeptAwake a.pool };
+    ghost invariant = { λ a. AreKept (record { pool = a.pool; waits = a.waits }) };
 }
 
 // What is wrong with a queue of a configuration, if anything.
@@ -82,53 +83,68 @@ impl Sides {
             return Err(fault);
         }
         match Pool::new(alloc, config) {
-            Ok(pool) => Ok(Sides { pool }),
+            Ok(pool) => Ok(Sides {
+                pool,
+                waits: Waits::none(),
+            }),
             Err(why) => Err(SidesFault::NotMade(why)),
         }
     }
 
-    /// Law: each queue with a next queue is on the run list, or rests for one of two reasons. It has no message and its
-    /// want-to-read mark is set, or its first message is not of high priority and that band is wanted on the next queue. Does
-    /// nothing.
+    /// Law: each queue with a next queue is on the run list, or rests for one of three reasons. It has no message and its
+    /// want-to-read mark is set; its first message is not of high priority and that band is wanted on the next queue; or it waits
+    /// for blocks, which are not free. Does nothing.
     pub fn lawful(&self)
-        ensures { AreKeptAwake self.now }
+        ensures { AreKept self.now }
     {
         self.pool.lawful();
     }
 
-    /// Law: a queue that has a next queue and a message, and is not on the run list, waits for the band of its first message. On
-    /// the next queue, that band has more bytes than its low water mark. Each call after which it has no more wakes the queue:
-    /// `take` puts it at the end of the run list, and enables no other queue. Does nothing.
+    /// Law: a queue that has a next queue and a message, is not on the run list, and does not wait for blocks, waits for the band
+    /// of its first message. On the next queue, that band has more bytes than its low water mark. Each call after which it has no
+    /// more wakes the queue: `take` puts it at the end of the run list, and enables no other queue. Calls that may free blocks put
+    /// a queue that waits for blocks there if they are free then, and enable no other queue. Does nothing.
     pub fn waiting(&self)
-        ensures waits { AreWaiting (queued_blocks_of self.now) }
-        ensures wakes { AreWoken (queued_blocks_of self.now) }
+        ensures waits { AreWaiting self.now.waits (queued_blocks_of self.now.pool) }
+        ensures wakes { AreWoken self.now.waits (queued_blocks_of self.now.pool) }
+        ensures blocks { AreReadyWoken self.now }
     {
         self.pool.lawful();
     }
 
-    /// Law: if no queue is enabled, as after `run`, and the last queue of each side has no message, no queue has one. Does
-    /// nothing.
+    /// Law: if no queue is enabled or waits for blocks, as after `run`, and the last queue of each side has no message, no queue
+    /// has one. Does nothing.
     pub fn delivered(&self)
-        requires idle { self.now.queues.run ≡ [] }
-        requires ends { AreEndsEmpty (queued_blocks_of self.now) }
-        ensures { AreAllEmpty (queued_blocks_of self.now) }
+        requires idle { self.now.pool.queues.run ≡ [] }
+        requires none { NoneWaits self.now.waits }
+        requires ends { AreEndsEmpty (queued_blocks_of self.now.pool) }
+        ensures { AreAllEmpty (queued_blocks_of self.now.pool) }
     {
         self.pool.lawful();
     }
 
     /// Lends the pool, for all calls that change nothing.
     pub fn pool(&self) -> &Pool
-        ensures { result.now ≡ self.now }
+        ensures { result.now ≡ self.now.pool }
     {
         &self.pool
+    }
+
+    /// Says whether a queue rests because the blocks that a module needs for its first message are not free.
+    pub fn is_short(&self, queue: u8) -> bool
+        ensures { result ≡ is_some (need_at self.now.waits queue) }
+    {
+        self.waits.has(queue)
     }
 
     /// Puts a message on any queue, after the last message whose rank is at least its own. Rejected as `NoSuchQueue`. As
     /// [`Pool::putq`].
     pub fn put(&mut self, queue: u8, token: Token) -> Result<(), Rejected>
-        requires { IsTrue (has self.old.arena token) }
-        ensures { Puts arena token (on_queues self.old (queues.putq queue token.head (queued_blocks_of self.old)))
-            self.old self.new result }
+        requires { IsTrue (has self.old.pool.arena token) }
+        ensures puts { Puts arena token
+            (on_queues self.old.pool (queues.putq queue token.head (queued_blocks_of self.old.pool)))
+            self.old.pool self.new.pool result }
+        ensures waits { self.new.waits ≡ self.old.waits }
     {
         self.pool.lawful();
         self.pool.putq(queue, token)
@@ -137,8 +153,9 @@ impl Sides {
     /// Removes the first message of the last queue of a side, if any, and returns its token. Refused as `NoSuchQueue`, also
     /// if the queue is not the last one of a side. As [`Pool::getq`].
     pub fn take(&mut self, queue: u8) -> Result<Option<Token>, Refusal>
-        ensures { TakesAny arena (on_queues self.old (take queue (queued_blocks_of self.old)))
-            self.old self.new result }
+        ensures takes { TakesAny arena (on_queues self.old.pool (take queue (queued_blocks_of self.old.pool)))
+            self.old.pool self.new.pool result }
+        ensures waits { self.new.waits ≡ self.old.waits }
     {
         self.pool.lawful();
         let spec = self.pool.queue_spec(queue)?;
@@ -152,21 +169,24 @@ impl Sides {
     /// queue, as [`forward`](crate::forward) does.
     ///
     /// It ends, and loses nothing: the messages of each side, read from its last queue back to its first, are the same as
-    /// before, and within each rank in the same order.
+    /// before, and within each rank in the same order. Queues that wait for blocks are enabled first.
     pub fn run(&mut self)
-        ensures idle { self.new.queues.run ≡ [] }
-        ensures served { IsServed (queued_blocks_of self.old) (queued_blocks_of self.new) }
-        ensures wishes { self.new.wishes ≡ self.old.wishes }
-        ensures order { KeepsOrder self.old self.new }
+        ensures idle { self.new.pool.queues.run ≡ [] }
+        ensures none { NoneWaits self.new.waits }
+        ensures served { IsServed (queued_blocks_of (with_all_woken self.old).pool) (queued_blocks_of self.new.pool) }
+        ensures wishes { self.new.pool.wishes ≡ self.old.pool.wishes }
+        ensures order { KeepsOrder self.old.pool self.new.pool }
     {
+        self.waits.wake(&mut self.pool, true);
         serve_all(&mut self.pool);
     }
 
     /// As `run`, but a module treats each message that has left its queue and may go on to the next one.
     ///
-    /// A message is held back while what the module needs for it ([`Module::need`]) is not free. It stays first on its queue,
-    /// which stays enabled. Other queues are served meanwhile. If messages are held back at the end (`HeldBack`), free blocks,
-    /// and call `run_with` again. A need that the pool can never meet ends the run when its queue has a turn (`NeverMet`).
+    /// A message is held back while what the module needs for it ([`Module::need`]) is not free. It stays first on its queue. Other
+    /// queues are served meanwhile. At the end the queues that are held back for blocks leave the run list and rest: a call that
+    /// frees these blocks, or the next run, enables them. A message that is wanted later stays on an enabled queue (`HeldBack`). A
+    /// need that the pool can never meet ends the run when its queue has a turn (`NeverMet`).
     ///
     /// No message is lost: one that was on a queue, or that the module put there, is there still, went to the module, or was
     /// flushed. On a queue that is not flushed, messages of a rank leave in the order in which they came.
@@ -175,9 +195,13 @@ impl Sides {
     /// gets, and leave the queues unchanged otherwise: so the run ends.
     pub fn run_with<M: Module>(&mut self, handler: &mut M, budget: Option<u32>) -> Ended
         requires ends { budget ≡ None → PassesOne M.treats }
-        ensures { IsRunWith M.needs M.treats budget handler.old self.old result handler.new self.new }
+        ensures { IsRunOfSides M.needs M.treats budget handler.old self.old result handler.new self.new }
     {
-        treat_all(&mut self.pool, handler, budget)
+        self.waits.wake(&mut self.pool, true);
+        match treat_all(&mut self.pool, handler, budget) {
+            Ended::HeldBack => rest_all(&mut self.pool, &mut self.waits, handler),
+            ended => ended,
+        }
     }
 
     /// Serves queues until one gives a message that may go on, and takes that message off; then the queue is enabled again. The
@@ -188,54 +212,69 @@ impl Sides {
     /// goes on with one more than [`Service::held`] if it has only called `hold`, and otherwise with 0. If no message is returned,
     /// no other queue is enabled.
     pub fn serve(&mut self, held: u32) -> Option<(Service, Token)>
-        ensures { Starts held self.old result self.new }
+        ensures starts { Starts held (with_all_woken self.old).pool result self.new.pool }
+        ensures none { NoneWaits self.new.waits }
     {
+        self.waits.wake(&mut self.pool, true);
         serve(&mut self.pool, held)
     }
 
     /// Puts a message back on a queue, before its equals, and enables the queue. Rejected as `NoSuchQueue`. As [`Pool::putbq`] and
     /// [`Pool::qenable`].
     pub fn hold(&mut self, queue: u8, token: Token) -> Result<(), Rejected>
-        requires { IsTrue (has self.old.arena token) }
-        ensures { Puts arena token (on_queues self.old (hold queue token.head (queued_blocks_of self.old)))
-            self.old self.new result }
+        requires { IsTrue (has self.old.pool.arena token) }
+        ensures puts { Puts arena token
+            (on_queues self.old.pool (hold queue token.head (queued_blocks_of self.old.pool)))
+            self.old.pool self.new.pool result }
+        ensures waits { self.new.waits ≡ self.old.waits }
     {
+        self.pool.lawful();
         hold(&mut self.pool, queue, token)
     }
 
     /// Lends the pool to `call`, which may make and change held messages, and record wishes, but must leave the queues and the
-    /// messages on them unchanged. Returns what `call` returns.
+    /// messages on them unchanged. Then wakes the queues whose blocks are free. Returns what `call` returns.
     pub fn change<R, F: FnOnce(&mut Pool) -> R>(&mut self, call: F) -> R
-        requires callable { FnOnceTakesAtMut F.FnOnce call self.old }
-        requires keeps { (r : R) (left : PoolValue) → FnOnceReturnsAtMut F.FnOnce call self.old r left
-            → KeepsQueued self.old left }
-        ensures { FnOnceReturnsAtMut F.FnOnce call self.old result self.new }
+        requires callable { FnOnceTakesAtMut F.FnOnce call self.old.pool }
+        requires keeps { (r : R) (left : PoolValue) → FnOnceReturnsAtMut F.FnOnce call self.old.pool r left
+            → KeepsQueued self.old.pool left }
+        ensures { ThenWakes (λ left. FnOnceReturnsAtMut F.FnOnce call self.old.pool result left) self.old self.new }
     {
-        call(&mut self.pool)
+        let returned = call(&mut self.pool);
+        self.waits.wake(&mut self.pool, false);
+        returned
     }
 
-    /// Frees a message. A token that the pool does not have is spent, and nothing else changes. As [`Pool::freemsg`].
+    /// Frees a message, and wakes the queues whose blocks are free then. A token that the pool does not have is spent, and nothing
+    /// else changes. As [`Pool::freemsg`].
     pub fn freemsg(&mut self, token: Token)
-        ensures { Spends arena token (with_token_spent self.old token) self.old self.new }
+        ensures { ThenWakes (λ left. Spends arena token (with_token_spent self.old.pool token) self.old.pool left)
+            self.old self.new }
     {
         self.pool.freemsg(token);
+        self.waits.wake(&mut self.pool, false);
     }
 
-    /// Frees the first block of a message, and returns the token of the others, if any. As [`Pool::freeb`].
+    /// Frees the first block of a message, wakes the queues whose blocks are free then, and returns the token of the other blocks,
+    /// if any. As [`Pool::freeb`].
     pub fn freeb(&mut self, token: Token) -> Option<Token>
-        requires { IsTrue (has self.old.arena token) }
-        ensures { Frees arena token (on_arena self.old (Ok (blocks.freeb token.head self.old.arena)))
-            self.old self.new (Ok result) }
+        requires { IsTrue (has self.old.pool.arena token) }
+        ensures { ThenWakes (λ left. Frees arena token
+            (on_arena self.old.pool (Ok (blocks.freeb token.head self.old.pool.arena))) self.old.pool left (Ok result))
+            self.old self.new }
     {
-        self.pool.freeb(token)
+        let rest = self.pool.freeb(token);
+        self.waits.wake(&mut self.pool, false);
+        rest
     }
 
     /// Appends the blocks of message `tail` to the other message. As [`Pool::linkb`].
     pub fn linkb(&mut self, token: &mut Token, tail: Token)
-        requires head { IsTrue (has self.old.arena token.old) }
-        requires tail { IsTrue (has self.old.arena tail) }
-        ensures { Joins arena token.old token.new tail (with_arena self.old
-            (blocks.linkb token.old.head tail.head self.old.arena)) self.old self.new }
+        requires head { IsTrue (has self.old.pool.arena token.old) }
+        requires tail { IsTrue (has self.old.pool.arena tail) }
+        ensures joins { Joins arena token.old token.new tail (with_arena self.old.pool
+            (blocks.linkb token.old.head tail.head self.old.pool.arena)) self.old.pool self.new.pool }
+        ensures waits { self.new.waits ≡ self.old.waits }
     {
         self.pool.linkb(token, tail);
     }
@@ -243,40 +282,47 @@ impl Sides {
     /// Makes block `place` of a message, counted from 0, a message; the token of the other blocks, if any, comes second.
     /// Rejected as `NoSuchBlock`. As [`Pool::rmvb`].
     pub fn rmvb(&mut self, token: Token, place: u32) -> Result<(Token, Option<Token>), Rejected>
-        requires { IsTrue (has self.old.arena token) }
-        ensures { Parts arena token (on_arena self.old (blocks.rmvb token.head place self.old.arena))
-            self.old self.new result }
+        requires { IsTrue (has self.old.pool.arena token) }
+        ensures parts { Parts arena token (on_arena self.old.pool (blocks.rmvb token.head place self.old.pool.arena))
+            self.old.pool self.new.pool result }
+        ensures waits { self.new.waits ≡ self.old.waits }
     {
         self.pool.rmvb(token, place)
     }
 
-    /// Makes a message anew in another pool, frees it here, and returns the new one's token, which is one of `other`. Returns
-    /// the token with `TooLarge`, `NoMblk`, then `NoData`. As [`Pool::transfer`].
+    /// Makes a message anew in another pool, frees it here, and returns the new one's token, which is one of `other`. Wakes the
+    /// queues whose blocks are free then. Returns the token with `TooLarge`, `NoMblk`, then `NoData`. As [`Pool::transfer`].
     pub fn transfer(&mut self, other: &mut Pool, token: Token) -> Result<Token, Rejected>
-        requires { IsTrue (has self.old.arena token) }
-        ensures { Transfers arena token (on_arena other.old
-            (blocks.transfer self.old.arena token.head other.old.arena))
-            (with_token_spent self.old token) self.old self.new other.old other.new result }
+        requires { IsTrue (has self.old.pool.arena token) }
+        ensures { ThenWakes (λ left. Transfers arena token (on_arena other.old
+            (blocks.transfer self.old.pool.arena token.head other.old.arena))
+            (with_token_spent self.old.pool token) self.old.pool left other.old other.new result) self.old self.new }
     {
-        self.pool.transfer(other, token)
+        let moved = self.pool.transfer(other, token);
+        self.waits.wake(&mut self.pool, false);
+        moved
     }
 
     /// Makes a message of another pool anew here, frees it there, and returns the new one's token. Returns the token with
     /// `TooLarge`, `NoMblk`, then `NoData`. As [`Pool::transfer`] of the other pool.
     pub fn receive(&mut self, other: &mut Pool, token: Token) -> Result<Token, Rejected>
         requires { IsTrue (has other.old.arena token) }
-        ensures { Transfers arena token (on_arena self.old
-            (blocks.transfer other.old.arena token.head self.old.arena))
-            (with_token_spent other.old token) other.old other.new self.old self.new result }
+        ensures { ThenWakes (λ left. Transfers arena token (on_arena self.old.pool
+            (blocks.transfer other.old.arena token.head self.old.pool.arena))
+            (with_token_spent other.old token) other.old other.new self.old.pool left result) self.old self.new }
     {
-        other.transfer(&mut self.pool, token)
+        let moved = other.transfer(&mut self.pool, token);
+        self.waits.wake(&mut self.pool, false);
+        moved
     }
 
     /// Says whether a band has room at the target of a queue; if not, the band is wanted there. Refused as `NoSuchQueue`. As
     /// [`Pool::bcanput`].
     pub fn bcanput(&mut self, queue: u8, band: u8) -> Result<bool, Refusal>
-        ensures { LeavesBlocks arena (on_queues self.old (queues.bcanput queue band (queued_blocks_of self.old)))
-            self.old self.new result }
+        ensures leaves { LeavesBlocks arena
+            (on_queues self.old.pool (queues.bcanput queue band (queued_blocks_of self.old.pool)))
+            self.old.pool self.new.pool result }
+        ensures waits { self.new.waits ≡ self.old.waits }
     {
         self.pool.lawful();
         self.pool.bcanput(queue, band)
@@ -285,9 +331,10 @@ impl Sides {
     /// Sets both water marks of one band of a queue, in bytes. Refused as `NoSuchQueue`, then `BadMarks`. As
     /// [`Pool::strqset`].
     pub fn strqset(&mut self, queue: u8, band: u8, hiwat: u32, lowat: u32) -> Result<(), Refusal>
-        ensures { LeavesBlocks arena (on_queues self.old
-            (queues.strqset queue band hiwat lowat (queued_blocks_of self.old)))
-            self.old self.new result }
+        ensures leaves { LeavesBlocks arena (on_queues self.old.pool
+            (queues.strqset queue band hiwat lowat (queued_blocks_of self.old.pool)))
+            self.old.pool self.new.pool result }
+        ensures waits { self.new.waits ≡ self.old.waits }
     {
         self.pool.lawful();
         self.pool.strqset(queue, band, hiwat, lowat)

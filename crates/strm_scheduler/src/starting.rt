@@ -73,7 +73,7 @@ fn still_held(held: u32, before: u32, now: u32) -> u32
 }
 
 // How many queues are on the run list.
-fn count_enabled(pool: &Pool) -> u32
+pub(crate) fn count_enabled(pool: &Pool) -> u32
     ensures { result ≡ length pool.now.queues.run }
 {
     pool.lawful();

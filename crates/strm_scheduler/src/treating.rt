@@ -1,16 +1,14 @@
 //! Service procedures of modules: they treat each message that may go on to the next queue.
 ghost use Rattle.std.specs.Prelude.{◌≡◌, ◌≢◌, ◌+◌, ◌-◌, ◌<◌, ◌≤◌, ℕ, IsTrue, IfSome, None, false, length, option_map, true};
-ghost use Rattle.strm_scheduler.specs.Forwarding.{Goes, KeepsRest};
-ghost use Rattle.strm_scheduler.specs.Handing.{all_forwarded, handed_on};
+ghost use Rattle.strm_scheduler.specs.Forwarding.{Goes, KeepsRest, all_forwarded, handed_on};
 ghost use Rattle.strm_mblk.specs.Arena.{has, held_at, shelf_at};
 ghost use Rattle.strm_pool.specs.PoolValue.{has_queue, queued_blocks_of};
-ghost use Rattle.strm_scheduler.specs.Holding.{is_spent};
+ghost use Rattle.strm_scheduler.specs.Waits.{is_spent};
 ghost use Rattle.strm_scheduler.specs.Laws.{AreKeptAwake};
 ghost use Rattle.strm_scheduler.specs.Modules.{IsFirstTreated, IsHeldBack, IsMet, IsQueueTreated, IsRunWith, IsTreated, IsTurned, NeedsNothing, PassesEach, PassesOne};
-ghost use Rattle.strm_scheduler.specs.Order.{KeepsOrder};
+ghost use Rattle.strm_scheduler.specs.Sides.{KeepsOrder};
 ghost use Rattle.strm_scheduler.specs.Running.{with_first_served};
-ghost use Rattle.strm_scheduler.specs.Serving.{FallsBy, IsServing, KeepsAllowed, TakesTo};
-ghost use Rattle.strm_scheduler.specs.Work.{power, powers, weigh, work};
+ghost use Rattle.strm_scheduler.specs.Serving.{FallsBy, IsServing, KeepsAllowed, TakesTo, power, powers, weigh, work};
 
 use crate::ended::Ended;
 use crate::module::Module;

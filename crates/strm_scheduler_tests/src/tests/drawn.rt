@@ -40,13 +40,14 @@ struct Drawn {
     count: u8,
     shape: Shape,
     draw: u32,
-    // How often a message waited after a run, how often one was held back, one was given, and one was taken; how often a writer was
-    // given.
+    // How often a message waited after a run, how often one was held back, a message that was taken woke a queue that waited for a
+    // block, one was given, and one was taken; how often a writer was given.
     waited: u32,
     held: u32,
+    woken: u32,
     given: u32,
     taken: u32,
-    woken: u32,
+    written: u32,
 }
 
 // The next number below `limit` of a fixed sequence.
@@ -183,9 +184,10 @@ impl Drawn {
             draw,
             waited: 0,
             held: 0,
+            woken: 0,
             given: 0,
             taken: 0,
-            woken: 0,
+            written: 0,
         }
     }
 
@@ -232,6 +234,8 @@ impl Drawn {
         match (taken, self.plain.getq(rt, queue)) {
             (Some(taken), Some(wanted)) => {
                 taken.assert_is(rt, &self.room, &wanted);
+                let woken = self.plain.wake_ready(rt);
+                self.woken = self.woken.wrapping_add(u32::from(woken));
                 self.taken = self.taken.wrapping_add(1);
                 true
             }
@@ -272,7 +276,7 @@ impl Drawn {
             {
                 assert_eq!(rt; self.writers.next(self.sides.pool()), Some((queue, band)));
                 self.waits[usize::from(queue)] = None;
-                self.woken = self.woken.wrapping_add(1);
+                self.written = self.written.wrapping_add(1);
             }
         }
         assert_eq!(rt; self.writers.next(self.sides.pool()), None);
@@ -295,7 +299,7 @@ impl Drawn {
     fn run(&mut self, rt: &impl Abort, way: Way) {
         let ended = way.run(&mut self.sides);
         assert_eq!(rt; ended, self.plain.run(rt, way));
-        if ended == Ended::HeldBack {
+        if ended == Ended::HeldBack || self.plain.is_any_short() {
             self.held = self.held.wrapping_add(1);
         }
         if self.plain.waits() {
@@ -388,7 +392,7 @@ impl Drawn {
                 self.wake(rt);
             }
         }
-        assert!(rt; self.waited > 0 && self.given > 0 && self.taken > 0 && self.woken > 0);
+        assert!(rt; self.waited > 0 && self.given > 0 && self.taken > 0 && self.written > 0);
     }
 
     // Takes the first message of each side.
@@ -412,37 +416,33 @@ impl Drawn {
     }
 }
 
-// Draws calls on sides of this number of queues. Returns how often a message was held back.
-fn draw_on(rt: &impl Abort, alloc: Global, count: u8, shape: Shape) -> u32 {
-    let mut drawn = Drawn::opened(rt, alloc, count, shape);
-    drawn.walk(rt, 1_000);
-    drawn.end(rt);
-    drawn.held
+// Draws calls on sides of this number of queues, and of more. Messages are held back. Returns how often a queue that waited for a
+// block was woken.
+fn draw_on(rt: &impl Abort, alloc: Global, least: u8, shape: Shape) -> u32 {
+    let mut held = 0u32;
+    let mut woken = 0u32;
+    for count in least..=8 {
+        let mut drawn = Drawn::opened(rt, alloc, count, shape);
+        drawn.walk(rt, 1_000);
+        drawn.end(rt);
+        held = held.wrapping_add(drawn.held);
+        woken = woken.wrapping_add(drawn.woken);
+    }
+    assert!(rt; held > 0);
+    woken
 }
 
 #[test]
 fn one_side(rt: HostRuntime) {
-    let mut held = 0u32;
-    for count in 2..=8 {
-        held = held.wrapping_add(draw_on(&rt, rt.alloc(), count, Shape::Turns(1)));
-    }
-    assert!(rt; held > 0);
+    draw_on(&rt, rt.alloc(), 2, Shape::Turns(1));
 }
 
 #[test]
 fn two_sides(rt: HostRuntime) {
-    let mut held = 0u32;
-    for count in 4..=8 {
-        held = held.wrapping_add(draw_on(&rt, rt.alloc(), count, Shape::Turns(2)));
-    }
-    assert!(rt; held > 0);
+    draw_on(&rt, rt.alloc(), 4, Shape::Turns(2));
 }
 
 #[test]
 fn lines_of_modules(rt: HostRuntime) {
-    let mut held = 0u32;
-    for count in 2..=8 {
-        held = held.wrapping_add(draw_on(&rt, rt.alloc(), count, Shape::Line));
-    }
-    assert!(rt; held > 0);
+    assert!(rt; draw_on(&rt, rt.alloc(), 2, Shape::Line) > 0);
 }

@@ -49,7 +49,8 @@ fn filled(pool: &mut Pool, room: u32, bytes: &[u8]) -> Result<Token, Refusal>
     ensures keeps { KeepsQueued pool.old pool.new }
     ensures had { IfOk result (λ token. IsTrue (has pool.new.arena token)) }
 {
-    let token = pool.allocb(4_096)?;
+    let size = u32::try_from(bytes.len()).unwrap_or(u32::MAX);
+    let token = pool.allocb(size.saturating_add(room))?;
     let filled = match pool.reserve(&token, 0, room) {
         Ok(()) => pool.write(&token, 0, bytes),
         Err(why) => Err(why),
@@ -100,14 +101,14 @@ fn drafted(pool: &mut Pool, bytes: &[u8], draft: Draft) -> Result<Token, Refusal
 
 // Makes a held message of a rank with these bytes, if a block is free.
 pub(super) fn made(sides: &mut Sides, rank: u16, bytes: &[u8]) -> Result<Token, Refusal>
-    ensures { IfOk result (λ token. IsTrue (has sides.new.arena token)) }
+    ensures { IfOk result (λ token. IsTrue (has sides.new.pool.arena token)) }
 {
     made_as(sides, draft_of(rank), bytes)
 }
 
 // Makes a held message of these bytes, as a draft says, if a block is free.
 fn made_as(sides: &mut Sides, draft: Draft, bytes: &[u8]) -> Result<Token, Refusal>
-    ensures { IfOk result (λ token. IsTrue (has sides.new.arena token)) }
+    ensures { IfOk result (λ token. IsTrue (has sides.new.pool.arena token)) }
 {
     sides.change(
         |pool: &mut Pool| -> Result<Token, Refusal>
@@ -189,7 +190,7 @@ impl Found {
 
 // The sides have the message of this token.
 pub(super) fn assert_had(rt: &impl Abort, sides: &Sides, token: &Token)
-    ensures { IsTrue (has sides.now.arena token.now) }
+    ensures { IsTrue (has sides.now.pool.arena token.now) }
 {
     assert!(rt; sides.pool().has(token));
 }
@@ -273,6 +274,7 @@ pub(super) fn assert_same(rt: &impl Abort, sides: &Sides, plain: &Plain, last: u
         let enabled = plain.enabled().contains(&number);
         assert_queue(rt, pool, number, queue, enabled);
         assert_bands(rt, pool, number, queue, last);
+        assert_eq!(rt; sides.is_short(number), plain.is_short(number));
     }
     assert_run(rt, pool, plain.enabled());
 }

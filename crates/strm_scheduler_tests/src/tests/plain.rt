@@ -1,7 +1,7 @@
 //! Sides of streams as plain lists, with service procedures that keep the rules of docs/MODEL.md.
-use super::MESSAGES;
 use super::making::is_high;
 use super::modules::{Line, Place, Way, other_of};
+use super::{MESSAGES, QUEUES};
 use std::alloc::Global;
 use std::process::Abort;
 use strm_pool::{BANDS, MsgType, QueueSpec};
@@ -55,11 +55,12 @@ pub(super) struct Queue {
     read: bool,
 }
 
-// The queues, the run list, and the number of the next header.
+// The queues, the run list, which queues wait for a block, and the number of the next header.
 #[derive(Drop)]
 pub(super) struct Plain {
     queues: Vec<Queue>,
     run: Vec<u8>,
+    short: [bool; QUEUES],
     number: u16,
 }
 
@@ -258,6 +259,7 @@ impl Plain {
         Plain {
             queues,
             run: Vec::new(alloc),
+            short: [false; QUEUES],
             number: 1_000,
         }
     }
@@ -274,6 +276,34 @@ impl Plain {
     // The run list, first queue first.
     pub(super) fn enabled(&self) -> &[u8] {
         &self.run
+    }
+
+    // Whether a queue waits for a block.
+    pub(super) fn is_short(&self, queue: u8) -> bool {
+        self.short[usize::from(queue)]
+    }
+
+    pub(super) fn is_any_short(&self) -> bool {
+        self.short.contains(&true)
+    }
+
+    // Enables the queues that wait for a block.
+    fn wake(&mut self, rt: &impl Abort) {
+        for queue in 0..QUEUES as u8 {
+            if self.short[usize::from(queue)] {
+                self.short[usize::from(queue)] = false;
+                self.enable(rt, queue);
+            }
+        }
+    }
+
+    // Does so if a block is free. Says whether one waited.
+    pub(super) fn wake_ready(&mut self, rt: &impl Abort) -> bool {
+        let waited = self.is_any_short();
+        if self.count() < MESSAGES {
+            self.wake(rt);
+        }
+        waited
     }
 
     fn queue(&mut self, rt: &impl Abort, queue: u8) -> &mut Queue {
@@ -448,6 +478,7 @@ impl Plain {
 
     // Serves queues, but for the last ones of the run list, until one gives a message that may go on, and is enabled again.
     pub(super) fn give(&mut self, rt: &impl Abort, held: u32) -> Option<Given> {
+        self.wake(rt);
         let mut left = held;
         for _turn in 0..SERVICES {
             if self.run.len() <= left as usize {
@@ -503,8 +534,37 @@ impl Plain {
         true
     }
 
+    // Whether the first message of a queue is wanted later.
+    fn is_later(&self, queue: u8, way: Way) -> bool {
+        match self.queues.get(usize::from(queue)) {
+            Some(own) => own
+                .messages
+                .first()
+                .is_some_and(|first| way.is_later(first)),
+            None => false,
+        }
+    }
+
+    // Of the queues on the run list, which are all held back, those rest that wait for a block.
+    fn rest(&mut self, rt: &impl Abort, way: Way) -> Ended {
+        for _queue in 0..self.run.len() {
+            let queue = self.run.remove(0);
+            if self.is_later(queue, way) {
+                self.enable(rt, queue);
+            } else {
+                self.short[usize::from(queue)] = true;
+            }
+        }
+        if self.run.is_empty() {
+            Ended::Idle
+        } else {
+            Ended::HeldBack
+        }
+    }
+
     // Serves the queues on the run list until each one is held back, or the budget is spent.
     pub(super) fn run(&mut self, rt: &impl Abort, way: Way) -> Ended {
+        self.wake(rt);
         let mut left = way.budget();
         for _turn in 0..SERVICES {
             if self.run.is_empty() {
@@ -514,7 +574,7 @@ impl Plain {
                 return Ended::Spent;
             }
             if self.is_at_rest(way) {
-                return Ended::HeldBack;
+                return self.rest(rt, way);
             }
             let queue = self.run.remove(0);
             if !self.holds_back(queue, way) {

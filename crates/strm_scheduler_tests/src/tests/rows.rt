@@ -3,9 +3,12 @@ use super::making::{BYTE, assert_had, assert_put as assert_put_on, made, put, ta
 use super::modules::Way;
 use super::plain::HIGH_RANK;
 use super::{CLASS, MESSAGES, configured, opened, queue};
+use arrayvec::ArrayVec;
 use std::alloc::Global;
 use std::process::Abort;
-use strm_pool::{NewFault, Pool, QueueSpec, Refusal, Rejected, Token, Which};
+use strm_pool::{
+    ClassSpec, ClassSpecs, Config, NewFault, Pool, QueueSpec, Refusal, Rejected, Token, Which,
+};
 use strm_scheduler::{Ended, Sides, SidesFault, Writers};
 
 // Three queues in a side. Each band of the last two is full at one byte, and wakes the queue behind at none.
@@ -26,8 +29,10 @@ enum Row {
     PutTwo(u16),
     // Messages of one byte are put on this queue, until one block is free.
     Fill(u8),
-    // Queues are served in this way. Then the first queue that is held back is this one, or there is none.
+    // Queues are served in this way. Then none is enabled, and this one waits for a block, or none does.
     Run(Way, Option<u8>),
+    // This queue is enabled, and none waits for a block.
+    Woken(u8),
     // Queues are served by a module that needs more than there is for the first message of this queue.
     RunGreedy(u8),
     // While this number of queues are held back, this queue gives a message, which is passed on or put back. Then this number are.
@@ -64,15 +69,18 @@ fn fill(rt: &impl Abort, sides: &mut Sides, queue: u8) {
     }
 }
 
-// Serves queues in this way. Then the first queue that is held back is this one, or there is none.
-fn assert_run(rt: &impl Abort, sides: &mut Sides, way: Way, held: Option<u8>) {
-    let ended = if held.is_some() {
-        Ended::HeldBack
-    } else {
-        Ended::Idle
-    };
-    assert_eq!(rt; way.run(sides), ended);
-    assert!(rt; sides.pool().run_at(0) == held);
+// The first queue on the run list is this one, and this one waits for a block.
+fn assert_waits(rt: &impl Abort, sides: &Sides, first: Option<u8>, short: Option<u8>) {
+    assert!(rt; sides.pool().run_at(0) == first);
+    for queue in 0..4 {
+        assert_eq!(rt; sides.is_short(queue), short == Some(queue));
+    }
+}
+
+// Serves queues in this way. Then none is enabled, and this one waits for a block, or none does.
+fn assert_run(rt: &impl Abort, sides: &mut Sides, way: Way, short: Option<u8>) {
+    assert_eq!(rt; way.run(sides), Ended::Idle);
+    assert_waits(rt, sides, None, short);
 }
 
 // Serves queues by a module that needs more than there is for the first message of this queue, the only one that is left.
@@ -136,7 +144,8 @@ fn assert_row(rt: &impl Abort, sides: &mut Sides, row: &Row) {
         Row::Put(rank, byte) => assert_put_one(rt, sides, *rank, *byte),
         Row::PutTwo(rank) => assert_put_two(rt, sides, *rank),
         Row::Fill(queue) => fill(rt, sides, *queue),
-        Row::Run(way, held) => assert_run(rt, sides, *way, *held),
+        Row::Run(way, short) => assert_run(rt, sides, *way, *short),
+        Row::Woken(queue) => assert_waits(rt, sides, Some(*queue), None),
         Row::RunGreedy(queue) => assert_greedy(rt, sides, *queue),
         Row::Pass(held, queue, left) => assert_passed(rt, sides, *held, *queue, *left),
         Row::Hold(held, queue, left) => assert_held(rt, sides, *held, *queue, *left),
@@ -242,7 +251,7 @@ fn wide() -> [QueueSpec; 3] {
     ]
 }
 
-// A message for which the module needs a block waits on its queue until one is free.
+// A message for which the module needs a block waits on its queue until one is free. Then its queue is enabled.
 #[test]
 fn a_module_holds_back(rt: HostRuntime) {
     let rows = [
@@ -253,10 +262,47 @@ fn a_module_holds_back(rt: HostRuntime) {
         Row::Run(Way::Borrow, Some(0)),
         Row::Sizes([1, 0, MESSAGES.wrapping_sub(1)]),
         Row::Take(BYTE),
+        Row::Woken(0),
         Row::Run(Way::Borrow, None),
         Row::Sizes([0, 0, MESSAGES.wrapping_sub(1)]),
     ];
     assert_rows(&rt, rt.alloc(), &wide(), &rows, MESSAGES.wrapping_sub(1));
+}
+
+// Frees a message, which wakes this queue; another one waits still, or none.
+fn assert_wakes(rt: &impl Abort, sides: &mut Sides, token: Token, woken: u8, short: Option<u8>) {
+    sides.freemsg(token);
+    assert_waits(rt, sides, Some(woken), short);
+}
+
+// Two queues wait for blocks of other sizes. A block wakes only the queue whose message it fits.
+#[test]
+fn a_block_wakes_whom_it_fits(rt: HostRuntime) {
+    let specs = [
+        queue(1_000, 500, Some(2)),
+        queue(1_000, 500, Some(3)),
+        queue(1_000, 500, None),
+        queue(1_000, 500, None),
+    ];
+    let mut classes = ArrayVec::new();
+    classes.push(ClassSpec { size: 2, count: 2 });
+    classes.push(ClassSpec { size: 8, count: 2 });
+    let config = Config {
+        mblks: 4,
+        classes: ClassSpecs::of(classes),
+        ..configured(&rt, 1, CLASS, &specs)
+    };
+    let mut sides = Sides::new(rt.alloc(), config).expect(&rt, "sides");
+    assert!(rt; put(&mut sides, 0, 0, &[BYTE; 2]).is_ok());
+    assert!(rt; put(&mut sides, 1, 0, &[BYTE; 8]).is_ok());
+    let few = held(&rt, &mut sides, &[BYTE; 2]);
+    let many = held(&rt, &mut sides, &[BYTE; 8]);
+    assert_eq!(rt; Way::Borrow.run(&mut sides), Ended::Idle);
+    assert!(rt; sides.is_short(0) && sides.is_short(1));
+    assert_wakes(&rt, &mut sides, few, 0, Some(1));
+    assert_run(&rt, &mut sides, Way::Borrow, Some(1));
+    assert_wakes(&rt, &mut sides, many, 1, None);
+    assert_run(&rt, &mut sides, Way::Borrow, None);
 }
 
 // A block that becomes free during a run serves a message that was held back before.

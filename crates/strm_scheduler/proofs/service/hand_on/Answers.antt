@@ -1,5 +1,5 @@
 -- The message that was taken off went on, or stands where it was.
-use Rattle.strm_scheduler.specs.Handing.{handed_on}
+use Rattle.strm_scheduler.specs.Forwarding.{handed_on}
 use Rattle.strm_scheduler.proofs.Moving.{got, handed, handed_whole, none_whole, within}
 use Rattle.strm_scheduler.proofs.service.hand_on.Goals as goal
 

@@ -2,9 +2,9 @@
 use Rattle.std.proofs.Common.{◌≡◌}
 use Rattle.strm_pool.specs.PoolValue.{queued_blocks_of}
 use Rattle.strm_scheduler.specs.Laws.{AreKeptAwake}
-use Rattle.strm_scheduler.specs.Order.{KeepsOrder}
+use Rattle.strm_scheduler.specs.Sides.{KeepsOrder}
 use Rattle.strm_scheduler.specs.Running.{IsServed}
-use Rattle.strm_scheduler.specs.Work.{work}
+use Rattle.strm_scheduler.specs.Serving.{work}
 use Rattle.strm_scheduler.proofs.serving.serve_all.Given as goal
 
 abbrev pub invariant-loop : goal.invariant-loop

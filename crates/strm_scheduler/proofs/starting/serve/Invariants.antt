@@ -2,7 +2,7 @@
 use Rattle.std.proofs.Common.{◌≡◌, ℕ}
 use Rattle.strm_scheduler.specs.Laws.{AreKeptAwake}
 use Rattle.strm_scheduler.specs.Running.{AreRested, held_yet}
-use Rattle.strm_scheduler.specs.Work.{powers}
+use Rattle.strm_scheduler.specs.Serving.{powers}
 use Rattle.strm_scheduler.proofs.starting.serve.Given as goal
 
 abbrev pub invariant-loop-pool : goal.invariant-loop-pool

@@ -1,5 +1,5 @@
 -- The message that was taken off may go on, or stands where it was.
-use Rattle.strm_scheduler.specs.Handing.{handed_on}
+use Rattle.strm_scheduler.specs.Forwarding.{handed_on}
 use Rattle.strm_scheduler.proofs.Moving.{got, none_whole, within}
 use Rattle.strm_scheduler.proofs.Treated.{rest_joined, takes_to, unheld_kept}
 use Rattle.strm_scheduler.proofs.treating.take_allowed.Goals as goal

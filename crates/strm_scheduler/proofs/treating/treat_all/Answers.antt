@@ -2,10 +2,10 @@
 use Rattle.std.proofs.Common.{◌<◌, ap, arith, false, length, refl, subst, suc, sym, true, zero, [], ◌∷◌, ◌∙◌}
 use Rattle.std.proofs.lemmas.Bool.{false≢true}
 use Rattle.std.specs.Option.{is_some}
-use Rattle.strm_scheduler.specs.Holding.{work_left}
+use Rattle.strm_scheduler.specs.Waits.{work_left}
 use Rattle.strm_pool.specs.PoolValue.{PoolValue, queued_blocks_of}
 use Rattle.strm_scheduler.specs.Modules.{IsTurned, turns_moves}
-use Rattle.strm_scheduler.specs.Moves.{AreMoved}
+use Rattle.strm_scheduler.specs.Steps.{AreMoved}
 use Rattle.strm_scheduler.proofs.Accounting.{turns_moved}
 use Rattle.strm_scheduler.proofs.Beginning.{order_more, served_more, served_none}
 use Rattle.strm_scheduler.proofs.Holding.{IsLeft, last_all, last_more, last_none, left_none, left_served, left_spent, left_within, left_without, none_long, place_past, place_within, served_left, turned_left}

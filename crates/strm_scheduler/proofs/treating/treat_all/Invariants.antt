@@ -1,11 +1,11 @@
 -- All queues are kept awake. The last queues of the run list are held back: those that had a turn since the last service. The work or what
 -- is left of the budget falls, or one more queue is held back.
 use Rattle.std.proofs.Common.{◌≡◌, Bool, true, List}
-use Rattle.strm_scheduler.specs.Holding.{AreLastHeldBack, is_spent, work_left}
+use Rattle.strm_scheduler.specs.Waits.{AreLastHeldBack, is_spent, work_left}
 use Rattle.strm_scheduler.specs.Laws.{AreKeptAwake}
 use Rattle.strm_scheduler.specs.Modules.{AreTurns, NeedsNothing, PassesEach, turns_since}
 use Rattle.strm_pool.specs.PoolValue.{queued_blocks_of}
-use Rattle.strm_scheduler.specs.Order.{KeepsOrder}
+use Rattle.strm_scheduler.specs.Sides.{KeepsOrder}
 use Rattle.strm_scheduler.specs.Running.{IsServed}
 use Rattle.strm_scheduler.proofs.Holding.{IsLeft}
 use Rattle.strm_scheduler.proofs.treating.treat_all.Given as goal

@@ -3,7 +3,7 @@ use Rattle.std.proofs.Common.{ap, arith, length, subst, sym, ◌∙◌}
 use Rattle.strm_pool.specs.PoolValue.{PoolValue}
 use Rattle.strm_scheduler.specs.Laws.{AreKeptAwake}
 use Rattle.strm_scheduler.specs.Modules.{IsMet, IsQueueTreated}
-use Rattle.strm_scheduler.specs.Order.{KeepsOrder}
+use Rattle.strm_scheduler.specs.Sides.{KeepsOrder}
 use Rattle.strm_scheduler.specs.Steps.{with_queue_enabled}
 use Rattle.strm_scheduler.proofs.Beginning.{falls_begun, served_begun}
 use Rattle.strm_scheduler.proofs.Ordering.{order_alike}

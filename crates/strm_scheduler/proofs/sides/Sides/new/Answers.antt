@@ -11,10 +11,10 @@ use Rattle.strm_queue.specs.QueueCalls.{flags_of}
 use Rattle.strm_queue.proofs.Shelf.{get_or-map_same, get_or-replicate_same}
 use Rattle.strm_scheduler.specs.declared.sides_fault.SidesFault.{SidesFault}
 use Rattle.strm_scheduler.specs.declared.sides_fault.SidesFault.TheVariants.{NoNext, NoService, NotMade}
-use Rattle.strm_scheduler.specs.Awake.{may_rest}
-use Rattle.strm_scheduler.specs.Laws.{AreKeptAwake}
+use Rattle.strm_scheduler.specs.Laws.{AreKeptAwake, may_rest}
 use Rattle.strm_scheduler.specs.Sides.{AreSides, SidesOpen, fault_from, fault_of_queue, or_fault}
 use Rattle.strm_scheduler.proofs.Keeping.{awake_at_rest}
+use Rattle.strm_scheduler.proofs.Resting.{awake_kept}
 use Rattle.strm_scheduler.proofs.sides.Sides.new.Goals as goal
 
 -- New sides are kept awake: all queues are empty, and have their want-to-read marks.
@@ -83,4 +83,6 @@ pub returns-in-Some : goal.returns-in-Some
 returns-in-Some c = fault_opens c.args.config c.in-Some.fault (c.in-Some.ensures ∙ ap (fault_from 0) c.items.ensures.value)
 
 pub invariant_of-result : goal.invariant_of-result
-invariant_of-result c = opened_kept c.args.config c.in-Ok.pool c.in-Ok.ensures.opens.1 (sym (c.first_fault.ensures ∙ ap (fault_from 0) c.items.ensures.value) ∙ c.in_default.is)
+invariant_of-result c =
+    awake_kept c.in-Ok.pool c.none.result c.none.ensures
+    (opened_kept c.args.config c.in-Ok.pool c.in-Ok.ensures.opens.1 (sym (c.first_fault.ensures ∙ ap (fault_from 0) c.items.ensures.value) ∙ c.in_default.is))
