@@ -1,6 +1,6 @@
 -- Queues that are held back for blocks leave the run list and rest, and are woken when their wait is over.
-use Rattle.std.proofs.Common.{◌≡◌, ◌≢◌, ◌⊎◌, ℕ, zero, suc, ◌+◌, ◌<◌, ◌≤◌, inl, inr, Bool, true, false, ◌&&◌, ◌||◌, List, [], ◌∷◌, length, map, Option, Some, None, refl, sym, ap, ◌∙◌, subst, arith, if◌then◌else◌, ◌-◌, not, ◌==◌, ◌++◌, drop, filter, set, Ok, Err, append-nil, append_assoc, get_or-set_other, get_or-set_same}
-use Rattle.std.specs.Prelude.{is_some, nat_lt}
+use Rattle.std.proofs.Common.{◌≡◌, ◌≢◌, ◌⊎◌, ℕ, zero, suc, ◌+◌, ◌<◌, ◌≤◌, inl, inr, Bool, true, false, ◌&&◌, ◌||◌, List, [], ◌∷◌, length, map, Option, Some, None, refl, sym, ap, ◌∙◌, subst, arith, if◌then◌else◌, ◌-◌, not, ◌==◌, ◌++◌, drop, set, Ok, Err, append-nil, append_assoc, get_or-set_other, get_or-set_same}
+use Rattle.std.specs.Prelude.{is_some}
 use Rattle.std.proofs.lemmas.Bool.{and_parts, cases_eq, cases_lt, eqb-true, false≢true, ltb-false, ne_eqb, not-true, or_cases, or_parts}
 use Rattle.std.proofs.lemmas.List.{get_or_past, length-map}
 use Rattle.std.proofs.lemmas.Option.{none-some, same_Some}
@@ -11,7 +11,7 @@ use Rattle.strm_queue.specs.declared.queue_spec.QueueSpec.{QueueSpec}
 use Rattle.strm_queue.specs.Flow.{QueueState, enabled_where, flags_at, no_spec, spec_at}
 use Rattle.strm_scheduler.specs.declared.need.Need.{Need}
 use Rattle.strm_scheduler.specs.Laws.{AreKept, AreKeptAwake, IsAwakeOrShort, KeepsQueued, is_awake}
-use Rattle.strm_scheduler.specs.Needs.{are_free, can_be_free, can_wait}
+use Rattle.strm_scheduler.specs.Needs.{are_free, can_be_free}
 use Rattle.strm_scheduler.specs.Sides.{AreSides, KeepsOrder, NoneWaits, SidesValue, need_at, next_of, side_of}
 use Rattle.strm_scheduler.specs.Waits.{AreEntries, IsEntry, IsReadyWoken, Rests, ThenWakes, is_over, not_waiting, unless_over, with_all_woken, with_queue_woken, with_queues_woken, with_ready_woken, with_woken}
 use Rattle.strm_scheduler.proofs.Kept.{AreAwakeUnlessShort, other_enabled}

@@ -16,7 +16,7 @@ use Rattle.strm_mblk.specs.Messages.{blocks_on, chains_joined, without_place}
 use Rattle.strm_mblk.specs.declared.rejected.Rejected.{Rejected}
 use Rattle.strm_mblk.specs.declared.token.TokenValue.{TokenValue}
 use Rattle.strm_pool.specs.PoolValue.{PoolValue, arena, on_arena, queued_blocks_of, with_arena, with_token_spent}
-use Rattle.strm_queue.specs.Flow.{QueueState, flags_at, has_band}
+use Rattle.strm_queue.specs.Flow.{flags_at, has_band}
 use Rattle.strm_queue.specs.Limits.{high_rank}
 use Rattle.strm_queue.proofs.Agreeing.{rank_of-same}
 use Rattle.strm_scheduler.specs.Laws.{KeepsQueued, is_awake, may_rest}

@@ -1,6 +1,5 @@
 -- It does not wait, and is enabled again.
 use Rattle.std.proofs.Common.{sym, ◌∙◌}
-use Rattle.strm_links.specs.Rows as rows
 use Rattle.strm_scheduler.proofs.Resting.{first_given, rest_on}
 use Rattle.strm_scheduler.proofs.waits.rest_first.Goals as goal
 
