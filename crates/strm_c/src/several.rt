@@ -9,6 +9,7 @@ use crate::code::Code;
 use crate::handle::StrmPool;
 use crate::numbers::capped_number;
 use strm_named::{Name, NamedPool};
+use strm_pool::BurstPlace;
 
 // What a series returns after this number of calls that returned 0, and one that returned a code.
 fn stopped(done: usize, code: Code) -> Result<usize, Code>
@@ -56,14 +57,16 @@ fn freemsg_each(named: &mut NamedPool, msgs: &[Name]) -> Result<usize, Code>
     Ok(msgs.len())
 }
 
-// Puts these messages on a queue. Returns their number, or why the first is not put.
+// Puts these messages on a queue. Returns their number, or why the first is not put. Where one of a band follows another, it
+// takes the place after it.
 fn putq_each(named: &mut NamedPool, number: u32, msgs: &[Name]) -> Result<usize, Code>
     ensures makes { MakesEach (map (series.putq (capped_number number)) msgs.now) named.old named.new result }
     ensures spent { SpendsEach (series.putq (capped_number number)) msgs.now (Some named.old) (Some named.new) }
 {
     let queue = capped_number(number);
+    let mut burst = BurstPlace::new();
     for place in 0..msgs.len() {
-        match coded(named.putq(queue, msgs[place])) {
+        match coded(named.putq_in_burst(queue, &mut burst, msgs[place])) {
             Ok(()) => (),
             Err(code) => return stopped(place, code),
         }

@@ -4,13 +4,25 @@ use super::{assert_reply, classes, opened, queues, register};
 use std::alloc::Global;
 use std::process::Abort;
 use strm_pool::{
-    BlockInfo, BlockPlace, Call, MsgType, Pool, Refusal, Reg, Regs, Rejected, Reply, Supply, Token,
+    BlockInfo, BlockPlace, BurstPlace, Call, MsgType, Pool, Refusal, Reg, Regs, Rejected, Reply,
+    Supply, Token,
 };
 
 // A pool and its registers.
 pub(super) struct Bench {
     pool: Pool,
     regs: Regs,
+}
+
+// A message was put on a queue.
+fn assert_put(rt: &impl Abort, put: Result<(), Rejected>) {
+    match put {
+        Ok(()) => {}
+        Err(Rejected { token, .. }) => {
+            token.forget();
+            panic!(rt; "there is a queue");
+        }
+    }
 }
 
 impl Bench {
@@ -215,6 +227,20 @@ impl Bench {
             self.hold(rt, register(rt, place), token);
         }
         Ok((supply.class, supply.count))
+    }
+
+    // Puts the messages of three registers on queue 0 as one burst.
+    pub(super) fn put_burst(&mut self, rt: &impl Abort, regs: [Reg; 3]) {
+        let first = self.taken(rt, regs[0]);
+        let second = self.taken(rt, regs[1]);
+        let third = self.taken(rt, regs[2]);
+        let mut place = BurstPlace::new();
+        assert!(rt; self.pool.has(&first));
+        assert_put(rt, self.pool.putq_in_burst(0, &mut place, first));
+        assert!(rt; self.pool.has(&second));
+        assert_put(rt, self.pool.putq_in_burst(0, &mut place, second));
+        assert!(rt; self.pool.has(&third));
+        assert_put(rt, self.pool.putq_in_burst(0, &mut place, third));
     }
 
     // The type and the band of a block of a register's message.

@@ -2,7 +2,7 @@ use super::bench::Bench;
 use super::{SIZES, reg};
 use std::alloc::Global;
 use std::process::Abort;
-use strm_pool::{Call, Refusal};
+use strm_pool::{Call, Refusal, Reply};
 
 // A bench with a pool of this id and four message blocks, and a message in register a.
 fn holding(rt: &impl Abort, alloc: Global, id: u32) -> Bench {
@@ -107,4 +107,39 @@ fn makes_messages_from_a_supply(rt: HostRuntime) {
     assert!(rt; one.supplied(&rt, 1) == Err(Refusal::NoMblk));
     assert!(rt; one.supplied(&rt, 65) == Err(Refusal::TooLarge));
     one.end();
+}
+
+// A bench with three messages, in registers a to c. That of c is of band 1.
+fn holding_three(rt: &impl Abort, alloc: Global) -> Bench {
+    let (b, c) = (reg(rt, b'b'), reg(rt, b'c'));
+    let mut bench = holding(rt, alloc, 7);
+    let calls = [Call::Allocb(b, 1), Call::Allocb(c, 1), Call::Setband(c, 1)];
+    bench.done(rt, &calls, &[Some(0), Some(1), Some(2), None]);
+    bench
+}
+
+// Messages of a burst go after those of their band, also behind a message of another band.
+#[test]
+fn puts_a_burst_in_order(rt: HostRuntime) {
+    let (a, b, c) = (reg(&rt, b'a'), reg(&rt, b'b'), reg(&rt, b'c'));
+    let mut one = holding_three(&rt, rt.alloc());
+    let taken = [Call::Getq(0, a), Call::Getq(0, b), Call::Getq(0, c)];
+    let heads = [Some(2), Some(0), Some(1), None];
+    one.put_burst(&rt, [a, b, c]);
+    one.assert_lent(&rt, 3, 1);
+    one.done(&rt, &taken, &heads);
+    one.put_burst(&rt, [b, a, c]);
+    one.done(&rt, &taken, &heads);
+    one.end();
+}
+
+#[test]
+fn enables_the_queue_of_a_burst(rt: HostRuntime) {
+    let mut one = holding_three(&rt, rt.alloc());
+    one.put_burst(&rt, [reg(&rt, b'a'), reg(&rt, b'b'), reg(&rt, b'c')]);
+    let rows = [
+        (Call::NextService, Reply::Queue(0)),
+        (Call::NextService, Reply::Nothing),
+    ];
+    one.serve(&rt, &rows, &[None, None, None]);
 }

@@ -161,7 +161,7 @@ impl Queues {
         blocks.lawful();
     }
 
-    // Puts a message of a burst on a queue, as `putq` does. Its rank is not that of the last one.
+    // Puts a message of a burst on a queue, as `putq` does. It has high priority, or another rank than the last one.
     #[inline(never)]
     #[tactic(auto, using(strm_mblk::proofs::arena::Calls::puts_none))]
     fn begin_burst(
@@ -194,9 +194,9 @@ impl Queues {
         Ok(())
     }
 
-    /// Puts the next message of a burst on a queue, as [`Queues::putq`] does. `place` is where the last message of the burst
-    /// went, and then where this one did. A message with the rank of the last one needs no search, and enables the queue no
-    /// more.
+    /// Puts the next message of a burst on a queue, as [`Queues::putq`] does, and moves `place` after it. A message in the
+    /// band of the burst's last one is put at `place`. It need not enable the queue: if messages of this band do, the last
+    /// one did.
     ///
     /// Rejected as `NoSuchQueue`; then nothing changes, and the token comes back. Takes a step for each block of the
     /// message. This project's own call.

@@ -1,12 +1,11 @@
-use Rattle.std.proofs.Common.{◌≡◌, ℕ, ◌<◌, true, false, [], ◌∷◌, ◌++◌, length, ap, sym, subst, ◌∙◌, arith, get_or-set_same}
+use Rattle.std.proofs.Common.{◌≡◌, ◌<◌, true, false, [], ◌∷◌, ◌++◌, length, ap, sym, subst, ◌∙◌, arith, get_or-set_same}
 use Rattle.std.specs.Prelude.{nat_lt}
 use Rattle.std.proofs.lemmas.Bool.{cond-true, ltb-true}
 use Rattle.std.proofs.lemmas.Option.{none-some}
 use Rattle.strm_links.specs.Rows.{IsApart, after}
 use Rattle.strm_mblk.specs.Arena.{Arena, message_at, shelf_at}
-use Rattle.strm_mblk.specs.Block.{Message, head_of}
+use Rattle.strm_mblk.specs.Block.{Message}
 use Rattle.strm_mblk.specs.Given.{answer_of, or_rejected}
-use Rattle.strm_mblk.specs.Messages.{put_before_head}
 use Rattle.strm_mblk.specs.Shelves.{heads_at}
 use Rattle.strm_mblk.proofs.arena.Stands.{heads_apart}
 use Rattle.strm_queue.specs.Ends.{first_of_rank}
