@@ -4,7 +4,7 @@ ghost use Rattle.std.specs.Option.{option_map_or};
 ghost use Rattle.strm_mblk.specs.Arena.{has, message_at};
 ghost use Rattle.strm_mblk.specs.Block.{bytes_of, data_size_of, size_of};
 ghost use Rattle.strm_mblk.specs.BlockCalls as blocks;
-ghost use Rattle.strm_mblk.specs.BlockCalls.{IsSupplied};
+ghost use Rattle.strm_mblk.specs.BlockCalls.{IsSupplied, calls_supplied};
 ghost use Rattle.strm_mblk.specs.Calls.{Alters, Frees, Gives, Joins, Parts, Spends, Transfers, Unlinks};
 ghost use Rattle.strm_mblk.specs.Freeing as freeing;
 ghost use Rattle.strm_mblk.specs.Given.{answer_of, given_nothing};
@@ -36,6 +36,7 @@ impl Pool {
     #[inline(always)]
     pub fn supply(&self, size: u32) -> Result<Supply, Refusal>
         ensures supply { IfOk result (IsSupplied size self.now.arena) }
+        ensures count { IfOk result (λ supply. supply.count ≡ calls_supplied supply.class self.now.arena) }
         ensures some { IfOk result (λ supply. 0 < supply.count) }
         ensures refused { IfErr result (λ why. blocks.allocb size self.now.arena ≡ Err why) }
     {
