@@ -138,8 +138,8 @@ fn enables_the_queue_of_a_burst(rt: HostRuntime) {
     let mut one = holding_three(&rt, rt.alloc());
     one.put_burst(&rt, [reg(&rt, b'a'), reg(&rt, b'b'), reg(&rt, b'c')]);
     let rows = [
-        (Call::NextService, Reply::Queue(0)),
-        (Call::NextService, Reply::Nothing),
+        (Call::Service, Reply::Queue(0)),
+        (Call::Service, Reply::Nothing),
     ];
     one.serve(&rt, &rows, &[None, None, None]);
 }

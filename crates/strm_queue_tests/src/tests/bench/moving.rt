@@ -322,6 +322,18 @@ impl Bench {
         }
     }
 
+    // `getq_run`, of at most this number, takes messages with these heads. They stay held.
+    pub(in crate::tests) fn getq_run(&mut self, rt: &impl Abort, at: (u8, u32), heads: &[u32])
+        requires { Agrees self.old.queues self.old.blocks }
+        ensures { Agrees self.new.queues self.new.blocks }
+    {
+        let mut noted = Noted::none();
+        let count = self
+            .queues
+            .getq_run(&mut self.blocks, at.0, at.1, &mut noted);
+        assert!(rt; count as usize == heads.len() && noted.are(heads));
+    }
+
     // `flushq` returns this.
     pub(in crate::tests) fn flushq(
         &mut self,

@@ -201,6 +201,41 @@ fn settled_by_what_is_taken(rt: HostRuntime) {
     bench.assert_waiting(&rt, &[0]);
 }
 
+// Once `getq` took a message, `getq_run` takes the first ones of a rank but the last. While a band is wanted, it takes none.
+#[test]
+fn taken_together(rt: HostRuntime) {
+    let mut bench = Bench::opened(&rt, rt.alloc(), &CLASSES, &TWO);
+    bench.put_new(&rt, 1, of_band(5, 2));
+    bench.put_new(&rt, 1, of_band(5, 3));
+    bench.put_new(&rt, 1, of_band(5, 1));
+    bench.put_new(&rt, 1, bytes(1));
+    bench.put_new(&rt, 1, bytes(3));
+    bench.put_new(&rt, 1, bytes(3));
+    bench.put_new(&rt, 1, bytes(8));
+    bench.getq_run(&rt, (1, 9), &[]);
+    bench.assert_first(&rt, 1, 0, 5);
+    bench.getq_run(&rt, (1, 9), &[1]);
+    bench.assert_band(&rt, (1, 5), 1, (false, false));
+    bench.getq_run(&rt, (1, 9), &[]);
+    bench.assert_first(&rt, 1, 2, 5);
+    bench.assert_first(&rt, 1, 3, 0);
+    bench.getq_run(&rt, (1, 1), &[4]);
+    bench.assert_band(&rt, (1, 0), 11, (true, false));
+    bench.getq_run(&rt, (1, 9), &[5]);
+    bench.assert_band(&rt, (1, 0), 8, (false, false));
+    // Band 0 is wanted until four of its bytes are left.
+    bench.put_new(&rt, 1, bytes(3));
+    bench.put_new(&rt, 1, bytes(1));
+    bench.bcanput(&rt, (1, 0), Ok(false));
+    bench.assert_heads(&rt, 1, &[6, 3, 2]);
+    bench.getq_run(&rt, (1, 9), &[]);
+    bench.assert_first(&rt, 1, 6, 0);
+    bench.assert_waiting(&rt, &[1, 0]);
+    bench.getq_run(&rt, (1, 9), &[3]);
+    bench.qsize(&rt, 1, Ok(1));
+    bench.getq_run(&rt, (2, 9), &[]);
+}
+
 // A queue with a service procedure is its own target, even if it has a next queue. With no queue behind it, it has no waker.
 #[test]
 fn own_target(rt: HostRuntime) {
