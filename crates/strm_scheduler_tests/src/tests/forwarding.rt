@@ -1,6 +1,7 @@
 ghost use Rattle.std.specs.Prelude.{IsTrue};
 ghost use Rattle.strm_mblk.specs.Arena.{has};
 
+use super::configured;
 use arrayvec::ArrayVec;
 use std::alloc::Global;
 use std::process::Abort;
@@ -10,12 +11,13 @@ use strm_pool::{
 };
 use strm_scheduler::{Writers, forward};
 
-// Opens a pool with these queues.
-fn opened(rt: &impl Abort, alloc: Global, specs: &[QueueSpec]) -> Result<Pool, NewFault> {
+// Opens a pool with two queues; queue 1 is next of queue 0.
+fn opened(alloc: Global) -> Result<Pool, NewFault> {
     let mut classes = ArrayVec::new();
     classes.push(ClassSpec { size: 64, count: 8 });
     let mut queues = ArrayVec::new();
-    assert!(rt; queues.try_extend_from_slice(specs).is_ok());
+    queues.push(queue(100, 50, Some(1)));
+    queues.push(queue(10, 4, None));
     let config = Config {
         id: 1,
         mblks: 8,
@@ -129,8 +131,7 @@ fn assert_each(rt: &impl Abort, pool: &mut Pool, rows: &[Row], census: (u32, u32
 
 // The same on a new pool.
 fn assert_rows(rt: &impl Abort, alloc: Global, rows: &[Row], census: (u32, u32, u32)) {
-    let specs = [queue(100, 50, Some(1)), queue(10, 4, None)];
-    let mut pool = opened(rt, alloc, &specs).expect(rt, "a pool");
+    let mut pool = opened(alloc).expect(rt, "a pool");
     assert_each(rt, &mut pool, rows, census);
 }
 
@@ -229,7 +230,8 @@ fn writers_wait_for_room(rt: HostRuntime) {
         queue(8, 2, Some(3)),
         queue(1, 0, None),
     ];
-    let mut pool = opened(&rt, rt.alloc(), &specs).expect(&rt, "a pool");
+    let config = configured(&rt, 1, ClassSpec { size: 64, count: 8 }, &specs);
+    let mut pool = Pool::new(rt.alloc(), config).expect(&rt, "a pool");
     let mut writers = Writers::new();
     let rows = [
         Asked::Ask(0, 0, Ok(true)),
