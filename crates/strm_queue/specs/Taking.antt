@@ -1,5 +1,5 @@
 -- Messages that a flush would free leave their queue instead, and their tokens go to a receiver.
-use Rattle.std.specs.Prelude.{◌≡◌, ◌≤◌, ℕ, zero, suc, Bool, true, List, [], ◌∷◌, length, map, filter, take, Option, None, Some, Result, Ok, Err, IsTrue, if◌then◌else◌}
+use Rattle.std.specs.Prelude.{◌≡◌, ◌≤◌, ℕ, zero, suc, Bool, true, false, List, [], ◌∷◌, length, map, filter, take, Option, None, Some, Result, Ok, Err, IsTrue, slice_get, if◌then◌else◌}
 use Rattle.std.specs.List.{FoldsTo}
 use Rattle.strm_data.specs.declared.refusal.Refusal.{Refusal}
 use Rattle.strm_data.specs.declared.refusal.Refusal.TheVariants.{NoSuchQueue}
@@ -11,9 +11,12 @@ use Rattle.strm_mblk.specs.Calls.{TakesAny}
 use Rattle.strm_mblk.specs.Frame.{LeavesOthers}
 use Rattle.strm_mblk.specs.Given.{Given, answer_map, answer_of, value_after}
 use Rattle.strm_queue.specs.declared.flush.Flush.{Flush}
+use Rattle.strm_queue.specs.Ends.{last_of_rank}
+use Rattle.strm_queue.specs.Flow.{has_band}
 use Rattle.strm_queue.specs.Flush.{is_picked}
-use Rattle.strm_queue.specs.QueueCalls.{has_queue, messages_on, with_queue_settled}
+use Rattle.strm_queue.specs.QueueCalls.{flags_of, has_queue, messages_on, with_queue_settled}
 use Rattle.strm_queue.specs.QueuedBlocks.{QueuedBlocks}
+use Rattle.strm_queue.specs.Rank.{rank_of}
 
 -- the first n of these messages that are picked
 abbrev pub first_picked : ℕ → (Message → Bool) → List Message → List Message
@@ -80,3 +83,10 @@ pub record TakesEach {V R : Type 0} (arena : V → Arena) (receives : R → Toke
   pub each : FoldsTo (λ (v : V × R) t (w : V × R). TakesAny arena (call v.0) v.0 w.0 (Ok (Some t)) × receives v.1 t w.1) (old, before) tokens (new, after)
   pub count : result ≡ length tokens
   pub few : result ≤ most
+
+-- No message leaves queue q in a run: it is not there, its want-to-read mark is set, a band is wanted, or its first message, if any, is the
+-- last of its rank.
+abbrev pub IsRunOver : ℕ → QueuedBlocks → Type 0
+IsRunOver q v =
+    IsTrue (has_queue v q) → (flags_of v q).read ≡ false → ((band : ℕ) → has_band (flags_of v q).wanted band ≡ false) → (m : Message) → slice_get (messages_on v q) 0 ≡ Some m
+    → last_of_rank (rank_of v.arena.store) (rank_of v.arena.store m) (messages_on v q) ≡ Some (head_of m)

@@ -149,7 +149,7 @@ impl BandSet {
     }
 }
 
-// The wanted bands of a queue, and whether there may be any. Most queues have none, and then `relieve` runs no loop.
+// The wanted bands of a queue, and whether there is any. Most queues have none, and then `relieve` runs no loop.
 #[derive(Debug, Drop)]
 pub(crate) struct Wanted {
     set: BandSet,
@@ -164,7 +164,8 @@ impl Model for Wanted {
 
     ghost view = { λ w. w.set };
 
-    ghost invariant = { λ w. w.any ≡ false → (band : ℕ) → has_band w.set band ≡ false };
+    ghost invariant = { λ w. (w.any ≡ false → (band : ℕ) → has_band w.set band ≡ false)
+        × (((band : ℕ) → has_band w.set band ≡ false) → w.any ≡ false) };
 }
 
 impl Wanted {
@@ -186,9 +187,10 @@ impl Wanted {
         self.set.has(band)
     }
 
-    // Whether a band may be wanted; if not, none is.
+    // Whether any band is wanted.
     pub(crate) fn any(&self) -> bool
-        ensures { result ≡ false → (band : ℕ) → has_band self.now band ≡ false }
+        ensures none { result ≡ false → (band : ℕ) → has_band self.now band ≡ false }
+        ensures some { ((band : ℕ) → has_band self.now band ≡ false) → result ≡ false }
     {
         self.any
     }
@@ -197,6 +199,7 @@ impl Wanted {
     pub(crate) fn insert(&mut self, band: u8)
         ensures { self.new ≡ slice_set self.old band true }
     {
+        self.set.marks_each();
         self.set.insert(band);
         self.any = true;
     }

@@ -1,5 +1,5 @@
 //! Calls on queues: each makes the call of strm_queue with its name, on the pool's own message blocks.
-ghost use Rattle.std.specs.Prelude.{Ok, ◌≡◌, IsTrue};
+ghost use Rattle.std.specs.Prelude.{Ok, ◌≡◌, ◌<◌, IsTrue};
 ghost use Rattle.strm_mblk.specs.Arena.{has};
 ghost use Rattle.strm_mblk.specs.Calls.{Flushes, LeavesBlocks, Puts, Takes, TakesAny};
 ghost use Rattle.strm_mblk.specs.Given.{answer_of};
@@ -8,7 +8,7 @@ ghost use Rattle.strm_queue.specs.HeadCalls as by_head;
 ghost use Rattle.strm_queue.specs.QueueCalls as queues;
 ghost use Rattle.strm_queue.specs.QueueCalls.{IsBurstPlace};
 ghost use Rattle.strm_queue.specs.Taking as taking;
-ghost use Rattle.strm_queue.specs.Taking.{Hands, TakesEach};
+ghost use Rattle.strm_queue.specs.Taking.{Hands, IsRunOver, TakesEach};
 
 use super::Pool;
 use strm_data::Refusal;
@@ -93,12 +93,13 @@ impl Pool {
     }
 
     /// Removes the first messages of a queue, at most `most`, each as [`Pool::getq`] does. Their tokens go to `into`, and their
-    /// number is returned. It may remove fewer messages than there are, or none; call `getq` before it. As [`Queues::getq_run`]
-    /// of strm_queue.
+    /// number is returned. It stops before the last message of a rank, and where the want-to-read mark is set or a band is wanted;
+    /// call `getq` before it. As [`Queues::getq_run`] of strm_queue.
     #[inline(always)]
     pub fn getq_run<R: Receiver>(&mut self, queue: u8, most: u32, into: &mut R) -> u32
-        ensures { TakesEach arena R.receives (λ v. on_queues v (queues.getq queue (queued_blocks_of v))) most
+        ensures takes { TakesEach arena R.receives (λ v. on_queues v (queues.getq queue (queued_blocks_of v))) most
             self.old self.new into.old into.new result }
+        ensures over { result < most → IsRunOver queue (queued_blocks_of self.new) }
     {
         self.queues.getq_run(&mut self.blocks, queue, most, into)
     }

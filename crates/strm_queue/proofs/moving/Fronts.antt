@@ -1,10 +1,11 @@
 -- Messages that leave the front of a queue one after another, of which the tally is told at the end.
 use Rattle.std.proofs.Common.{◌≡◌, ◌≢◌, ℕ, ◌+◌, ◌-◌, ◌<◌, ◌≤◌, ◌^◌, Bool, true, false, List, [], ◌∷◌, ◌++◌, length, get_or, set, get_or-set_same, length-set, Option, Some, None, Ok, refl, sym, ap, ◌∙◌, subst, inl, inr, arith}
-use Rattle.std.specs.Prelude.{is_some, nat_lt, option_map}
-use Rattle.std.proofs.lemmas.Bool.{cases_eq, false≢true, ltb-true, ne_eqb}
+use Rattle.std.specs.Prelude.{◌==◌, is_none, is_some, nat_lt, option_map, slice_get}
+use Rattle.std.proofs.lemmas.Bool.{cases_eq, cond-true, eq-eqb, false≢true, ltb-true, ne_eqb}
 use Rattle.std.proofs.lemmas.Fn.{FoldsTo-push}
 use Rattle.std.proofs.lemmas.List.{length-append, set-get_or, set-set}
-use Rattle.strm_links.specs.Rows.{IsApart, after, first, is_some_of}
+use Rattle.std.proofs.lemmas.Option.{same_Some}
+use Rattle.strm_links.specs.Rows.{IsApart, after, first, is_some_of, last, last_or}
 use Rattle.strm_mblk.specs.declared.token.TokenValue.{TokenValue}
 use Rattle.strm_data.specs.DataStore.{DataStore}
 use Rattle.strm_mblk.specs.Arena.{Arena, IsParted, shelf_at, token_of, with_held, with_shelf}
@@ -16,7 +17,7 @@ use Rattle.strm_mblk.specs.Shelves.{heads_at, is_on, shelved_message, unshelve}
 use Rattle.strm_mblk.proofs.arena.Stands.{heads_apart}
 use Rattle.strm_queue.specs.declared.tally.Leaving.{Leaving}
 use Rattle.strm_queue.specs.declared.tally.Placed.{Placed}
-use Rattle.strm_queue.specs.Ends.{first_of_rank}
+use Rattle.strm_queue.specs.Ends.{first_of_rank, last_of_rank, of_rank}
 use Rattle.strm_queue.specs.Flow.{band_of_rank, bytes_on, fills, flags_at, hiwat_of, has_band, has_drained, lowat_of, opening_flags, with_flags, with_read}
 use Rattle.strm_queue.specs.Limits.{bands, ranks}
 use Rattle.strm_queue.specs.QueueCalls.{count_on, flags_of, getq, waker_enabled_where, with_queue_settled, with_state}
@@ -41,6 +42,11 @@ first_ranked rank r m post apart is =
       | inr other ↦
           absurd (false≢true (sym apart.0 ∙ first_of_rank-has rank (head_of m) r post (ap (λ ms. first (heads ms)) (sym (of_rank-other rank r [] post m (λ same. other (sym same)))) ∙ is)))
     ]
+
+-- numbers of which there are some have a last one
+is_last_some : (x : ℕ) (xs : List ℕ) → is_some (last_or (Some x) xs) ≡ true
+is_last_some x [] = refl
+is_last_some x (y ∷ ys) = is_last_some y ys
 
 module _ (hiwat : ℕ) (l : Leaving) (t : Tally) where
   abbrev its_band : ℕ
@@ -126,6 +132,19 @@ module _ (v : QueuesValue) (a : Arena) (in_order : AreInOrder v a) (parted : IsP
   pub front_next : (o : Option ℕ) → o ≡ after h (heads_at a q) → o ≡ first (heads parts.post)
   front_next o is = is ∙ (λ i. after (sym parts.head i) (heads (parts.is i))) ∙ after-head [] parts.post parts.at apart
 
+  -- a rank with a first message has a last one
+  pub some_last : (r : ℕ) → rank_of s parts.at ≡ r → is_some (last_in (tally_at v q) r) ≡ true
+  some_last r ranked =
+      ap is_some (true_of.ends.lasts r) ∙ ap (λ ms. is_some (last (heads ms))) (cond-true _ _ _ (eq-eqb (rank_of s parts.at) r ranked))
+      ∙ is_last_some (head_of parts.at) (heads (of_rank (rank_of s) r parts.post))
+
+  -- it is the last of its rank
+  pub front_over : (r : ℕ) → rank_of s parts.at ≡ r → last_in (tally_at v q) r ≡ Some h → (m : Message) → slice_get (shelf_at a q) 0 ≡ Some m → last_of_rank (rank_of s) (rank_of s m) (shelf_at a q) ≡ Some (head_of m)
+  front_over r ranked is m front =
+      let same = same_Some parts.at m (sym (ap (λ ms. slice_get ms 0) parts.is) ∙ front) in
+      ap (λ x. last_of_rank (rank_of s) (rank_of s x) (shelf_at a q)) (sym same) ∙ ap (λ k. last_of_rank (rank_of s) k (shelf_at a q)) ranked ∙ ap (last_of_rank (rank_of s) r) parts.is
+      ∙ sym (true_of.ends.lasts r) ∙ is ∙ ap Some (sym parts.head) ∙ ap (λ x. Some (head_of x)) same
+
   module _ (r : ℕ) (ranked : rank_of s parts.at ≡ r) (below : r < ranks) (size : ℕ) (size_is : size ≡ size_of parts.at) (next : Option ℕ) (next_is : next ≡ first (heads parts.post)) where
     -- its entry for the tally
     abbrev pub own : Placed
@@ -168,7 +187,7 @@ module _ (v : QueuesValue) (a : Arena) (in_order : AreInOrder v a) (parted : IsP
 -- ---- one more of those that leave
 
 module _ (v : QueuesValue) (a : Arena) (q : ℕ) (within : q < length v.state.specs) (l : Leaving) (among : AreAmong l (tally_at v q)) (in_order : AreInOrder (with_front_left q l v) a) (parted : IsParted a)
-    (few : length a.held ≤ most_message_blocks) (some : first (heads_at a q) ≡ Some l.first) (other : is_some_of l.first (last_in (tally_at v q) l.rank) ≡ false) where
+    (few : length a.held ≤ most_message_blocks) (some : first (heads_at a q) ≡ Some l.first) where
   abbrev t : Tally
   t = tally_at v q
 
@@ -199,64 +218,69 @@ module _ (v : QueuesValue) (a : Arena) (q : ℕ) (within : q < length v.state.sp
   ranked : rank_of a.store front.at ≡ l.rank
   ranked = front_rank now a in_order parted q within l.first some l.rank (ap (λ (u : Tally). first_in u l.rank) tally_is ∙ get_or-set_same t.firsts l.rank (Some l.first) None long)
 
-  module _ (size : ℕ) (sized : size ≡ size_of (shelved_message a l.first)) where
-    size_is : size ≡ size_of front.at
-    size_is = front_size now a in_order parted q within l.first some size sized
+  -- if it is the last of its rank, the run is over
+  pub leaving_over : last_in (tally_at v q) l.rank ≡ Some l.first → (m : Message) → slice_get (shelf_at a q) 0 ≡ Some m → last_of_rank (rank_of a.store) (rank_of a.store m) (shelf_at a q) ≡ Some (head_of m)
+  leaving_over is = front_over now a in_order parted q within l.first some l.rank ranked (ap (λ (u : Tally). last_in u l.rank) tally_is ∙ is)
 
-    -- its bytes are among those of all
-    light : l.bytes + size ≤ t.bytes
-    light =
-        omega (arith, among.bytes, ap (λ (u : Tally). u.bytes) tally_is, front_all now a in_order parted q within l.first some l.rank ranked among.rank size size_is (first (heads front.post)) refl)
+  module _ (other : is_some_of l.first (last_in (tally_at v q) l.rank) ≡ false) where
+    module _ (size : ℕ) (sized : size ≡ size_of (shelved_message a l.first)) where
+      size_is : size ≡ size_of front.at
+      size_is = front_size now a in_order parted q within l.first some size sized
 
-    pub leaving_fits : l.bytes + size < 2 ^ 32
-    leaving_fits = omega (arith, light, among.light)
+      -- its bytes are among those of all
+      light : l.bytes + size ≤ t.bytes
+      light =
+          omega (arith, among.bytes, ap (λ (u : Tally). u.bytes) tally_is, front_all now a in_order parted q within l.first some l.rank ranked among.rank size size_is (first (heads front.post)) refl)
 
-    module _ (next : Option ℕ) (behind : next ≡ after l.first (heads_at a q)) where
-      next_is : next ≡ first (heads front.post)
-      next_is = front_next now a in_order parted q within l.first some next behind
+      pub leaving_fits : l.bytes + size < 2 ^ 32
+      leaving_fits = omega (arith, light, among.light)
 
-      pub leaving_more : is_some next ≡ true
-      leaving_more = front_more now a in_order parted q within l.first some l.rank ranked among.rank size size_is next next_is (ap (λ (u : Tally). is_some_of l.first (last_in u l.rank)) tally_is ∙ other)
+      module _ (next : Option ℕ) (behind : next ≡ after l.first (heads_at a q)) where
+        next_is : next ≡ first (heads front.post)
+        next_is = front_next now a in_order parted q within l.first some next behind
 
-      module _ (k : ℕ) (is : next ≡ Some k) where
-        abbrev more : Leaving
-        more = one_left high l t size k
+        pub leaving_more : is_some next ≡ true
+        leaving_more = front_more now a in_order parted q within l.first some l.rank ranked among.rank size size_is next next_is (ap (λ (u : Tally). is_some_of l.first (last_in u l.rank)) tally_is ∙ other)
 
-        pub leaving_among : AreAmong more t
-        leaving_among = record {
-          len = omega (arith, among.len, true_left.len);
-          bytes = light;
-          count =
-              omega (
-                arith,
-                among.count,
-                ap (λ (u : Tally). count_of u (band_of_rank l.rank)) tally_is,
-                get_or-set_same t.counts (band_of_rank l.rank) (left high l t) 0 wide,
-                front_enough now a in_order parted q within l.first some l.rank ranked among.rank size size_is next next_is,
-              );
-          few = among.few;
-          light = among.light;
-          rank = among.rank;
-          first = next_room now a in_order parted q within l.first some l.rank ranked among.rank size size_is next next_is few k is;
-        }
+        module _ (k : ℕ) (is : next ≡ Some k) where
+          abbrev more : Leaving
+          more = one_left high l t size k
 
-        module _ (b : Arena) (gone : b ≡ unshelve q l.first a) where
-          abbrev entry : Placed
-          entry = own now a in_order parted q within l.first some l.rank ranked among.rank size size_is next next_is
+          pub leaving_among : AreAmong more t
+          leaving_among = record {
+            len = omega (arith, among.len, true_left.len);
+            bytes = light;
+            count =
+                omega (
+                  arith,
+                  among.count,
+                  ap (λ (u : Tally). count_of u (band_of_rank l.rank)) tally_is,
+                  get_or-set_same t.counts (band_of_rank l.rank) (left high l t) 0 wide,
+                  front_enough now a in_order parted q within l.first some l.rank ranked among.rank size size_is next next_is,
+                );
+            few = among.few;
+            light = among.light;
+            rank = among.rank;
+            first = next_room now a in_order parted q within l.first some l.rank ranked among.rank size size_is next next_is few k is;
+          }
 
-          one_is : one_less high entry (tally_at now q) ≡ without_front high more t
-          one_is =
-              (λ i. one_less high (let p : Placed = record { head = l.first; rank = l.rank; size = size; ahead = None; behind = is i } in p) (tally_is i))
-              ∙ front_one high l t size k wide long (use_true (rank_of a.store) (front.at ∷ front.post) left_tally true_left.ends l.rank) other
+          module _ (b : Arena) (gone : b ≡ unshelve q l.first a) where
+            abbrev entry : Placed
+            entry = own now a in_order parted q within l.first some l.rank ranked among.rank size size_is next next_is
 
-          pub leaving_ordered : AreInOrder (with_front_left q more v) b
-          leaving_ordered =
-              subst (λ w. AreInOrder w b)
-              (λ i. let w : QueuesValue = record { state = v.state; tallies = (set-set v.tallies q left_tally (one_less high entry (tally_at now q)) ∙ ap (set v.tallies q) one_is) i } in w)
-              (front_gone now a in_order parted q within l.first some l.rank ranked among.rank size size_is next next_is b gone)
+            one_is : one_less high entry (tally_at now q) ≡ without_front high more t
+            one_is =
+                (λ i. one_less high (let p : Placed = record { head = l.first; rank = l.rank; size = size; ahead = None; behind = is i } in p) (tally_is i))
+                ∙ front_one high l t size k wide long (use_true (rank_of a.store) (front.at ∷ front.post) left_tally true_left.ends l.rank) other
 
-          pub leaving_first : first (heads_at b q) ≡ Some k
-          leaving_first = next_first now a in_order parted q within l.first some l.rank ranked among.rank size size_is next next_is b gone (omega (arith, within, in_order.shelves)) ∙ is
+            pub leaving_ordered : AreInOrder (with_front_left q more v) b
+            leaving_ordered =
+                subst (λ w. AreInOrder w b)
+                (λ i. let w : QueuesValue = record { state = v.state; tallies = (set-set v.tallies q left_tally (one_less high entry (tally_at now q)) ∙ ap (set v.tallies q) one_is) i } in w)
+                (front_gone now a in_order parted q within l.first some l.rank ranked among.rank size size_is next next_is b gone)
+
+            pub leaving_first : first (heads_at b q) ≡ Some k
+            leaving_first = next_first now a in_order parted q within l.first some l.rank ranked among.rank size size_is next next_is b gone (omega (arith, within, in_order.shelves)) ∙ is
 
 -- ---- a `getq` that neither clears a mark nor enables a queue
 
@@ -374,6 +398,12 @@ module _ {R : Type 0} (receives : R → TokenValue → R → Type 0) (v : Queues
           none_is =
               front_none (hiwat_of v.state q) rank h (tally_at v q) led_first
               (mark_true old.store (hiwat_of v.state q) (shelf_at old q) (tally_at v q) (agrees.in_order.true_of q within) rank)
+
+  -- if the next one is the last of its rank, the run is over
+  pub led_over : (l : Leaving) (now : Arena) (between : R) (so_far : IsLed l now between) (within : q < length v.state.specs) (parted : IsParted now) (few : length now.held ≤ most_message_blocks) → last_in (tally_at v q) rank ≡ Some l.first
+      → (m : Message) → slice_get (shelf_at now q) 0 ≡ Some m → last_of_rank (rank_of now.store) (rank_of now.store m) (shelf_at now q) ≡ Some (head_of m)
+  led_over l now between so_far within parted few is =
+      leaving_over v now q within l so_far.among so_far.agrees.in_order parted few so_far.first (ap (last_in (tally_at v q)) so_far.ranked ∙ is)
 
   -- one more has, which is not the last of its rank
   module _ (there : nat_lt q (length v.state.specs) ≡ true) (l : Leaving) (now : Arena) (between : R) (so_far : IsLed l now between) (parted : IsParted now) (few : length now.held ≤ most_message_blocks)

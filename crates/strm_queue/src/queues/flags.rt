@@ -35,10 +35,11 @@ impl Queues {
         self.queues[usize::from(queue)].wanted.has(band)
     }
 
-    // Whether the wanted mark of a band may be set; if not, none is.
+    // Whether the wanted mark of any band is set.
     pub(super) fn is_any_wanted(&self, queue: u8) -> bool
         requires { queue < length self.now.state.specs }
-        ensures { result ≡ false → (band : ℕ) → has_band (flags_at self.now.state queue).wanted band ≡ false }
+        ensures none { result ≡ false → (band : ℕ) → has_band (flags_at self.now.state queue).wanted band ≡ false }
+        ensures some { ((band : ℕ) → has_band (flags_at self.now.state queue).wanted band ≡ false) → result ≡ false }
     {
         self.queues[usize::from(queue)].wanted.any()
     }

@@ -5,7 +5,7 @@ ghost use Rattle.strm_mblk.specs.Shelves.{heads_at, is_on};
 ghost use Rattle.strm_queue.specs.HeadCalls as by_head;
 ghost use Rattle.strm_queue.specs.QueueCalls as model;
 ghost use Rattle.strm_queue.specs.QueuedBlocks.{Agrees, queued_blocks, arena};
-ghost use Rattle.strm_queue.specs.Taking.{TakesEach};
+ghost use Rattle.strm_queue.specs.Taking.{IsRunOver, TakesEach};
 
 use super::Queues;
 use super::places::{head_at, queued_rank};
@@ -50,9 +50,9 @@ impl Queues {
     /// Removes the first messages of a queue, at most `most`, each as [`Queues::getq`] does. Their tokens go to `into`, and their
     /// number is returned. What is stored of the queue is written once.
     ///
-    /// It may remove fewer messages than there are, or none: it leaves the last one of the first message's rank. It removes none if the
-    /// want-to-read mark is set, which `getq` clears, or if a band may be wanted. So a caller takes turns: `getq`, then this.
-    /// Takes a step for each block of the messages. This project's own call.
+    /// It stops before the last message of the first one's rank. It removes none if there is no such queue, if the want-to-read mark is
+    /// set, which `getq` clears, or if a band is wanted. So a caller takes turns: `getq`, then this. Takes a step for each block of the
+    /// messages. This project's own call.
     #[inline(always)]
     #[tactic(auto, using(crate::proofs::moving::Fronts::takes_none))]
     pub fn getq_run<R: Receiver>(
@@ -65,6 +65,7 @@ impl Queues {
         requires { Agrees self.old blocks.old }
         ensures takes { TakesEach arena R.receives (model.getq queue) most (queued_blocks self.old blocks.old)
             (queued_blocks self.new blocks.new) into.old into.new result }
+        ensures over { result < most → IsRunOver queue (queued_blocks self.new blocks.new) }
         ensures agrees { Agrees self.new blocks.new }
     {
         blocks.lawful();
@@ -79,9 +80,7 @@ impl Queues {
             return 0;
         };
         let rank = queued_rank(blocks, first);
-        let Some(last) = self.tally(queue).last(rank).get() else {
-            return 0;
-        };
+        let last = self.tally(queue).last(rank).number();
         if first == last {
             return 0;
         }
@@ -100,6 +99,7 @@ impl Queues {
             let token = blocks.unshelve(queue, head);
             into.receive(token);
         }
+        blocks.lawful();
         self.leave_front(queue, leaving);
         leaving.len
     }

@@ -12,9 +12,9 @@ may counts marks band = has_drained (slice_index_or marks band no_marks).lowat (
 pub returns-then-not-self-clause-left : goal.returns-then-not-self-clause-left
 returns-then-not-self-clause-left c =
     let drained = may c.args.counts.now c.args.marks.now in
-    (looked_at_last c.args.self.now drained c.args.self.now false (looked_at_none c.args.self.now drained (ap length (sym c.self.view_is) ∙ c.lawful.ensures) (λ band. ap (λ ms. has_band ms band) (sym c.self.view_is) ∙ c.self.invariant c.if-not-self.true band))).0
+    (looked_at_last c.args.self.now drained c.args.self.now false (looked_at_none c.args.self.now drained (ap length (sym c.self.view_is) ∙ c.lawful.ensures) (λ band. ap (λ ms. has_band ms band) (sym c.self.view_is) ∙ c.self.invariant.0 c.if-not-self.true band))).0
 
 pub returns-then-not-self-clause-some : goal.returns-then-not-self-clause-some
 returns-then-not-self-clause-some c =
     let drained = may c.args.counts.now c.args.marks.now in
-    (looked_at_last c.args.self.now drained c.args.self.now false (looked_at_none c.args.self.now drained (ap length (sym c.self.view_is) ∙ c.lawful.ensures) (λ band. ap (λ ms. has_band ms band) (sym c.self.view_is) ∙ c.self.invariant c.if-not-self.true band))).1
+    (looked_at_last c.args.self.now drained c.args.self.now false (looked_at_none c.args.self.now drained (ap length (sym c.self.view_is) ∙ c.lawful.ensures) (λ band. ap (λ ms. has_band ms band) (sym c.self.view_is) ∙ c.self.invariant.0 c.if-not-self.true band))).1
