@@ -12,4 +12,3 @@ pub mod Measuring
 pub mod Loans
 pub mod Readers
 pub mod Finding
-pub mod Ranging

@@ -1,5 +1,5 @@
 -- Which names are valid after a call that follows others, and which messages a call gives.
-use Rattle.std.proofs.Common.{◌≡◌, ℕ, zero, suc, true, false, ◌&&◌, ◌||◌, ◌==◌, List, [], ◌∷◌, ◌++◌, map, get_or, None, Result, Ok, Err, refl, sym, ap, ◌∙◌, subst, inl, inr, arith}
+use Rattle.std.proofs.Common.{◌≡◌, ℕ, zero, suc, true, false, ◌&&◌, ◌||◌, ◌==◌, List, [], ◌∷◌, ◌++◌, map, get_or, None, Result, Ok, Err, refl, sym, ap, ◌∙◌, subst, inl, inr, arith, ℤ, Option, Some}
 use Rattle.std.specs.Prelude.{is_some}
 use Rattle.std.specs.List.{All}
 use Rattle.std.proofs.lemmas.Bool.{and_parts, cases_Bool, eqb-true, false≢true, or_parts, or_right}
@@ -12,11 +12,12 @@ use Rattle.strm_pool.specs.PoolValue.{PoolValue}
 use Rattle.strm_pool.proofs.Tokens.{err_not_ok, has_here, lone}
 use Rattle.strm_named.specs.declared.fault.Fault.{Fault}
 use Rattle.strm_named.specs.declared.name.Name.{Name}
-use Rattle.strm_named.specs.NamedCalls.{Does, Outcome, Shape}
+use Rattle.strm_named.specs.NamedCalls.{Does, Outcome, Shape, answer_told, named_after}
 use Rattle.strm_named.specs.NamedValue.{NamedValue, Renames, is_valid, name_of, stamp_at}
 use Rattle.strm_c.specs.declared.code.Code.{Code}
-use Rattle.strm_c.specs.Codes.{Answer, answer_of_result}
+use Rattle.strm_c.specs.Codes.{Answer, answer_of_result, number_returned, value_written}
 use Rattle.strm_c.specs.Series.{GivesAll, SpendsAll, heads_of}
+use Rattle.strm_c.specs.Exports.{CallsNamed, Held, Ranged}
 
 -- ---- one call after another
 
@@ -161,3 +162,21 @@ pub gave_up : {X Y Z : Type 0} (s : Shape X Y) (tells : Y → Answer Z) (outcome
     → ((x : X) → Err code ≡ tells (s.told w x) → Renames spent (s.heads x) v w → Renames [] [] v w) → Renames [] [] v w
 gave_up s tells (Ok given) spent v w answer does code is done = done given.0 (is ∙ ap (answer_of_result tells) does.told) does.names
 gave_up s tells (Err fault) spent v w answer does code is done = subst (Renames [] [] v) (sym does.after) (renames_none v)
+
+-- ---- calls on names with a number that means something
+
+-- what a call on names answers is what its definition says
+told_alike : {X Y Z : Type 0} (shape : Shape X Y) (tells : Y → Answer Z) (outcome : Outcome X) (spent : List ℕ) (v w : NamedValue) (answer : Result Y Fault) → Does shape outcome spent v w answer
+    → answer_of_result tells answer ≡ answer_of_result tells (answer_told shape (named_after shape v outcome) outcome)
+told_alike shape tells outcome spent v w answer does = ap (answer_of_result tells) (does.told ∙ ap (λ x. answer_told shape x outcome) does.after)
+
+-- the call was made, and its answer stored
+pub ranged : {A X Y Z : Type 0} (shape : Shape X Y) (tells : Y → Answer Z) (outcome : A → NamedValue → Outcome X) (spent : List ℕ) (given : Option A) (a : A) (old new : Held) (v w : NamedValue) (answer : Result Y Fault) (number code : ℤ) (was now : Z)
+    → given ≡ Some a → old ≡ Some v → new ≡ Some w → Does shape (outcome a v) spent v w answer → number ≡ code → code ≡ number_returned (answer_of_result tells answer) → now ≡ value_written was (answer_of_result tells answer)
+    → Ranged given (λ x. CallsNamed shape tells (outcome x) spent) old new number was now
+ranged shape tells outcome spent given a old new v w answer number code was now meant before after does exact returned stored =
+    let same = told_alike shape tells (outcome a v) spent v w answer does in
+    subst (λ g. Ranged g (λ x. CallsNamed shape tells (outcome x) spent) old new number was now) (sym meant)
+    (subst (λ o. CallsNamed shape tells (outcome a) spent o new number was now) (sym before)
+    (subst (λ n. CallsNamed shape tells (outcome a) spent (Some v) n number was now) (sym after)
+    ((ap Some does.after, (exact ∙ returned ∙ ap number_returned same, stored ∙ ap (value_written was) same)), does.names)))

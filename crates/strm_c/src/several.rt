@@ -74,7 +74,8 @@ fn putq_each(named: &mut NamedPool, number: u32, msgs: &[Name]) -> Result<usize,
     Ok(msgs.len())
 }
 
-// Takes messages off a queue, and stores their names in an array. Returns their number, or why none is taken.
+// Takes messages off a queue, and stores their names in an array. Returns their number, or why none is taken. After each message it takes
+// those of the same rank together.
 fn getq_each(named: &mut NamedPool, number: u32, msgs: &mut [Name]) -> Result<usize, Code>
     ensures makes { MakesEach (replicate (length msgs.old) (series.getq (capped_number number)))
         named.old named.new result }
@@ -84,12 +85,14 @@ fn getq_each(named: &mut NamedPool, number: u32, msgs: &mut [Name]) -> Result<us
         (Some named.old) (Some named.new) }
 {
     let queue = capped_number(number);
-    for place in 0..msgs.len() {
+    let mut taken = 0;
+    while taken < msgs.len() {
         named.lawful();
         match coded_any(named.getq(queue)) {
-            Ok(msg) => msgs[place] = msg,
-            Err(code) => return stopped(place, code),
+            Ok(msg) => msgs[taken] = msg,
+            Err(code) => return stopped(taken, code),
         }
+        taken = named.getq_run(queue, msgs, taken + 1);
     }
     Ok(msgs.len())
 }

@@ -2,4 +2,3 @@ mod Fitted
 mod Renamed
 mod Shaped
 mod Taken
-mod Told

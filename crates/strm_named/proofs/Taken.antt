@@ -1,5 +1,5 @@
 -- Messages that a call takes and a receiver names.
-use Rattle.std.proofs.Common.{◌≡◌, ℕ, ◌+◌, ◌<◌, ◌≤◌, ◌==◌, suc, Bool, true, false, Option, List, [], ◌∷◌, arith, length, map, set, get_or, get_or-set_same, length-set, take, Result, Ok, Err, refl, sym, ap, ◌∙◌, subst, if◌then◌else◌}
+use Rattle.std.proofs.Common.{◌≡◌, ℕ, ◌+◌, ◌<◌, ◌≤◌, ◌==◌, suc, Bool, true, false, Option, None, Some, List, [], ◌∷◌, arith, length, map, set, get_or, get_or-set_same, length-set, take, Result, Ok, Err, refl, sym, ap, ◌∙◌, subst, if◌then◌else◌}
 use Rattle.std.specs.Prelude.{filter}
 use Rattle.std.specs.List.{FoldsTo}
 use Rattle.std.proofs.lemmas.Bool.{false≢true, or_right}
@@ -9,27 +9,28 @@ use Rattle.strm_data.specs.declared.refusal.Refusal.TheVariants.{NoSuchQueue}
 use Rattle.strm_links.specs.Rows.{IsApart}
 use Rattle.strm_links.specs.Rows as rows
 use Rattle.strm_mblk.specs.declared.token.TokenValue.{TokenValue}
-use Rattle.strm_mblk.specs.Arena.{Arena, has, token_of}
+use Rattle.strm_mblk.specs.Arena.{Arena, has, held_at, token_of}
+use Rattle.strm_mblk.specs.Calls.{TakesAny}
 use Rattle.strm_mblk.specs.Block.{head_of}
 use Rattle.strm_mblk.specs.Given.{Given}
 use Rattle.strm_queue.specs.declared.flush.Flush.{Flush}
 use Rattle.strm_queue.specs.Flush.{is_picked}
 use Rattle.strm_queue.specs.QueueCalls.{has_queue, messages_on}
 use Rattle.strm_queue.specs.QueuedBlocks.{QueuedBlocks}
-use Rattle.strm_queue.specs.Taking.{AreHanded, Hands, take_messages}
+use Rattle.strm_queue.specs.Taking.{AreHanded, Hands, TakesEach, take_messages}
 use Rattle.strm_pool.specs.PoolValue.{PoolValue, arena, on_queues, queued_blocks_of}
 use Rattle.strm_pool.proofs.Tokens.{Each, Moves, err_not_ok, has_here, heads_of, same_ok}
 use Rattle.strm_named.specs.declared.fault.Fault.{Fault}
 use Rattle.strm_named.specs.declared.name.Name.{Name}
 use Rattle.strm_named.specs.declared.naming.Naming.{Naming}
 use Rattle.strm_named.specs.Fitting.{Fits, pool_with_places}
-use Rattle.strm_named.specs.NamedCalls.{as_named_result, names_of, outcome_of, some_messages, with_names}
-use Rattle.strm_named.specs.NamedValue.{name_of, stamp_after, stamps_given}
+use Rattle.strm_named.specs.NamedCalls.{TakesEachNamed, as_named_result, any_message, Does, names_of, outcome_of, some_messages, with_names, with_names_from}
+use Rattle.strm_named.specs.NamedValue.{NamedValue, name_of, stamp_after, stamps_given}
 use Rattle.strm_named.specs.Receiving.{NamesToken}
 use Rattle.strm_named.specs.PlacesValue.{PlacesValue, name_given, stamp_in, with_given}
 use Rattle.strm_named.proofs.Fitted.{filled, stands_had, within_some}
 use Rattle.strm_named.proofs.Renamed.{stamps_other}
-use Rattle.strm_named.proofs.Shaped.{Called, made, refused}
+use Rattle.strm_named.proofs.Shaped.{Called, gives_any, made, refused}
 
 -- ---- what the receiver does with tokens
 
@@ -42,19 +43,14 @@ names_given (t ∷ ts) p = name_given t p ∷ names_given ts (with_given t p)
 abbrev with_all_given : List TokenValue → PlacesValue → PlacesValue
 with_all_given ts p = record { slots = filled ts p.slots; stamps = stamps_given (heads_of ts) p.stamps }
 
--- these names, put into a slice from place k on
-abbrev put_from : ℕ → List Name → List Name → List Name
-put_from k [] xs = xs
-put_from k (n ∷ ns) xs = put_from (suc k) ns (set xs k n)
+with_names_from-behind : (k : ℕ) (ns : List Name) (x : Name) (xs : List Name) → with_names_from (suc k) ns (x ∷ xs) ≡ x ∷ with_names_from k ns xs
+with_names_from-behind k [] x xs = refl
+with_names_from-behind k (n ∷ ns) x xs = with_names_from-behind (suc k) ns x (set xs k n)
 
-put_from-behind : (k : ℕ) (ns : List Name) (x : Name) (xs : List Name) → put_from (suc k) ns (x ∷ xs) ≡ x ∷ put_from k ns xs
-put_from-behind k [] x xs = refl
-put_from-behind k (n ∷ ns) x xs = put_from-behind (suc k) ns x (set xs k n)
-
-put_from-first : (ns xs : List Name) → length ns ≤ length xs → put_from 0 ns xs ≡ with_names ns xs
-put_from-first [] xs few = refl
-put_from-first (n ∷ ns) [] few = absurd (omega (arith, few))
-put_from-first (n ∷ ns) (x ∷ xs) few = put_from-behind 0 ns n xs ∙ ap (λ ys. n ∷ ys) (put_from-first ns xs (omega (arith, few)))
+with_names_from-first : (ns xs : List Name) → length ns ≤ length xs → with_names_from 0 ns xs ≡ with_names ns xs
+with_names_from-first [] xs few = refl
+with_names_from-first (n ∷ ns) [] few = absurd (omega (arith, few))
+with_names_from-first (n ∷ ns) (x ∷ xs) few = with_names_from-behind 0 ns n xs ∙ ap (λ ys. n ∷ ys) (with_names_from-first ns xs (omega (arith, few)))
 
 -- it keeps what it was lent
 pub keeps_places : (ts : List TokenValue) (old new : Naming) → FoldsTo NamesToken old ts new → new.places.ghost_name ≡ old.places.ghost_name
@@ -72,13 +68,13 @@ puts_tokens (t ∷ ts) old new is = puts_tokens ts is.0 new is.2 ∙ ap (with_al
 
 -- and stores their names
 stores_names : (ts : List TokenValue) (old new : Naming) → FoldsTo NamesToken old ts new → old.count + length ts ≤ length old.names.now
-    → new.names.now ≡ put_from old.count (names_given ts old.places.now) old.names.now
+    → new.names.now ≡ with_names_from old.count (names_given ts old.places.now) old.names.now
 stores_names [] old new is few = ap (λ (x : Naming). x.names.now) (sym is)
 stores_names (t ∷ ts) old new is few =
     let mid = is.0 in
     let count : mid.count ≡ suc old.count = is.1.count (omega (arith, few)) in
     let long : length mid.names.now ≡ length old.names.now = ap length is.1.names ∙ length-set old.names.now old.count (name_given t old.places.now) in
-    stores_names ts mid new is.2 (omega (arith, few, count, long)) ∙ (λ i. put_from (count i) (names_given ts (is.1.places i)) (is.1.names i))
+    stores_names ts mid new is.2 (omega (arith, few, count, long)) ∙ (λ i. with_names_from (count i) (names_given ts (is.1.places i)) (is.1.names i))
 
 -- ---- messages with these heads
 
@@ -166,5 +162,62 @@ module _ {p r : PoolValue} {ps qs : PlacesValue} (fits : Fits p.arena ps) {old n
           ∙ (λ i. map (λ h. let n : Name = record { pool = a.id; head = h; stamp = get_or (stamps i) h 0 } in n) hs) in
           let enough = few hs u refl in
           stores_names ts old new is.tokens.handed (omega (arith, first, enough, length-map hs (token_of a)))
-          ∙ (λ i. put_from (first i) (names i) old.names.now)
-          ∙ put_from-first (map (λ h. name_of (pool_with_places r qs) h) hs) old.names.now (omega (arith, enough, length-map hs (λ h. name_of (pool_with_places r qs) h)))
+          ∙ (λ i. with_names_from (first i) (names i) old.names.now)
+          ∙ with_names_from-first (map (λ h. name_of (pool_with_places r qs) h) hs) old.names.now (omega (arith, enough, length-map hs (λ h. name_of (pool_with_places r qs) h)))
+
+-- ---- messages that are taken one after another
+
+length-names_given : (ts : List TokenValue) (p : PlacesValue) → length (names_given ts p) ≡ length ts
+length-names_given [] p = refl
+length-names_given (t ∷ ts) p = ap suc (length-names_given ts (with_given t p))
+
+module _ (call : PoolValue → Given PoolValue (Option ℕ)) where
+  -- one message is taken, and its token received
+  abbrev one_received : PoolValue × Naming → TokenValue → PoolValue × Naming → Type 0
+  one_received x t y = TakesAny arena (call x.0) x.0 y.0 (Ok (Some t)) × NamesToken x.1 t y.1
+
+  -- one message is taken and named
+  abbrev one_named : NamedValue → Name → NamedValue → Type 0
+  one_named v n w = Does any_message (outcome_of (call v.pool)) [] v w (Ok (Some n)) × (held_at v.pool.arena n.head ≡ None)
+
+  received : (ts : List TokenValue) (p r : PoolValue) (old new : Naming) → FoldsTo one_received (p, old) ts (r, new) → FoldsTo NamesToken old ts new
+  received [] p r old new is = ap (λ (x : PoolValue × Naming). x.1) is
+  received (t ∷ ts) p r old new is = (is.0.1, is.1.1, received ts is.0.0 r is.0.1 new is.2)
+
+  named : (ts : List TokenValue) (p r : PoolValue) (old new : Naming) → Fits p.arena old.places.now → FoldsTo one_received (p, old) ts (r, new)
+      → Fits r.arena new.places.now × FoldsTo one_named (pool_with_places p old.places.now) (names_given ts old.places.now) (pool_with_places r new.places.now)
+  named [] p r old new fits is = (subst (λ (x : PoolValue × Naming). Fits x.0.arena x.1.places.now) is fits, ap (λ (x : PoolValue × Naming). pool_with_places x.0 x.1.places.now) is)
+  named (t ∷ ts) p r old new fits is =
+      let m = is.0.0 in
+      let between = is.0.1 in
+      let answer : Result (Option Name) Fault = Ok (Some (name_given t old.places.now)) in
+      let one : Called any_message (outcome_of (call p)) [] p m old.places.now between.places.now answer = gives_any fits is.1.0 is.1.1.places refl in
+      let rest = named ts m r between new one.fits is.2 in
+      (rest.0, (pool_with_places m between.places.now, (one.does, is.1.0.unheld), subst (λ q. FoldsTo one_named (pool_with_places m between.places.now) (names_given ts q) (pool_with_places r new.places.now)) is.1.1.places rest.1))
+
+module _ (call : PoolValue → Given PoolValue (Option ℕ)) {p r : PoolValue} {qs : PlacesValue} {old new : Naming} (fits : Fits p.arena old.places.now) (after : qs ≡ new.places.now)
+    {most taken : ℕ} (takes : TakesEach arena NamesToken call most p r old new taken) where
+  abbrev ts : List TokenValue
+  ts = takes.tokens
+
+  handed : FoldsTo NamesToken old ts new
+  handed = received call ts p r old new takes.each
+
+  pub each_keeps_places : new.places.ghost_name ≡ old.places.ghost_name
+  each_keeps_places = keeps_places ts old new handed
+
+  pub each_fits : Fits r.arena qs
+  each_fits = subst (Fits r.arena) (sym after) (named call ts p r old new fits takes.each).0
+
+  -- their names are stored in the slice that was lent, which ends as `slice`
+  pub each_named : {slice : List Name} {v : NamedValue} {result : ℕ} → pool_with_places p old.places.now ≡ v → result ≡ old.count + taken → old.count + most ≤ length old.names.now
+      → (old.names.ghost_name ≡ new.names.ghost_name → slice ≡ new.names.now) → TakesEachNamed (λ w. outcome_of (call w.pool)) old.count v (pool_with_places r qs) old.names.now slice result
+  each_named {slice} {v} {result} view is room ends = subst (λ w. TakesEachNamed (λ x. outcome_of (call x.pool)) old.count w (pool_with_places r qs) old.names.now slice result) view (record {
+    names = names_given ts old.places.now;
+    each =
+        subst (λ q. FoldsTo (one_named call) (pool_with_places p old.places.now) (names_given ts old.places.now) (pool_with_places r q)) (sym after)
+        (named call ts p r old new fits takes.each).1;
+    stored = ends (sym (keeps_names ts old new handed)) ∙ stores_names ts old new handed (omega (arith, room, takes.count, takes.few));
+    count = omega (arith, is, takes.count, length-names_given ts old.places.now);
+    within = omega (arith, is, room, takes.few);
+  })

@@ -1,8 +1,10 @@
 -- Calls of a pool as calls on names. Each is defined by the pool's own call; names and stamps are added.
-use Rattle.std.specs.Prelude.{◌≡◌, ℕ, ◌&&◌, min, not, ◌==◌, List, [], ◌∷◌, ◌++◌, drop, length, map, option_map, Option, None, Some, Result, Ok, Err, IfOk, MatchResult, if◌then◌else◌}
+use Rattle.std.specs.Prelude.{◌≡◌, ℕ, suc, ◌+◌, ◌≤◌, ◌&&◌, min, not, ◌==◌, List, [], ◌∷◌, ◌++◌, drop, length, map, option_map, Option, None, Some, Result, Ok, Err, IfOk, MatchResult, slice_set, if◌then◌else◌}
+use Rattle.std.specs.List.{FoldsTo}
 use Rattle.strm_data.specs.declared.refusal.Refusal.{Refusal}
 use Rattle.strm_data.specs.Lending.{Edits}
 use Rattle.strm_mblk.specs.declared.token.TokenValue.{TokenValue}
+use Rattle.strm_mblk.specs.Arena.{held_at}
 use Rattle.strm_mblk.specs.Given.{Given, answer_of, value_after}
 use Rattle.strm_queue.specs.declared.flush.Flush.{Flush}
 use Rattle.strm_queue.specs.Taking as taking
@@ -116,6 +118,11 @@ names_of s v (Err fault) = []
 abbrev pub with_names : List Name → List Name → List Name
 with_names names slice = names ++ drop (length names) slice
 
+-- a slice with these names from place k on
+abbrev pub with_names_from : ℕ → List Name → List Name → List Name
+with_names_from k [] slice = slice
+with_names_from k (n ∷ names) slice = with_names_from (suc k) names (slice_set slice k n)
+
 -- A call that spends the names of the messages with these heads: the named pool after it, its answer, and which names are valid
 -- then.
 pub record Does {X Y : Type 0} (s : Shape X Y) (outcome : Outcome X) (spent : List ℕ) (old new : NamedValue) (answer : Result Y Fault) : Type 0 where
@@ -150,3 +157,12 @@ pub record ServesNamed (held : ℕ) (old new : NamedValue) (answer : Option (Ser
   pub service : option_map (λ g. g.0) answer ≡ option_map (λ g. g.0) given
   pub does : Does any_message (Ok (option_map (λ g. g.1.head) given, new.pool)) [] old new (Ok (option_map (λ g. g.1) answer))
   pub awake : AreKeptAwake old.pool → AreKeptAwake new.pool
+
+-- A call that takes messages, each as `call` takes one, and stores their names in a slice, from a place on. It returns the place after the
+-- last one.
+pub record TakesEachNamed (call : NamedValue → Outcome (Option ℕ)) (from : ℕ) (old new : NamedValue) (slice filled : List Name) (result : ℕ) : Type 0 where
+  pub names : List Name
+  pub each : FoldsTo (λ v n w. Does any_message (call v) [] v w (Ok (Some n)) × (held_at v.pool.arena n.head ≡ None)) old names new
+  pub stored : filled ≡ with_names_from from names slice
+  pub count : result ≡ from + length names
+  pub within : result ≤ length slice

@@ -135,10 +135,14 @@ impl Places {
     }
 
     // Puts a token that a call gave at the place of its head, with a new stamp, and returns its name.
+    #[inline(always)]
     pub(crate) fn give(&mut self, token: Token) -> Name
         ensures places { self.new ≡ with_given token self.old }
         ensures name { result ≡ name_given token self.old }
     {
+        if (token.head() as usize) < self.slots.len() {
+            return self.give_there(token);
+        }
         let name = Name {
             pool: token.pool(),
             head: token.head(),

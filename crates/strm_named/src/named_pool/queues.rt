@@ -1,9 +1,10 @@
 //! Calls on queues. Those that put a message spend its name; those that take one return a new name.
-ghost use Rattle.std.specs.Prelude.{◌≡◌, Ok, [], ◌∷◌, length};
-ghost use Rattle.strm_named.specs.NamedCalls.{Does, LeavesNames, ServesNamed, any_message, names_of, no_message, on_name, one_message, outcome_of, some_messages, take_flushed, take_flushed_band, with_names};
+ghost use Rattle.std.specs.Prelude.{◌≡◌, ◌+◌, ◌-◌, ◌^◌, ◌<◌, ◌≤◌, Ok, [], ◌∷◌, length};
+ghost use Rattle.strm_named.specs.NamedCalls.{Does, LeavesNames, ServesNamed, TakesEachNamed, any_message, names_of, no_message, on_name, one_message, outcome_of, some_messages, take_flushed, take_flushed_band, with_names};
 ghost use Rattle.strm_pool.specs.PoolValue.{on_queues, queued_blocks_of};
 ghost use Rattle.strm_queue.specs.HeadCalls as by_head;
 ghost use Rattle.strm_queue.specs.QueueCalls as queues;
+ghost use Rattle.strm_queue.specs.Taking.{IsRunOver};
 ghost use Rattle.strm_queue.specs.QueueCalls.{IsBurstPlace};
 ghost use Rattle.strm_scheduler.specs.Laws.{AreKeptAwake, hold};
 
@@ -111,6 +112,28 @@ impl NamedPool {
     {
         let given = self.pool.getq(queue);
         self.places.answer_any(given)
+    }
+
+    /// Removes the first messages of a queue, each as [`NamedPool::getq`] does, at most as many as `into` has room for from place
+    /// `from` on. Stores their names there, and returns the place after the last one. It stops before the last message of a rank,
+    /// and where the want-to-read mark is set or a band is wanted; call `getq` before it. As [`Queues::getq_run`] of strm_queue.
+    #[inline(always)]
+    pub fn getq_run(&mut self, queue: u8, into: &mut [Name], from: usize) -> usize
+        requires { from ≤ length into.old }
+        ensures takes { TakesEachNamed
+            (λ v. outcome_of (on_queues v.pool (queues.getq queue (queued_blocks_of v.pool)))) from
+            self.old self.new into.old into.new result }
+        ensures over { result < length into.old → result < from + (2 ^ 32 - 1)
+            → IsRunOver queue (queued_blocks_of self.new.pool) }
+    {
+        let most = (into.len() - from).min(MOST_TAKEN) as u32;
+        let mut naming = Naming {
+            places: &mut self.places,
+            names: into,
+            count: from,
+        };
+        let taken = self.pool.getq_run(queue, most, &mut naming);
+        from + taken as usize
     }
 
     /// Removes the message at `place` of a queue, counted from 0, and returns its new name. Refused as `NoSuchQueue`, then

@@ -143,6 +143,46 @@ fn takes_what_a_flush_of_a_band_would_free(rt: HostRuntime) {
     assert_taken(&rt, taken, &into, missing, &names);
 }
 
+// `getq_run` from this place on has stored names up to that one.
+fn assert_run(
+    rt: &impl Abort,
+    pool: &mut NamedPool,
+    into: &mut [Name; 4],
+    run: (usize, usize),
+    names: [Name; 4],
+) {
+    let end = pool.getq_run(0, into, run.0);
+    assert!(rt; end == run.1 && *into == names);
+}
+
+// Queue 0 has messages with heads 1, 0, 2, 3 and 4, all of one rank. After `getq`, those before the last one are taken together, as many
+// as fit.
+#[test]
+fn takes_messages_of_a_rank_together(rt: HostRuntime) {
+    let mut pool = opened(&rt, rt.alloc(), 1);
+    filled(&rt, &mut pool);
+    for bytes in [b"four", b"five"] {
+        let next = message(&rt, &mut pool, bytes);
+        assert_put(&rt, &mut pool, 0, next, Ok(()));
+    }
+    let none = name(9, 9);
+    let mut into = [none; 4];
+    assert_run(&rt, &mut pool, &mut into, (0, 0), [none; 4]);
+    assert_got(&rt, &mut pool, Some(name(1, 2)));
+    assert_run(&rt, &mut pool, &mut into, (4, 4), [none; 4]);
+    let names = [none, none, none, name(0, 2)];
+    assert_run(&rt, &mut pool, &mut into, (3, 4), names);
+    assert_invalid(&rt, &mut pool, name(0, 1));
+    let names = [none, name(2, 2), name(3, 2), name(0, 2)];
+    assert_run(&rt, &mut pool, &mut into, (1, 3), names);
+    assert_run(&rt, &mut pool, &mut into, (0, 0), names);
+    assert_census(&rt, &pool, (3, 1, 4));
+    assert_got(&rt, &mut pool, Some(name(4, 2)));
+    for taken in [1, 0, 2, 3, 4] {
+        assert_freed(&rt, &mut pool, name(taken, 2), Ok(()));
+    }
+}
+
 #[test]
 fn records_wishes(rt: HostRuntime) {
     let mut pool = opened(&rt, rt.alloc(), 1);

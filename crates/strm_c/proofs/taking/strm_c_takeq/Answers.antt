@@ -2,7 +2,7 @@ use Rattle.std.proofs.Common.{[], Ok, length, sym, ap, ◌∙◌, subst, rules}
 use Rattle.strm_named.specs.NamedCalls.{Does, some_messages, take_flushed}
 use Rattle.strm_c.specs.Codes.{number_returned, value_written}
 use Rattle.strm_c.specs.InC.{capped_number}
-use Rattle.strm_c.proofs.Ranging.{ranged}
+use Rattle.strm_c.proofs.Renaming.{ranged}
 use Rattle.strm_c.proofs.taking.strm_c_takeq.Goals as goal
 
 pub returns-clause-count : goal.returns-clause-count

@@ -3,7 +3,7 @@ use Rattle.strm_named.specs.NamedCalls.{Does, some_messages, take_flushed_band}
 use Rattle.strm_c.specs.Codes.{number_returned, value_written}
 use Rattle.strm_c.specs.InC.{capped_number}
 use Rattle.std.specs.Option.{option_zip}
-use Rattle.strm_c.proofs.Ranging.{ranged}
+use Rattle.strm_c.proofs.Renaming.{ranged}
 use Rattle.strm_c.proofs.taking.strm_c_takeq_band.Goals as goal
 
 pub returns-clause-count : goal.returns-clause-count
