@@ -46,9 +46,9 @@ pub struct Data {
 #[derive(Clone, Copy, Debug)]
 struct Class {
     spec: ClassSpec,
-    first: u32,
+    first: u16,
     // The fewest that were free.
-    least: u32,
+    least: u16,
 }
 
 #[derive(Clone, Copy, Debug)]
@@ -59,7 +59,7 @@ struct DataBlock {
     references: u8,
 }
 
-const _: () = prove!(size_of::<Class>() == 16 && size_of::<DataBlock>() == 4);
+const _: () = prove!(size_of::<Class>() == 12 && size_of::<DataBlock>() == 4);
 
 const _: () = prove!(size_of::<Data>() == 120 && size_of::<Vec<u8>>() == 24);
 
@@ -77,15 +77,15 @@ impl Class {
         ensures start { result ≡ start_in self number }
         ensures low { result + 2 ^ 32 ≤ 2 ^ 64 }
     {
-        (number - self.first) as usize * self.spec.size as usize
+        (number - u32::from(self.first)) as usize * self.spec.size as usize
     }
 
     // Notes that this many of its data blocks are free.
     fn note(&mut self, free: u32)
         ensures { self.new ≡ record self.old { least = min self.old.least free } }
     {
-        if free < self.least {
-            self.least = free;
+        if free < u32::from(self.least) {
+            self.least = free as u16;
         }
     }
 }
@@ -221,12 +221,13 @@ fn free_lists(alloc: Global, specs: &[ClassSpec]) -> Result<Stacks, AllocError>
 fn reset(classes: &mut [Class], free: &Stacks)
     requires few { length classes.old ≤ most_classes }
     requires lists { length free.now.lists ≡ length classes.old }
+    requires short { (k : ℕ) → k < length classes.old → length (list_at k free.now) ≤ most_data_blocks }
     ensures specs { map (λ k. k.spec) classes.new ≡ map (λ k. k.spec) classes.old }
     ensures firsts { map (λ k. k.first) classes.new ≡ map (λ k. k.first) classes.old }
     ensures least { map (λ k. k.least) classes.new ≡ map length free.now.lists }
 {
     for number in 0..classes.len() {
-        classes[number].least = free.len(number as u32);
+        classes[number].least = free.len(number as u32) as u16;
     }
 }
 
@@ -261,10 +262,10 @@ impl Data {
         let mut regions = Vec::with_capacity(alloc, specs.len())?;
         let mut blocks = Vec::with_capacity(alloc, total_of(specs) as usize)?;
         for spec in specs {
-            let first = blocks.len() as u32;
+            let first = blocks.len() as u16;
             add_blocks(&mut blocks, classes.len() as u16, spec.count)?;
             regions.push(vec![in alloc; 0; spec.size as usize * spec.count as usize]?)?;
-            let least = spec.count;
+            let least = spec.count as u16;
             classes.push(Class {
                 spec: *spec,
                 first,
@@ -472,7 +473,7 @@ impl Data {
     pub fn least_free(&self, class: u8) -> Option<u32>
         ensures { result ≡ slice_get self.now.store.least class }
     {
-        Some(self.classes.get(usize::from(class))?.least)
+        Some(u32::from(self.classes.get(usize::from(class))?.least))
     }
 
     /// Makes the data blocks that are free now the fewest that were free, for each class. All else stays unchanged. Takes a

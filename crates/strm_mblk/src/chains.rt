@@ -88,7 +88,7 @@ impl Chains {
         requires { head < length self.now.held }
         ensures { result ≡ is_some (held_in self.now.held head) }
     {
-        self.strands.begins_chain(head) && self.heads.list_of(head).is_none()
+        self.heads.list_of(head).is_none() && self.strands.begins_chain(head)
     }
 
     // All messages by their heads, held or on shelves, to look at.
