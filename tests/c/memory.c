@@ -157,7 +157,18 @@ static void fill(struct setting *setting, size_t classes, size_t queues, uint32_
 	setting->config.first_id = 1;
 }
 
-/* Opens, uses and closes a pool whose pieces are watched. */
+/* The bytes of all pieces that were asked for. */
+static size_t pieces_bytes(void)
+{
+	size_t bytes = 0;
+	int i;
+
+	for (i = 0; i < asked; i++)
+		bytes += pieces[i].size;
+	return bytes;
+}
+
+/* Opens, uses and closes a pool whose pieces are watched. Beside them its memory has what the region takes for itself, and nothing. */
 static void open_watched(const struct strm_config *config, struct arena *arena)
 {
 	struct strm_allocator allocator = allocator_of(arena);
@@ -169,6 +180,7 @@ static void open_watched(const struct strm_config *config, struct arena *arena)
 	ANSWERS(strm_memory(config, &bytes), STRM_OK);
 	ANSWERS(strm_open_with(&pool, config, &allocator), STRM_OK);
 	CHECK(arena->asked_bytes == bytes && arena->kept == 1);
+	CHECK(pieces_bytes() + strm_region_more(config) == bytes);
 	watched = 0;
 	ANSWERS(strm_freemsg(&pool, message(&pool, "strm")), STRM_OK);
 	watched = 1;

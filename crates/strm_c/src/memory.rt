@@ -13,7 +13,7 @@ use crate::opening::config_of;
 use strm_pool::{ClassSpec, Config};
 
 // The bytes for a pool itself, and for each message block, queue, size class and, beside its own bytes, data block.
-const POOL: usize = 908;
+const POOL: usize = 916;
 
 const MESSAGE_BLOCK: usize = 68;
 
