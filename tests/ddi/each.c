@@ -421,8 +421,9 @@ static int by_size(const void *one, const void *other)
 	return (*(const double *)one > *(const double *)other) - (*(const double *)one < *(const double *)other);
 }
 
-/* Three modules more are six stops more. At times the machine has half its speed, for both lines: so this is the median by which the longer one takes
- * longer in pairs of short runs, of the time that the shorter one takes in the fastest ones, without the few that a clock makes too fast. */
+/* Three modules more are six stops more. At times the machine has half its speed, for both lines. So this takes pairs of short runs, and the median by
+ * which the longer line takes longer, as a part of the shorter one's time. From that line's fastest runs, without the few that a clock makes too fast,
+ * comes the time. */
 static void print_stops(void)
 {
 	static double shorter[2][PAIRS], more[2][PAIRS];

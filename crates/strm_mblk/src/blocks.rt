@@ -284,8 +284,8 @@ impl Blocks {
         Ok(self.allocb_from(size, supply))
     }
 
-    /// Returns the class from which `allocb` takes a data block for this size, and for how many calls: the lesser of the number
-    /// of the class's free data blocks and that of the free message blocks. Changes nothing.
+    /// Returns the class from which `allocb` takes a data block for this size, and for how many calls. That is the lesser of two
+    /// numbers: of the class's free data blocks, and of the free message blocks. Changes nothing.
     ///
     /// Refused as `allocb` would be. Takes at most two steps for each class.
     #[inline(always)]

@@ -92,7 +92,7 @@ impl Sides {
     }
 
     /// Law: each queue with a next queue is on the run list, or rests for one of three reasons. It has no message and its
-    /// want-to-read mark is set; its first message is not of high priority and that band is wanted on the next queue; or it waits
+    /// want-to-read mark is set. Its first message is not of high priority, and that band is wanted on the next queue. It waits
     /// for blocks, which are not free. Does nothing.
     pub fn lawful(&self)
         ensures { AreKept self.now }
@@ -130,7 +130,8 @@ impl Sides {
         &self.pool
     }
 
-    /// Says whether a queue rests because the blocks that a module needs for its first message are not free.
+    /// Says whether a queue waits for the blocks that a module needs for its first message, which are not free. It rests until they
+    /// are, unless a greater message has enabled it since.
     pub fn is_short(&self, queue: u8) -> bool
         ensures { result ≡ is_some (need_at self.now.waits queue) }
     {

@@ -40,8 +40,8 @@ struct Drawn {
     count: u8,
     shape: Shape,
     draw: u32,
-    // How often a message waited after a run, how often one was held back, a message that was taken woke a queue that waited for a
-    // block, one was given, and one was taken; how often a writer was given.
+    // How often after a run a message waited, and how often one was held back. How often a message that was taken woke a queue that
+    // waited for a block. How often a message was given, was taken, and a writer was given.
     waited: u32,
     held: u32,
     woken: u32,
