@@ -3,7 +3,7 @@
 //! In UNIX System V Release 4 STREAMS each block of a message links to the next one. That links are numbers into one
 //! arena is this project's own choice. So is that a chain's first node stores its last node and its length: two chains of
 //! any length are joined in constant time.
-ghost use Rattle.std.specs.Prelude.{◌≡◌, ◌≢◌, ℕ, ◌+◌, ◌-◌, ◌^◌, ◌<◌, ◌≤◌, ◌++◌, ◌==◌, nat_lt, drop, is_none, is_some, length, map, reverse, take, false, if◌then◌else◌, IfOk, IfSome, IsSome, IsTrue, slice_get, slice_set, vec_len};
+ghost use Rattle.std.specs.Prelude.{◌≡◌, ◌≢◌, ℕ, ◌+◌, ◌-◌, ◌^◌, ◌<◌, ◌≤◌, ◌++◌, ◌==◌, ◌&&◌, nat_lt, drop, is_none, is_some, length, map, reverse, take, false, if◌then◌else◌, IfOk, IfSome, IsSome, IsTrue, slice_get, slice_set, vec_len};
 ghost use Rattle.std.specs.List.{range_with_len};
 ghost use Rattle.strm_links.specs.Rows.{IsApart, first, first_or, has, last};
 ghost use Rattle.strm_links.specs.Layout.{LeadsOn};
@@ -253,6 +253,16 @@ impl Strands {
         ensures { result ≡ is_some (chain_in self.now.chains head) }
     {
         self.nodes[head as usize].span.len > 0
+    }
+
+    /// Says whether a chain of this many nodes, which are some, begins with this node. Changes nothing.
+    #[inline(always)]
+    pub fn begins_chain_of(&self, head: u32, len: u32) -> bool
+        requires head { head < length self.now.chains }
+        requires some { 0 < len }
+        ensures { result ≡ (is_some (chain_in self.now.chains head) && length (strand_at self.now head) == len) }
+    {
+        self.nodes[head as usize].span.len == len
     }
 
     /// Returns the number of nodes of the chain with this head. Changes nothing.

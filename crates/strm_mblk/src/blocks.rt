@@ -178,11 +178,11 @@ impl Blocks {
     pub fn has(&self, token: &Token) -> bool
         ensures { result ≡ has self.now token.now }
     {
+        token.lawful();
         let head = token.head();
         token.pool() == self.id
             && (head as usize) < self.blocks.len()
-            && self.chains.is_held(head)
-            && self.chains.len(head) == token.blocks()
+            && self.chains.holds(head, token.blocks())
     }
 
     /// Returns a class's size and numbers of data blocks, as [`Data::class_info`] of strm_data. Changes nothing.
@@ -261,7 +261,8 @@ impl Blocks {
 
     // Makes the token of a held message with this number of blocks.
     fn token_of(&self, head: u32, blocks: u32) -> Token
-        requires { blocks ≡ length (message_at self.now head) }
+        requires number { blocks ≡ length (message_at self.now head) }
+        requires some { 0 < blocks }
         ensures { result ≡ token_of self.now head }
     {
         Token::of(TokenValue {

@@ -1,6 +1,6 @@
 //! Messages, held or on shelves, as chains of block numbers, and the free message blocks. `Blocks` adds its id, the
 //! data blocks and the blocks' fields.
-ghost use Rattle.std.specs.Prelude.{◌≡◌, ◌≢◌, ℕ, ◌+◌, ◌<◌, ◌≤◌, ◌++◌, IfOk, IfSome, IsSome, IsTrue, None, Some, [], ◌∷◌, drop, is_some, length, min, reverse, slice_get, slice_set, take};
+ghost use Rattle.std.specs.Prelude.{◌≡◌, ◌&&◌, ◌==◌, ◌≢◌, ℕ, ◌+◌, ◌<◌, ◌≤◌, ◌++◌, IfOk, IfSome, IsSome, IsTrue, None, Some, [], ◌∷◌, drop, is_some, length, min, reverse, slice_get, slice_set, take};
 ghost use Rattle.std.specs.Option.{ForSome};
 ghost use Rattle.strm_links.specs.Rows.{IsParting, after, before, first, has, holder, last, list_at, put_in};
 ghost use Rattle.strm_links.specs.StrandLists.{strand_at};
@@ -82,13 +82,14 @@ impl Chains {
         self.least = self.strands.free_len();
     }
 
-    // Whether a held message begins with this message block.
+    // Whether a held message of this many blocks, one at least, begins with this message block.
     #[inline(always)]
-    pub(crate) fn is_held(&self, head: u32) -> bool
-        requires { head < length self.now.held }
-        ensures { result ≡ is_some (held_in self.now.held head) }
+    pub(crate) fn holds(&self, head: u32, blocks: u32) -> bool
+        requires head { head < length self.now.held }
+        requires some { 0 < blocks }
+        ensures { result ≡ (is_some (held_in self.now.held head) && length (nodes_at self.now head) == blocks) }
     {
-        self.heads.list_of(head).is_none() && self.strands.begins_chain(head)
+        self.strands.begins_chain_of(head, blocks) && self.heads.list_of(head).is_none()
     }
 
     // All messages by their heads, held or on shelves, to look at.
@@ -102,11 +103,12 @@ impl Chains {
         &self.strands
     }
 
-    // The number of blocks of a held message.
+    // The number of blocks of a held message, one at least.
     #[inline(always)]
     pub(crate) fn len(&self, head: u32) -> u32
         requires { IsSome (held_in self.now.held head) }
-        ensures { result ≡ length (nodes_at self.now head) }
+        ensures number { result ≡ length (nodes_at self.now head) }
+        ensures some { 0 < result }
     {
         self.strands.len(head)
     }

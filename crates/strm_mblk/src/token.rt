@@ -1,5 +1,5 @@
 //! Tokens: the right to a held message.
-ghost use Rattle.std.specs.Prelude.{◌≡◌};
+ghost use Rattle.std.specs.Prelude.{◌≡◌, ◌<◌};
 
 use std::marker::Model;
 
@@ -28,15 +28,19 @@ pub struct Token {
 
 impl Model for Token {
     ghost use Rattle.strm_mblk.specs.declared.token.TokenValue.{TokenValue};
+    ghost use Rattle.std.specs.Prelude.{◌<◌};
 
     ghost Value = { TokenValue };
 
     ghost view = { λ t. t.value };
+
+    ghost invariant = { λ t. 0 < t.value.blocks };
 }
 
 impl Token {
     // Makes a token of this value. Only calls that give a message use it.
     pub(crate) fn of(value: TokenValue) -> Token
+        requires { 0 < value.blocks }
         ensures { result ≡ value }
     {
         Token { value }
@@ -52,6 +56,7 @@ impl Token {
 
     // Sets the number of blocks.
     pub(crate) fn set_blocks(&mut self, blocks: u32)
+        requires { 0 < blocks }
         ensures { self.new ≡ record self.old { blocks = blocks } }
     {
         self.value.blocks = blocks;
@@ -93,5 +98,12 @@ impl Token {
         ensures { result ≡ self.now.blocks }
     {
         self.value.blocks
+    }
+
+    // Law: a message has one block at least. Does nothing.
+    pub(crate) fn lawful(&self)
+        ensures { 0 < self.now.blocks }
+    {
+        let _ = &self.value;
     }
 }

@@ -39,6 +39,12 @@ impl Twin {
         self.strands.begins_chain(head)
     }
 
+    // Says whether a chain of this many nodes begins with this node.
+    fn begins_chain_of(&self, rt: &impl Abort, head: u32, len: u32) -> bool {
+        assert!(rt; head < NODES && len > 0);
+        self.strands.begins_chain_of(head, len)
+    }
+
     // Asserts that a chain begins with this node.
     fn assert_chain(&self, rt: &impl Abort, head: u32)
         ensures { IsSome (chain_in self.now.strands.chains head) }
@@ -142,8 +148,11 @@ impl Twin {
     // Asserts that a chain begins with a node exactly if its plain list has nodes, and reads as that list.
     fn compare_at(&self, rt: &impl Abort, head: u32) {
         let plain = self.plain.list(rt, head);
+        let len = plain.len() as u32;
         assert!(rt; self.begins_chain(rt, head) != plain.is_empty());
+        assert!(rt; !self.begins_chain_of(rt, head, len + 1));
         if !plain.is_empty() {
+            assert!(rt; self.begins_chain_of(rt, head, len));
             self.compare(rt, head, plain);
         }
     }

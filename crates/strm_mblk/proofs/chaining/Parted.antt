@@ -9,7 +9,7 @@ use Rattle.std.specs.Option.{option_map_or}
 use Rattle.std.proofs.lemmas.List.Concat.{flat_map-append}
 use Rattle.std.proofs.lemmas.List.Folds.{flat_map-map}
 use Rattle.std.proofs.Math.Nat.{min-le_right}
-use Rattle.std.proofs.lemmas.Bool.{false≢true}
+use Rattle.std.proofs.lemmas.Bool.{cases_Bool, false≢true}
 use Rattle.strm_links.specs.Rows.{Rows, has, first, after, before, list_at, holder, next_in, previous_in, IsApart, linked_nodes}
 use Rattle.strm_links.specs.Chains.{items_of, chains_joined, chain_divided, item_taken_out}
 use Rattle.strm_links.specs.StrandLists.{StrandLists, strand_at, IsParted, with_behind_freed}
@@ -30,6 +30,12 @@ use Rattle.std.proofs.lemmas.Grind.{common_steps}
 pub there_is : (o : Option (List ℕ)) (i x : ℕ) → slice_get (items_of o) i ≡ Some x → IsSome o
 there_is None i x at = absurd (none-some x at)
 there_is (Some ns) i x at = refl
+
+-- a test that fails beside another one fails
+lost : (a x b : Bool) → (a && b) ≡ false → ((a && x) && b) ≡ false
+lost true true b is = is
+lost true false b is = refl
+lost false x b is = refl
 
 -- the number that a list begins with
 first_node : (xs : List ℕ) (x : ℕ) → first xs ≡ Some x → head_node xs ≡ x
@@ -90,6 +96,18 @@ module _ {least : ℕ} (v : StrandLists) (heads : Rows) (laid : IsChained v head
     -- whether a number is seen as held
     pub is_held_at : (h : ℕ) → is_some (held_in w.held h) ≡ (is_some (held_in v.chains h) && not (is_some (holder h heads)))
     is_held_at h = grind (arith, common_steps, held_off, and-true, held_on, and-false)
+
+    -- whether a message of n numbers is seen as held
+    pub holds_at : (h n : ℕ) → (is_some (held_in w.held h) && length (nodes_at w h) == n) ≡ ((is_some (held_in v.chains h) && length (strand_at v h) == n) && not (is_some (holder h heads)))
+    holds_at h n =
+        elim (cases_Bool (is_some (held_in w.held h))) [
+          | inl some ↦
+              (λ i. some i && length (nodes_is h some i) == n) ∙ sym (and-true (true && length (strand_at v h) == n))
+              ∙ sym (λ i. (strand_there h some i && length (strand_at v h) == n) && not (is_some (off h some i)))
+          | inr none ↦
+              (λ i. none i && length (nodes_at w h) == n)
+              ∙ sym (lost (is_some (held_in v.chains h)) (length (strand_at v h) == n) (not (is_some (holder h heads))) (sym (is_held_at h) ∙ none))
+        ]
 
     -- ---- the next block
 

@@ -8,6 +8,7 @@ use Rattle.std.specs.Option.{IfSome}
 use Rattle.std.proofs.lemmas.Option.{same_Some, none-some}
 use Rattle.std.proofs.lemmas.List.FromFn.{length-range_with_len}
 use Rattle.strm_links.specs.Rows.{Rows, has, list_at, holder, linked_nodes, first, IsParting, without, put_before, put_in}
+use Rattle.strm_links.specs.Chains.{items_of}
 use Rattle.strm_links.specs.StrandLists.{StrandLists, strand_at, IsParted, opening_strands}
 use Rattle.strm_links.proofs.lists.OneList.{absent_parts, has-append, has_cases, has_head, has_tail, number_of}
 use Rattle.strm_links.proofs.lists.AllLists.{holder_has, holder_none, has_linked, holder-empty}
@@ -112,6 +113,15 @@ module _ (v : StrandLists) (heads : Rows) where
 -- a held message begins with its head
 pub begins_with : (v : NodeLists) → IsNodesParted v → (h : ℕ) (ns : List ℕ) → held_in v.held h ≡ Some ns → first ns ≡ Some h
 begins_with v parted h ns held = subst (λ o. IfSome o (λ m. first m ≡ Some h)) held (parted.heads h)
+
+-- and has it
+begun_some : (h : ℕ) (o : Option (List ℕ)) → IsSome o → IfSome o (λ m. first m ≡ Some h) → 0 < length (items_of o)
+begun_some h None some is = absurd (false≢true some)
+begun_some h (Some []) some is = absurd (none-some h is)
+begun_some h (Some (n ∷ ns)) some is = omega arith
+
+pub held_some : (v : NodeLists) → IsNodesParted v → (h : ℕ) → IsSome (held_in v.held h) → 0 < length (items_of (held_in v.held h))
+held_some v parted h some = begun_some h (held_in v.held h) some (parted.heads h)
 
 -- a held message lies in range
 pub held_room : (v : NodeLists) (h : ℕ) (ns : List ℕ) → held_in v.held h ≡ Some ns → h < length v.held

@@ -52,10 +52,10 @@ invariant_of-self c =
     let is = is_allocated (goal.at.invariant_of-self c).After-index_mut in
     still_whole c.self.inside _ c.args.self.now c.self.invariant c.self.view_is refl is.begun.filled is.begun.shelved
 
-pub token_of-requires : goal.token_of-requires
-token_of-requires c =
+pub token_of-requires-clause-number : goal.token_of-requires-clause-number
+token_of-requires-clause-number c =
     let n = c.begin_all-head.result in
-    let is = is_allocated (goal.at.token_of-requires c).After-index_mut in
+    let is = is_allocated (goal.at.token_of-requires-clause-number c).After-index_mut in
     let free = first_rest c.args.self.now.free n (ap (λ (a : Arena). first a.free) (sym c.self.view_is) ∙ c.begin_all-head.ensures.answer) in
     sym (ap (λ o. length (blocks_of o)) is.begun.held ∙ ap (λ ns. length (blocks_renumbered (take 1 ns) (new_block n c.take_from-data_number.result ∷ []))) free)
 

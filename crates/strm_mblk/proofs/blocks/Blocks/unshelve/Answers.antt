@@ -52,10 +52,10 @@ invariant_of-self c =
       queued = omega (arith, c.len-blocks.ensures, c.self.invariant.queued, ap (λ a. length (shelved_blocks a)) c.self.view_is, is.queued);
     }
 
-pub token_of-requires : goal.token_of-requires
-token_of-requires c =
+pub token_of-requires-clause-number : goal.token_of-requires-clause-number
+token_of-requires-clause-number c =
     let ns = nodes_at c.unshelve.new.self c.args.head in
-    c.len-blocks.ensures ∙ sym (ap length (message_at-seen c.self.inside.id c.self.inside.data.store c.self.inside.blocks.items c.unshelve.new.self c.args.head) ∙ length-map ns (block_at c.self.inside.blocks.items))
+    c.len-blocks.ensures.number ∙ sym (ap length (message_at-seen c.self.inside.id c.self.inside.data.store c.self.inside.blocks.items c.unshelve.new.self c.args.head) ∙ length-map ns (block_at c.self.inside.blocks.items))
 
 pub returns : goal.returns
 returns c =
