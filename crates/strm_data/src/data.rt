@@ -82,10 +82,12 @@ impl Class {
 
     // Notes that this many of its data blocks are free.
     fn note(&mut self, free: u32)
+        requires { free ≤ most_data_blocks }
         ensures { self.new ≡ record self.old { least = min self.old.least free } }
     {
-        if free < u32::from(self.least) {
-            self.least = free as u16;
+        let free = free as u16;
+        if free < self.least {
+            self.least = free;
         }
     }
 }

@@ -5,7 +5,16 @@ use Rattle.strm_data.specs.declared.class_spec.ClassSpec.{ClassSpec}
 use Rattle.strm_data.specs.declared.data.Class.{Class}
 use Rattle.strm_data.specs.declared.data.DataBlock.{DataBlock}
 use Rattle.strm_data.specs.DataLayout.{no_class, block_at, class_at, region_at, values_below, store_of_parts, IsPlaced}
-use Rattle.strm_data.proofs.store.Kept.{get_or-map_all}
+use Rattle.strm_data.specs.CountedStore.{CountedStore, IsKept}
+use Rattle.strm_data.specs.DataStore.{free_of, no_class_spec}
+use Rattle.strm_data.specs.Limits.{most_data_blocks}
+use Rattle.strm_data.proofs.layout.Opened.{total_of_more}
+use Rattle.strm_data.proofs.store.Kept.{free_within, get_or-map_all}
+use Rattle.strm_data.proofs.store.Lawful.{lawful_total}
+
+-- no class has more free data blocks than there may be
+pub free_limited : (s : CountedStore) → IsKept s → (c : ℕ) → c < length s.store.classes → length (free_of s.store c) ≤ most_data_blocks
+free_limited s kept c there = omega (arith, free_within s kept c, total_of_more s.store.classes c no_class_spec there, lawful_total s.store.classes kept.lawful)
 
 -- classes that differ in these numbers alone
 pub record AreAlike (new old : List Class) : Type 0 where

@@ -1,14 +1,12 @@
-use Rattle.std.proofs.Common.{◌≡◌, List, ℕ, ◌<◌, arith, length, map, sym, ap, ◌∙◌, subst}
+use Rattle.std.proofs.Common.{◌≡◌, List, ℕ, arith, length, map, sym, ap, ◌∙◌, subst}
 use Rattle.std.specs.Vec.{with_items}
 use Rattle.std.proofs.lemmas.List.{length-map, with_items_is}
 use Rattle.strm_data.specs.declared.data.Class.{Class}
 use Rattle.strm_data.specs.CountedStore.{CountedStore, IsKept}
 use Rattle.strm_data.specs.DataLayout.{bytes_of, store_of, store_of_parts, IsPlaced}
-use Rattle.strm_data.specs.DataStore.{IsLeast, no_class_spec, with_data_reset}
-use Rattle.strm_data.proofs.layout.Opened.{total_of_more}
-use Rattle.strm_data.proofs.store.Lawful.{lawful_total}
-use Rattle.strm_data.proofs.layout.Least.{AreAlike, IsPlaced-alike, seen_alike}
-use Rattle.strm_data.proofs.store.Kept.{IsKept-least, IsLeast-reset, free_within}
+use Rattle.strm_data.specs.DataStore.{IsLeast, with_data_reset}
+use Rattle.strm_data.proofs.layout.Least.{AreAlike, free_limited, IsPlaced-alike, seen_alike}
+use Rattle.strm_data.proofs.store.Kept.{IsKept-least, IsLeast-reset}
 use Rattle.strm_data.proofs.data.Data.reset_least.Goals as goal
 use Rattle.strm_data.proofs.data.Data.reset_least.Goals.{After-reset}
 
@@ -49,9 +47,7 @@ module _ (c : After-reset) where
 pub reset-requires-clause-short : goal.reset-requires-clause-short
 reset-requires-clause-short c k within =
     let s = store_of c.self.inside in
-    let specs = s.store.classes in
-    let there : k < length specs = omega (arith, within, length-map c.self.inside.classes.items (λ (x : Class). x.spec), ap length c.deref_mut.ensures.value) in
-    omega (arith, free_within s c.self.invariant.kept k, total_of_more specs k no_class_spec there, lawful_total specs c.self.invariant.kept.lawful)
+    free_limited s c.self.invariant.kept k (omega (arith, within, length-map c.self.inside.classes.items (λ (x : Class). x.spec), ap length c.deref_mut.ensures.value))
 
 pub returns-clause-after : goal.returns-clause-after
 returns-clause-after c = after (goal.at.returns-clause-after c).After-reset

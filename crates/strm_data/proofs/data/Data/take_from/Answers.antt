@@ -3,9 +3,10 @@ use Rattle.strm_links.specs.Rows.{Rows}
 use Rattle.strm_data.specs.declared.msg_type.MsgType.TheVariants.{MData}
 use Rattle.strm_data.specs.CountedStore.{CountedStore, IsKept}
 use Rattle.strm_data.specs.DataStore.{IsClassFor, IsLeast, IsTakenFrom, free_of}
+use Rattle.strm_data.proofs.layout.Least.{free_limited}
 use Rattle.strm_data.proofs.layout.Alterations.{class_taken, free_there, front_is, left_taken, unused, room, taken, placed_taken}
 use Rattle.strm_data.proofs.store.Kept.{IsKept-take, IsLeast-take}
-use Rattle.strm_data.proofs.store.Lawful.{IsTakenFrom-class}
+use Rattle.strm_data.proofs.store.Lawful.{IsTakenFrom-class, class_there}
 use Rattle.strm_data.proofs.data.Data.take_from.Goals.{After-len-left}
 use Rattle.strm_data.proofs.data.Data.take_from.Goals as goal
 
@@ -15,6 +16,16 @@ kept c = subst IsKept c.self.view_is c.self.invariant.kept
 -- the size takes from the class
 found : (c : After-len-left) → IsTakenFrom c.args.size c.args.self.now.store c.args.class
 found c = IsTakenFrom-class c.args.size c.args.self.now.store (kept c).lists c.args.class c.requires.class c.requires.some
+
+pub note-requires : goal.note-requires
+note-requires c =
+    let at = (goal.at.note-requires c).After-len-left in
+    omega (
+      arith,
+      c.len-left.ensures,
+      ap (λ (s : CountedStore). length (free_of s.store c.args.class)) c.self.view_is,
+      free_limited c.args.self.now (kept at) c.args.class (omega (arith, (kept at).lists, class_there c.args.self.now.store c.args.class c.requires.some)),
+    )
 
 pub take_front-number-requires-clause-some : goal.take_front-number-requires-clause-some
 take_front-number-requires-clause-some c =
