@@ -115,8 +115,9 @@ impl NamedPool {
     }
 
     /// Removes the first messages of a queue, each as [`NamedPool::getq`] does, at most as many as `into` has room for from place
-    /// `from` on. Stores their names there, and returns the place after the last one. It stops before the last message of a rank,
-    /// and where the want-to-read mark is set or a band is wanted; call `getq` before it. As [`Queues::getq_run`] of strm_queue.
+    /// `from` on, and 2^32 - 1. Stores their names there, and returns the place after the last one. It may stop before the last
+    /// message of a rank, and where the want-to-read mark is set or a band is wanted; call `getq` before it. As
+    /// [`Queues::getq_run`] of strm_queue.
     #[inline(always)]
     pub fn getq_run(&mut self, queue: u8, into: &mut [Name], from: usize) -> usize
         requires { from ≤ length into.old }

@@ -93,8 +93,8 @@ impl Pool {
     }
 
     /// Removes the first messages of a queue, at most `most`, each as [`Pool::getq`] does. Their tokens go to `into`, and their
-    /// number is returned. It stops before the last message of a rank, and where the want-to-read mark is set or a band is wanted;
-    /// call `getq` before it. As [`Queues::getq_run`] of strm_queue.
+    /// number is returned. It may stop before the last message of a rank, and where the want-to-read mark is set or a band is
+    /// wanted; call `getq` before it. As [`Queues::getq_run`] of strm_queue.
     #[inline(always)]
     pub fn getq_run<R: Receiver>(&mut self, queue: u8, most: u32, into: &mut R) -> u32
         ensures takes { TakesEach arena R.receives (λ v. on_queues v (queues.getq queue (queued_blocks_of v))) most

@@ -50,9 +50,9 @@ impl Queues {
     /// Removes the first messages of a queue, at most `most`, each as [`Queues::getq`] does. Their tokens go to `into`, and their
     /// number is returned. What is stored of the queue is written once.
     ///
-    /// It stops before the last message of the first one's rank. It removes none if there is no such queue, if the want-to-read mark is
-    /// set, which `getq` clears, or if a band is wanted. So a caller takes turns: `getq`, then this. Takes a step for each block of the
-    /// messages. This project's own call.
+    /// It removes fewer than `most` only if it comes to where there is no such queue or no message, the want-to-read mark is set, which
+    /// `getq` clears, a band is wanted, or the first message is the last of its rank. So a caller takes turns: `getq`, then this.
+    /// Takes a step for each block of the messages. This project's own call.
     #[inline(always)]
     #[tactic(auto, using(crate::proofs::moving::Fronts::takes_none))]
     pub fn getq_run<R: Receiver>(
