@@ -3,6 +3,7 @@ use Rattle.std.proofs.Common.{◌≡◌, ◌≢◌, ℕ, zero, suc, ◌+◌, ◌
 use Rattle.std.specs.Prelude.{is_some, nat_lt, slice_get}
 use Rattle.std.specs.List.{All}
 use Rattle.std.proofs.lemmas.Bool.{cases_eq, eqb-false, eqb-true, false≢true}
+use Rattle.std.proofs.lemmas.Option.{none-some, same_Some}
 use Rattle.std.proofs.lemmas.List.Elements.{All-nil, All-push, All-same, All-weaker}
 use Rattle.strm_links.specs.Rows as rows
 use Rattle.strm_pool.specs.PoolValue.{PoolValue, has_queue, queued_blocks_of}
@@ -211,6 +212,15 @@ left_within budget (Some services) turns is = subst (λ b. IfSome b (λ most. se
 pub left_spent : (budget left : Option ℕ) (turns : List Bool) → is_spent left ≡ true → IsLeft budget left turns → budget ≡ Some (services_of turns)
 left_spent budget None turns none is = absurd (false≢true none)
 left_spent budget (Some services) turns none is = let zero_is = eqb-true services 0 none in is ∙ ap (λ (k : ℕ). Some k) (omega (arith, zero_is))
+
+-- if there were as many services as the budget, nothing is left of it
+pub left_done : (budget left : Option ℕ) (turns : List Bool) → IsLeft budget left turns → budget ≡ Some (services_of turns) → is_spent left ≡ true
+left_done budget None turns is all = absurd (none-some (services_of turns) (sym is ∙ all))
+left_done budget (Some services) turns is all = done services (same_Some (services + services_of turns) (services_of turns) (sym is ∙ all))
+  where
+    done : (k : ℕ) → k + services_of turns ≡ services_of turns → is_spent (Some k) ≡ true
+    done zero same = refl
+    done (suc k) same = absurd (omega (arith, same))
 
 -- without a budget, none is left
 pub left_without : (budget left : Option ℕ) (turns : List Bool) → IsLeft budget left turns → left ≡ None → budget ≡ None

@@ -192,6 +192,8 @@ pub record IsRunWith {M : Type 0} (needs : Needs M) (treats : Treats M) (budget 
   pub taken : AreTurns needs treats turns m v module_left pool_left
   pub within : IfSome budget (λ most. services_of turns ≤ most)
   pub spent : ended ≡ Spent → budget ≡ Some (services_of turns)
+  -- once there were as many services as the budget, no queue has another turn
+  pub stops : budget ≡ Some (services_of turns) → (ended ≡ Spent) ⊎ (ended ≡ Idle)
   pub ends : IsEnded needs turns module_left pool_left ended k w
   pub moved : AreMoved (turns_moves needs treats turns m v module_left pool_left taken) v.arena w.arena
   pub order : PassesEach treats → KeepsOrder v w

@@ -55,8 +55,7 @@ abbrev pub fault_from : ℕ → List QueueSpec → Option SidesFault
 fault_from q [] = None
 fault_from q (s ∷ specs) = or_fault (fault_of_queue q s.service s.next) (fault_from (q + 1) specs)
 
--- The first fault of the sides is returned, before any memory is taken. If there is none, the pool opens, or its fault is
--- returned.
+-- The first fault of the sides is returned. If there is none, the pool opens, or its fault is returned.
 abbrev pub SidesOpen : Config → Result SidesValue SidesFault → Type 0
 SidesOpen c (Ok v) = (fault_from 0 c.queues ≡ None) × Opens c (Ok v.pool) × NoneWaits v.waits
 SidesOpen c (Err (NoNext q)) = fault_from 0 c.queues ≡ Some (NoNext q)

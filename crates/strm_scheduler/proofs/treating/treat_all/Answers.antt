@@ -1,5 +1,5 @@
 -- One more queue was served, or found held back. At the end, each one on the run list is held back, or the budget is spent.
-use Rattle.std.proofs.Common.{◌<◌, ap, arith, false, length, refl, subst, suc, sym, true, zero, [], ◌∷◌, ◌∙◌}
+use Rattle.std.proofs.Common.{inl, inr, ◌<◌, ap, arith, false, length, refl, subst, suc, sym, true, zero, [], ◌∷◌, ◌∙◌}
 use Rattle.std.proofs.lemmas.Bool.{false≢true}
 use Rattle.std.specs.Option.{is_some}
 use Rattle.strm_scheduler.specs.Waits.{work_left}
@@ -8,7 +8,7 @@ use Rattle.strm_scheduler.specs.Modules.{IsTurned, turns_moves}
 use Rattle.strm_scheduler.specs.Steps.{AreMoved}
 use Rattle.strm_scheduler.proofs.Accounting.{turns_moved}
 use Rattle.strm_scheduler.proofs.Beginning.{order_more, served_more, served_none}
-use Rattle.strm_scheduler.proofs.Holding.{IsLeft, last_all, last_more, last_none, left_none, left_served, left_spent, left_within, left_without, none_long, place_past, place_within, served_left, turned_left}
+use Rattle.strm_scheduler.proofs.Holding.{IsLeft, left_done, last_all, last_more, last_none, left_none, left_served, left_spent, left_within, left_without, none_long, place_past, place_within, served_left, turned_left}
 use Rattle.strm_scheduler.proofs.treating.treat_all.Goals as goal
 
 pub loop-left-init : goal.loop-left-init
@@ -42,6 +42,7 @@ returns-then-is_spent-clause-ran g c =
       taken = before.turns.1;
       within = left_within c.args.budget c.loop-left.left before.turns.0 before.turns.2;
       spent = λ is. left_spent c.args.budget c.loop-left.left before.turns.0 spent before.turns.2;
+      stops = λ all. inl refl;
       ends = (refl, refl, omega (arith, here), before.turns.3 ∙ before.fresh spent);
       moved = turns_moved g.M.Module.needs g.M.Module.treats before.turns.0 c.args.handler.now c.args.pool.now c.loop-left.handler c.loop-left.pool before.turns.1 c.lawful.ensures.shelves;
       order = before.order;
@@ -124,6 +125,7 @@ returns-in-Some-2-clause-ran g c =
       taken = before.turns.1;
       within = left_within c.args.budget c.loop-left.left before.turns.0 before.turns.2;
       spent = λ is. absurd (cc);
+      stops = λ all. absurd (false≢true (sym (sym c.is_spent.ensures ∙ c.if-is_spent.false) ∙ left_done c.args.budget c.loop-left.left before.turns.0 before.turns.2 all));
       ends = subst (λ e. IsTurned g.M.Module.needs c.in-Some.held.queue e c.loop-left.handler c.loop-left.pool c.treat_first.new.handler c.treat_first.new.pool) c.if-held.false c.in-Some.ensures.turned;
       moved =
           subst (AreMoved (turns_moves g.M.Module.needs g.M.Module.treats before.turns.0 c.args.handler.now c.args.pool.now c.loop-left.handler c.loop-left.pool before.turns.1) c.args.pool.now.arena)
@@ -149,6 +151,7 @@ returns-then-count-gt0-clause-ran g c =
       taken = before.turns.1;
       within = left_within c.args.budget c.loop-left.left before.turns.0 before.turns.2;
       spent = λ is. absurd (cc);
+      stops = λ done. let none = before.fresh (left_done c.args.budget c.loop-left.left before.turns.0 before.turns.2 done) in absurd (omega (arith, none, c.if-count-gt0.true));
       ends = (refl, refl, omega (arith, c.if-count-gt0.true, all.1), all.0, before.turns.3 ∙ sym all.1);
       moved = turns_moved g.M.Module.needs g.M.Module.treats before.turns.0 c.args.handler.now c.args.pool.now c.loop-left.handler c.loop-left.pool before.turns.1 c.lawful.ensures.shelves;
       order = before.order;
@@ -167,6 +170,7 @@ returns-else-count-gt0-clause-ran g c =
       taken = before.turns.1;
       within = left_within c.args.budget c.loop-left.left before.turns.0 before.turns.2;
       spent = λ is. absurd (cc);
+      stops = λ all. inr refl;
       ends = (refl, refl, none_long c.loop-left.pool.queues.run (omega (arith, long, c.if-count-gt0.false)));
       moved = turns_moved g.M.Module.needs g.M.Module.treats before.turns.0 c.args.handler.now c.args.pool.now c.loop-left.handler c.loop-left.pool before.turns.1 c.lawful.ensures.shelves;
       order = before.order;
