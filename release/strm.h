@@ -199,8 +199,8 @@ extern "C" {
 #endif
 
 /* The version of this header, as a text and as a number. */
-#define STRM_VERSION "0.8.0"
-#define STRM_VERSION_NUMBER 8000
+#define STRM_VERSION "0.9.0"
+#define STRM_VERSION_NUMBER 9000
 
 enum {
 	STRM_OK = 0,			/* done */
