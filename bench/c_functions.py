@@ -5,7 +5,7 @@ import subprocess
 import tempfile
 
 # The columns: rounds of rounds.c, and ways of packets of peers/strm.c, and how each is shown.
-CALLS = {"allocb": "`strm_allocb`, `strm_freemsg`", "putq": "`strm_putq`, `strm_getq`"}
+CALLS = {"allocb": "`strm_allocb`, `strm_freemsg`", "putq": "`strm_putq`, `strm_getq`", "putq_32": "bursts of 32 by `strm_putq_n`, `strm_getq_n`"}
 WAYS = {"in_place_short": "a packet of 64 bytes", "no_copy_long": "a packet of 1,500 bytes, not copied"}
 COLUMNS = {**CALLS, **WAYS}
 COUNTED = 20_000

@@ -215,11 +215,11 @@ def measured(programs, turns):
     shared = fastest(programs, SHARED, turns)
     counts = counted(programs, {**single, **MANY})
     long = [
-        "The time of a message" + (f", of Debian's {', '.join(named)}" if named else "") + ":",
+        "The time of a message" + (f", beside Debian's {', '.join(named)}" if named else "") + ":",
         "",
-        *times_table(peers, CALLS, best, "A work"),
+        *times_table(peers, CALLS, best, "A task"),
         "",
-        f"The time that passes for a message while {THREADS} threads each do the third of these works:",
+        f"The time that passes for a message while {THREADS} threads each do the third of these tasks:",
         "",
         *times_table(peers, SHARED, shared, "The threads have"),
         "",
@@ -227,7 +227,7 @@ def measured(programs, turns):
         "",
         *many_table(peers, fastest(programs, MANY, turns), counts),
     ]
-    return long, list(times_table(peers, WAYS, best, "A packet of")), ["Instructions of a message:", "", *counts_table(peers, single, counts, "A work")]
+    return long, list(times_table(peers, WAYS, best, "A packet of")), ["Instructions of a message:", "", *counts_table(peers, single, counts, "A task")]
 
 
 def main():
