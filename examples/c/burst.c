@@ -29,10 +29,8 @@ static void send_burst(struct strm_pool *pool)
 {
 	struct strm_msg msgs[BURST], next;
 	size_t made, put, at;
-	int code = strm_allocb_n(pool, 4, msgs, BURST, &made);
 
-	if (code != STRM_OK)
-		made = 0; /* it was not stored */
+	strm_allocb_n(pool, 4, msgs, BURST, &made); /* stores 0 if it is refused */
 	for (at = 0; at < made; at++)
 		must(strm_write(pool, msgs[at], 0, "tick", 4));
 	must(strm_putq_n(pool, 0, msgs, made, &put));
