@@ -1081,6 +1081,15 @@ static inline union value of_pointer(const void *at)
 		return code; \
 	}
 
+uint32_t strm_trace_enabled(const struct strm_pool *pool)
+{
+	uint32_t count = 0, queue;
+
+	while (strm_untraced_run_at(pool, count, &queue) == STRM_OK)
+		count++;
+	return count;
+}
+
 /*
  * strm_serve, for which a script has several calls. Each queue that would rest does so by them, ahead of it: then it gives a message at once, or
  * none. So only the stamps of messages that rest are greater than without a trace.
@@ -1088,12 +1097,13 @@ static inline union value of_pointer(const void *at)
 static int serve_by_calls(struct strm_pool *pool, uint32_t held, struct strm_service *service, struct strm_msg *msg)
 {
 	const int is_right = mode == SCRIPT && service != NULL && msg != NULL && (void *)service != (void *)msg;
+	struct traced *traced = strm_traced(pool);
 	struct strm_queue_spec spec;
 	struct strm_queued first;
 	struct strm_msg own;
 	uint32_t queue, yes = 0;
 
-	for (; is_right && strm_untraced_run_at(pool, held, &queue) == STRM_OK; held = 0) {
+	while (is_right && strm_untraced_run_at(pool, held, &queue) == STRM_OK) {
 		strm_untraced_run_at(pool, 0, &queue);
 		strm_untraced_queue_spec(pool, queue, &spec);
 		if (spec.next == STRM_NO_QUEUE)
@@ -1105,6 +1115,8 @@ static int serve_by_calls(struct strm_pool *pool, uint32_t held, struct strm_ser
 		if (strm_getq(pool, queue, &own) == STRM_OK)
 			strm_putbq(pool, queue, own);
 	}
+	if (is_right && traced != NULL)
+		traced->enabled = strm_trace_enabled(pool);
 	return strm_untraced_serve(pool, held, service, msg);
 }
 

@@ -107,7 +107,7 @@ struct traced {
 	char queue_labels[STRM_MOST_QUEUES][MOST_LABEL + 1], (*labels)[MOST_LABEL + 1];
 	struct output out;
 	int is_recorded;
-	uint32_t msgs, unused_count, queue, place, calls;
+	uint32_t msgs, unused_count, queue, place, calls, enabled;
 	uint16_t *first, *next, *unused, *places;
 	uint32_t edited_count;
 	struct strm_msg edited[MOST_MSGS + 1];
@@ -117,8 +117,9 @@ struct traced {
 /* The text of a call is at most this long, without the bytes of a block. */
 #define MOST_LINE 16384
 
-/* The pool of a handle, or null; and the number of this thread. */
+/* The pool of a handle, or null; how many queues are on its run list; and the number of this thread. */
 struct traced *strm_traced(const struct strm_pool *pool);
+uint32_t strm_trace_enabled(const struct strm_pool *pool);
 unsigned strm_trace_thread(void);
 
 /* Appends text to an output, or bytes in hexadecimal. A text that ends with a newline ends a line. */

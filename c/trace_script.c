@@ -457,16 +457,22 @@ static void tell_held(struct traced *traced, const struct traced_call *call, con
 		tell(traced, &enable, values, code);
 }
 
-/* The queue that gave a message was served, and enabled again. */
+/* The queue that gave a message was served, and enabled again. Before, those behind one that this woke go to the end of the run list. */
 static void tell_served(struct traced *traced, const struct traced_call *call, const union value *values)
 {
 	const struct traced_call next = { "strm_next_service(", sizeof "strm_next_service", 0, 2, { call->forms[0], call->forms[2] } };
 	const struct traced_call get = { "strm_getq(", sizeof "strm_getq", 0, 3, { call->forms[0], call->forms[1], call->forms[3] } };
 	const struct traced_call enable = { "strm_qenable(", sizeof "strm_qenable", 0, 2, { call->forms[0], call->forms[1] } };
 	const union value queue = { .number = ((const struct strm_service *)values[2].at)->queue };
+	uint32_t enabled = strm_trace_enabled(&traced->pool), place, other;
 
 	tell(traced, &next, (const union value[]){ values[0], values[2] }, STRM_OK);
 	tell(traced, &get, (const union value[]){ values[0], queue, values[3] }, STRM_OK);
+	for (place = 1; enabled > traced->enabled && place + 1 < enabled; place++) {
+		strm_untraced_run_at(&traced->pool, place, &other);
+		tell(traced, &next, (const union value[]){ values[0], { .at = &other } }, STRM_OK);
+		tell(traced, &enable, (const union value[]){ values[0], { .number = other } }, STRM_OK);
+	}
 	tell(traced, &enable, (const union value[]){ values[0], queue }, STRM_OK);
 }
 

@@ -1868,8 +1868,8 @@ static void test_enabling(void)
 
 /* ---- sides of streams */
 
-/* A pool whose queues are a line: each but the last has a next one and a service procedure. A band is full at 4 bytes. */
-static struct strm_pool opened_line(uint32_t queues)
+/* A pool whose queues are lines of this length: each but the last has a next one and a service procedure. A band is full at 4 bytes. */
+static struct strm_pool opened_lines(uint32_t queues, uint32_t length)
 {
 	struct strm_queue_spec specs[8];
 	struct strm_pool pool = STRM_POOL_INIT;
@@ -1879,8 +1879,8 @@ static struct strm_pool opened_line(uint32_t queues)
 	for (q = 0; q < queues; q++) {
 		specs[q].hiwat = 4;
 		specs[q].lowat = 1;
-		specs[q].service = q + 1 < queues;
-		specs[q].next = q + 1 < queues ? q + 1 : STRM_NO_QUEUE;
+		specs[q].service = (q + 1) % length != 0;
+		specs[q].next = specs[q].service ? q + 1 : STRM_NO_QUEUE;
 	}
 	config.queues = specs;
 	config.queue_count = queues;
@@ -1890,10 +1890,10 @@ static struct strm_pool opened_line(uint32_t queues)
 
 static void test_serving(void)
 {
-	struct strm_pool pool = opened_line(3), others = opened(8);
+	struct strm_pool pool = opened_lines(3, 3), others = opened(8);
 	struct strm_msg a = message(&pool, "a"), b = message(&pool, "bcde"), c = message(&pool, "f"), out = STRM_NO_MSG;
 	struct strm_service service = { 7, 7, 7 };
-	uint32_t queue;
+	uint32_t queue, held, given;
 
 	ANSWERS(strm_serve(&pool, 0, &service, &out), STRM_NONE);
 	ANSWERS(strm_hold(&pool, 3, a), STRM_NO_SUCH_QUEUE);
@@ -1907,7 +1907,7 @@ static void test_serving(void)
 	ANSWERS(strm_hold(&pool, service.queue, out), STRM_OK);
 	ANSWERS(strm_hold(&pool, service.queue, out), STRM_INVALID);
 	ANSWERS(strm_putq(&pool, service.next, out), STRM_INVALID);
-	/* held back, it is not served again; if another queue wakes, it is */
+	/* held back, it is not served again, until another queue is enabled too */
 	ANSWERS(strm_serve(&pool, service.held + 1, &service, &out), STRM_NONE);
 	ANSWERS(strm_putq(&pool, 1, message(&pool, "x")), STRM_OK);
 	ANSWERS(strm_serve(&pool, 1, &service, &out), STRM_OK);
@@ -1923,14 +1923,15 @@ static void test_serving(void)
 	ANSWERS(strm_serve(&pool, 0, &service, &out), STRM_OK);
 	CHECK(service.queue == 1 && has_bytes(&pool, out, "a"));
 	ANSWERS(strm_putq(&pool, 2, out), STRM_OK);
-	ANSWERS(strm_serve(&pool, 1, &service, &out), STRM_OK);
+	ANSWERS(strm_serve(&pool, 1, &service, &out), STRM_NONE);
+	ANSWERS(strm_serve(&pool, 0, &service, &out), STRM_OK);
 	CHECK(service.queue == 1 && service.held == 0 && has_bytes(&pool, out, "bcde"));
 	ANSWERS(strm_run_at(&pool, 0, &queue), STRM_OK);
 	CHECK(queue == 0);
 	CENSUS(&pool, 21, 2, 1);
 	ANSWERS(strm_close(&pool), STRM_OK);
-	/* while queue 2 is held back, queue 1 wakes queue 0, so that none is held back any more */
-	pool = opened_line(4);
+	/* while queue 2 is held back, queue 1 wakes queue 0, which comes first: so both are at the end once queue 1 is held back, too */
+	pool = opened_lines(4, 4);
 	ANSWERS(strm_putq(&pool, 1, message(&pool, "abcd")), STRM_OK);
 	ANSWERS(strm_next_service(&pool, &queue), STRM_OK);
 	ANSWERS(strm_putq(&pool, 0, message(&pool, "w")), STRM_OK);
@@ -1940,7 +1941,21 @@ static void test_serving(void)
 	ANSWERS(strm_serve(&pool, 0, &service, &out), STRM_OK);
 	ANSWERS(strm_hold(&pool, service.queue, out), STRM_OK);
 	ANSWERS(strm_serve(&pool, service.held + 1, &service, &out), STRM_OK);
-	CHECK(service.queue == 1 && service.held == 0);
+	CHECK(service.queue == 1 && service.held == 1);
+	ANSWERS(strm_run_at(&pool, 0, &queue), STRM_OK);
+	CHECK(queue == 0);
+	ANSWERS(strm_hold(&pool, service.queue, out), STRM_OK);
+	ANSWERS(strm_serve(&pool, service.held + 1, &service, &out), STRM_NONE);
+	ANSWERS(strm_close(&pool), STRM_OK);
+	/* on two lines, queues that are held back wake those behind, and each gives its message once */
+	pool = opened_lines(6, 3);
+	for (queue = 0; queue < 5; queue += queue == 1 ? 2 : 1)
+		ANSWERS(strm_putq(&pool, queue, message(&pool, "abcd")), STRM_OK);
+	for (held = given = 0; given < 9 && strm_serve(&pool, held, &service, &out) == STRM_OK; given++) {
+		ANSWERS(strm_hold(&pool, service.queue, out), STRM_OK);
+		held = service.held + 1;
+	}
+	CHECK(given == 2 && held == 2);
 	ANSWERS(strm_close(&pool), STRM_OK);
 	/* a queue without a next one stays first on the run list */
 	ANSWERS(strm_putq(&others, 2, message(&others, "a")), STRM_OK);

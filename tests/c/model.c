@@ -1347,13 +1347,13 @@ static int has_given(struct model *v, const struct call *call, uint32_t queue)
 	return 0;
 }
 
-/* Serves all but the last queues of the run list, as many as the call's place says, until one gives a message. */
+/* Serves all but the last queues of the run list, as many as the call's place says, until one gives a message. A queue that this woke comes first. */
 static struct reply served(struct model *v, const struct call *call)
 {
 	struct reply reply = reply_of(TOLD_SERVICE);
-	uint32_t held = call->place, before, queue;
+	uint32_t before, queue, last;
 
-	for (; v->run_count > held; held = 0) {
+	while (v->run_count > call->place) {
 		queue = v->run[0];
 		before = v->run_count;
 		if (v->queues[queue].spec.next == STRM_NO_QUEUE)
@@ -1361,10 +1361,15 @@ static struct reply served(struct model *v, const struct call *call)
 		served_next(v);
 		if (!has_given(v, call, queue))
 			continue;
+		if (v->run_count == before) {
+			last = v->run[before - 1];
+			memmove(v->run + 1, v->run, (before - 1) * sizeof *v->run);
+			v->run[0] = last;
+		}
 		enabled(v, queue);
 		reply.numbers[0] = queue;
 		reply.numbers[1] = v->queues[queue].spec.next;
-		reply.numbers[2] = v->run_count == before ? held : 0;
+		reply.numbers[2] = call->place;
 		return reply;
 	}
 	return reply_of(NOTHING);

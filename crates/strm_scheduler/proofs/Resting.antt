@@ -1,8 +1,8 @@
 -- Queues that are held back for blocks leave the run list and rest, and are woken when their wait is over.
-use Rattle.std.proofs.Common.{◌≡◌, ◌≢◌, ◌⊎◌, ℕ, zero, suc, ◌+◌, ◌<◌, ◌≤◌, inl, inr, Bool, true, false, ◌&&◌, ◌||◌, List, [], ◌∷◌, length, map, Option, Some, None, refl, sym, ap, ◌∙◌, subst, arith, if◌then◌else◌, ◌-◌, not, ◌==◌, ◌++◌, drop, set, Ok, Err, append-nil, append_assoc, get_or-set_other, get_or-set_same}
+use Rattle.std.proofs.Common.{◌≡◌, ◌≢◌, ◌⊎◌, ℕ, zero, suc, ◌+◌, ◌<◌, ◌≤◌, inl, inr, Bool, true, false, ◌&&◌, ◌||◌, List, [], ◌∷◌, length, map, Option, Some, None, refl, sym, ap, ◌∙◌, subst, arith, if◌then◌else◌, ◌-◌, not, ◌==◌, ◌++◌, drop, set, Ok, Err, append-nil, append_assoc, get_or-set_other, get_or-set_same, take, take-append-drop, nat_eq}
 use Rattle.std.specs.Prelude.{is_some}
 use Rattle.std.proofs.lemmas.Bool.{and_parts, cases_eq, cases_lt, eqb-true, false≢true, ltb-false, ne_eqb, not-true, or_cases, or_parts}
-use Rattle.std.proofs.lemmas.List.{get_or_past, length-map}
+use Rattle.std.proofs.lemmas.List.{get_or_past, length-map, length-take-le}
 use Rattle.std.proofs.lemmas.Option.{none-some, same_Some}
 use Rattle.strm_links.specs.Rows as rows
 use Rattle.strm_mblk.specs.Arena.{Arena}
@@ -24,10 +24,11 @@ use Rattle.strm_mblk.specs.Given.{Given, value_after}
 use Rattle.strm_pool.specs.Lawful.{IsLawful}
 use Rattle.strm_queue.specs.QueueCalls.{has_queue, next_service, qenable, with_state}
 use Rattle.strm_queue.specs.QueuedBlocks.{QueuedBlocks}
-use Rattle.strm_scheduler.specs.Modules.{Needs, with_run}
-use Rattle.strm_scheduler.specs.Steps.{with_queue_enabled}
+use Rattle.strm_scheduler.specs.Modules.{Needs}
+use Rattle.strm_scheduler.specs.Steps.{with_queue_enabled, with_run}
 use Rattle.strm_scheduler.proofs.Beginning.{first_serves, okay, run_below}
 use Rattle.strm_scheduler.proofs.Holding.{enabled_last}
+use Rattle.strm_scheduler.specs.Running.{last_first, with_woken_first}
 
 grows_joined : (s t u : QueueState) → Grows s t → Grows t u → Grows s u
 grows_joined s t u one two = record {
@@ -459,20 +460,57 @@ module _ (waits : List (Option Need)) where
         ∙ ap (with_run ((behind ++ own) ++ not_waiting waits first)) stepped
         ∙ ap (λ r. with_run r v) (append_assoc behind own (not_waiting waits first) ∙ ap (λ r. behind ++ r) (sym (filter-append (λ k. not (is_some (need_at waits k))) (q ∷ []) first)))
 
--- the first queue was taken off, does not wait, and is enabled again
-module _ (waits : List (Option Need)) (v x y : PoolValue) (law : IsLawful v) (q : ℕ) (after : x ≡ with_queued v (next_service (queued_blocks_of v)).1) (first : rows.first v.queues.run ≡ Some q)
-    (none : is_some (need_at waits q) ≡ false) (enabled : y ≡ value_after x (on_queues x (qenable q (queued_blocks_of x)))) where
-  pub rest_on : (p : ℕ) (behind : List ℕ) → v.queues.run ≡ p ∷ behind → y ≡ with_run (behind ++ not_waiting waits (p ∷ [])) v
-  rest_on p behind is =
-      let same : q ≡ p = same_Some q p (sym first ∙ ap rows.first is) in
+-- the first queue was taken off, and is enabled again
+module _ (v x y : PoolValue) (law : IsLawful v) (q : ℕ) (after : x ≡ with_queued v (next_service (queued_blocks_of v)).1) (first : rows.first v.queues.run ≡ Some q)
+    (enabled : y ≡ value_after x (on_queues x (qenable q (queued_blocks_of x)))) where
+  first_is : (p : ℕ) (behind : List ℕ) → v.queues.run ≡ p ∷ behind → q ≡ p
+  first_is p behind is = same_Some q p (sym first ∙ ap rows.first is)
+
+  pub turn_on : (p : ℕ) (behind : List ℕ) → v.queues.run ≡ p ∷ behind → y ≡ with_run (behind ++ p ∷ []) v
+  turn_on p behind is =
       let left : x ≡ with_run behind v = after ∙ ap (λ r. with_run (drop 1 r) v) is in
       let serves = first_serves v p (ap rows.first is) law in
       let once = (subst rows.IsApart is law.once).0 in
-      let own : is_some (need_at waits p) ≡ false = ap (λ k. is_some (need_at waits k)) (sym same) ∙ none in
       enabled ∙ enabled_any q x
-      ∙ (λ i. with_queue_enabled (same i) (left i))
+      ∙ (λ i. with_queue_enabled (first_is p behind is i) (left i))
       ∙ enabled_last p (with_run behind v) serves once
-      ∙ ap (λ b. (let own : List ℕ = if not b then p ∷ [] else [] in with_run (behind ++ own) v)) (sym own)
+
+  -- it does not wait
+  pub rest_on : (waits : List (Option Need)) → is_some (need_at waits q) ≡ false → (p : ℕ) (behind : List ℕ) → v.queues.run ≡ p ∷ behind → y ≡ with_run (behind ++ not_waiting waits (p ∷ [])) v
+  rest_on waits none p behind is =
+      let own : is_some (need_at waits p) ≡ false = ap (λ k. is_some (need_at waits k)) (sym (first_is p behind is)) ∙ none in
+      turn_on p behind is ∙ ap (λ b. (let own : List ℕ = if not b then p ∷ [] else [] in with_run (behind ++ own) v)) (sym own)
+
+-- ---- the first queues of the run list go to its end
+
+-- none does
+pub turn_none : (v : PoolValue) (first behind : List ℕ) → v.queues.run ≡ first ++ behind → length first ≡ 0 → v ≡ with_run (behind ++ first) v
+turn_none v [] behind is none = ap (λ r. with_run r v) (is ∙ sym (append-nil behind))
+turn_none v (x ∷ first) behind is none = absurd (omega (arith, none))
+
+-- one does, and then others
+module _ (v x w : PoolValue) (count : ℕ) (some : 0 < count)
+    (step : (q : ℕ) (behind : List ℕ) → v.queues.run ≡ q ∷ behind → x ≡ with_run (behind ++ q ∷ []) v)
+    (further : (first behind : List ℕ) → x.queues.run ≡ first ++ behind → length first ≡ count - 1 → w ≡ with_run (behind ++ first) x) where
+  pub turn_more : (first behind : List ℕ) → v.queues.run ≡ first ++ behind → length first ≡ count → w ≡ with_run (behind ++ first) v
+  turn_more [] behind is long = absurd (omega (arith, some, long))
+  turn_more (q ∷ first) behind is long =
+      let stepped : x ≡ with_run ((first ++ behind) ++ q ∷ []) v = step q (first ++ behind) is in
+      let run : x.queues.run ≡ first ++ (behind ++ q ∷ []) = ap (λ (p : PoolValue). p.queues.run) stepped ∙ append_assoc first behind (q ∷ []) in
+      further first (behind ++ q ∷ []) run (omega (arith, long))
+      ∙ ap (with_run ((behind ++ q ∷ []) ++ first)) stepped
+      ∙ ap (λ r. with_run r v) (append_assoc behind (q ∷ []) first)
+
+-- the last one comes first
+module _ (v w : PoolValue) (enabled now : ℕ) (here : now ≡ length v.queues.run)
+    (turned : (first behind : List ℕ) → v.queues.run ≡ first ++ behind → length first ≡ now - 1 → w ≡ with_run (behind ++ first) v) where
+  pub turned_first : nat_eq now enabled ≡ true → w ≡ with_woken_first enabled v
+  turned_first same =
+      let run = v.queues.run in
+      let n = length run - 1 in
+      let less : length run - 1 ≤ length run = omega (arith) in
+      turned (take n run) (drop n run) (sym (take-append-drop n run)) (length-take-le n run less ∙ ap (λ k. k - 1) (sym here))
+      ∙ ap (λ b. if b then with_run (last_first run) v else v) (sym (ap (λ k. nat_eq k enabled) (sym here) ∙ same))
 
 -- ---- the table
 

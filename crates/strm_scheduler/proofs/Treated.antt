@@ -27,8 +27,8 @@ use Rattle.strm_mblk.specs.Calls.{TakesAny}
 use Rattle.strm_mblk.proofs.arena.Counts.{had_is}
 use Rattle.strm_pool.proofs.Tokens.{has_here}
 use Rattle.strm_scheduler.specs.declared.starting.Service.{Service}
-use Rattle.strm_scheduler.specs.Running.{IsBlocked, IsGiven, IsRested, still_held}
-use Rattle.strm_scheduler.proofs.Holding.{kept_enabled}
+use Rattle.strm_scheduler.specs.Running.{IsBlocked, IsGiven, IsRested, with_woken_first}
+use Rattle.strm_scheduler.proofs.Holding.{kept_enabled, serving_woken, woken_arena}
 
 -- queues with the same state, store and shelves are awake alike
 awake_alike : (v w : QueuedBlocks) → w.queues ≡ v.queues → w.arena.store ≡ v.arena.store → w.arena.shelves ≡ v.arena.shelves → (q n : ℕ) → is_awake v q n ≡ true → is_awake w q n ≡ true
@@ -277,27 +277,28 @@ module _ (q n : ℕ) (v x : PoolValue) (begun : IsBegun q n v x) where
         omega (arith, less, ap powers begun.run)
 
   -- it gives the message of token t
-  module _ (t : TokenValue) (left : PoolValue) (taken : IsTaken q n t x left) (w : PoolValue) (after : w ≡ with_queue_enabled q left) where
+  module _ (t : TokenValue) (left : PoolValue) (taken : IsTaken q n t x left) (enabled : ℕ) (w : PoolValue) (after : w ≡ with_queue_enabled q (with_woken_first enabled left)) where
     arena_after : w.arena ≡ left.arena
-    arena_after = ap (λ (p : PoolValue). p.arena) after
+    arena_after = ap (λ (p : PoolValue). p.arena) after ∙ woken_arena enabled left
 
     had_after : has w.arena t ≡ true
     had_after = ap (λ (a : Arena). has a t) arena_after ∙ taken.had
 
     pub gives_awake : AreKeptAwake v → AreKeptAwake w
-    gives_awake kept = subst AreKeptAwake (sym after) (kept_enabled q n left (serving_taken q n x begun.lawful (begun.serving kept) t left taken))
+    gives_awake kept =
+        subst AreKeptAwake (sym after) (kept_enabled q n (with_woken_first enabled left) (serving_woken q n enabled left (serving_taken q n x begun.lawful (begun.serving kept) t left taken)))
 
-    pub gives : (held enabled : ℕ) → enabled ≡ length v.queues.run → (s : Service) → s ≡ record { queue = q; next = n; held = still_held held enabled (length w.queues.run) } → IsGiven held s t v w
-    gives held enabled count s is =
+    pub gives : (held : ℕ) → enabled ≡ length v.queues.run → (s : Service) → s ≡ record { queue = q; next = n; held = held } → IsGiven held s t v w
+    gives held count s is =
         subst (λ (k : Service). IsGiven held k t v w) (sym is)
         (record {
           first = begun.first;
           goes_on = begun.next;
           left = left;
           taken = subst (λ (p : PoolValue). IsTaken q n t p left) begun.after taken;
-          after = after;
+          after = after ∙ ap (λ k. with_queue_enabled q (with_woken_first k left)) count;
           had = had_after;
-          held_is = ap (λ k. still_held held k (length w.queues.run)) count;
+          held_is = refl;
         })
 
     -- the held messages are those of u, and this one

@@ -13,7 +13,7 @@ use Rattle.strm_queue.specs.declared.queued_info.QueuedInfo.{QueuedInfo}
 use Rattle.strm_queue.specs.QueueCalls.{next_service}
 use Rattle.strm_queue.specs.QueueLooks.{info_of_message, queued_at}
 use Rattle.strm_scheduler.specs.Needs.{are_free, can_be_free}
-use Rattle.strm_scheduler.specs.Steps.{AreMoved, AreSteps, Move, PassOne, Put, Step, ranked, steps_moves, take_off, with_queue_enabled}
+use Rattle.strm_scheduler.specs.Steps.{AreMoved, AreSteps, Move, PassOne, Put, Step, ranked, steps_moves, take_off, with_queue_enabled, with_run}
 use Rattle.strm_scheduler.specs.Sides.{KeepsOrder, next_of}
 use Rattle.strm_scheduler.specs.Running.{IsServed}
 use Rattle.strm_scheduler.specs.Serving.{IsTaken}
@@ -113,10 +113,6 @@ pub record IsFirstTreated {M : Type 0} (needs : Needs M) (treats : Treats M) (m 
   pub goes_on : next_of v.queues.specs queue ≡ Some next
   pub met : IsMet needs m queue (with_queued v (next_service (queued_blocks_of v)).1)
   pub treated : IsQueueTreated needs treats queue next m (with_queued v (next_service (queued_blocks_of v)).1) k w
-
--- the pool with another run list
-abbrev pub with_run : List ℕ → PoolValue → PoolValue
-with_run run v = record v { queues = record v.queues { run = run } }
 
 -- the first queue of the run list was held back, and is the last one now
 pub record IsTurned {M : Type 0} (needs : Needs M) (queue : ℕ) (ever : Bool) (m : M) (v : PoolValue) (k : M) (w : PoolValue) : Type 0 where

@@ -1,5 +1,5 @@
 -- Serving the queues on the run list, one after another.
-use Rattle.std.specs.Prelude.{◌≡◌, ◌<◌, ◌≤◌, ◌⊎◌, ℕ, zero, suc, false, nat_eq, IsTrue, length, Option, None, Some, if◌then◌else◌}
+use Rattle.std.specs.Prelude.{◌≡◌, ◌<◌, ◌≤◌, ◌⊎◌, ◌-◌, ◌++◌, ℕ, zero, suc, false, nat_eq, IsTrue, List, drop, take, length, Option, None, Some, if◌then◌else◌}
 use Rattle.std.specs.Option.{option_map_or}
 use Rattle.strm_links.specs.Rows as rows
 use Rattle.strm_mblk.specs.declared.token.TokenValue.{TokenValue}
@@ -11,7 +11,7 @@ use Rattle.strm_scheduler.specs.declared.starting.Service.{Service}
 use Rattle.strm_scheduler.specs.Forwarding.{all_forwarded, handed_on}
 use Rattle.strm_scheduler.specs.Serving.{IsTaken}
 use Rattle.strm_scheduler.specs.Sides.{next_of}
-use Rattle.strm_scheduler.specs.Steps.{with_queue_enabled}
+use Rattle.strm_scheduler.specs.Steps.{with_queue_enabled, with_run}
 
 -- queue q was served: its messages were forwarded to its next queue, as far as they may go
 abbrev pub with_queue_served : ℕ → QueuedBlocks → QueuedBlocks
@@ -46,34 +46,34 @@ pub record IsRested (v w : PoolValue) : Type 0 where
   pub stays : handed_on queue next (next_service (queued_blocks_of v)).1 ≡ (false, queued_blocks_of w)
   pub wishes : w.wishes ≡ v.wishes
 
--- how many queues are held back, by how many were on the run list before and are now: none if another queue woke
-abbrev pub still_held : ℕ → ℕ → ℕ → ℕ
-still_held held before now = if nat_eq now before then held else 0
+-- the last of these queues comes first
+abbrev pub last_first : List ℕ → List ℕ
+last_first run = drop (length run - 1) run ++ take (length run - 1) run
 
--- The first queue of the run list was taken off it. Its first message, which could go on, is held, and the queue was enabled again.
+-- The queue that woke, if one did, is the first of the run list. This number of queues was enabled before.
+abbrev pub with_woken_first : ℕ → PoolValue → PoolValue
+with_woken_first enabled v = if nat_eq (length v.queues.run) enabled then with_run (last_first v.queues.run) v else v
+
+-- The first queue of the run list was taken off it. Its first message, which could go on, is held. A queue that this woke is the first
+-- then, and the queue is the last one again, behind those that are held back.
 pub record IsGiven (held : ℕ) (s : Service) (t : TokenValue) (v w : PoolValue) : Type 0 where
   pub first : rows.first v.queues.run ≡ Some s.queue
   pub goes_on : next_of v.queues.specs s.queue ≡ Some s.next
   pub left : PoolValue
   pub taken : IsTaken s.queue s.next t (with_queued v (next_service (queued_blocks_of v)).1) left
-  pub after : w ≡ with_queue_enabled s.queue left
+  pub after : w ≡ with_queue_enabled s.queue (with_woken_first (length v.queues.run) left)
   pub had : IsTrue (has w.arena t)
-  pub held_is : s.held ≡ still_held held (length v.queues.run) (length w.queues.run)
-
--- how many queues are held back once this number of others rest: as many as before, if none does
-abbrev pub held_yet : ℕ → ℕ → ℕ
-held_yet held zero = held
-held_yet held (suc count) = 0
+  pub held_is : s.held ≡ held
 
 -- This number of queues, one after another, were the first of the run list, and rest. They are not held back.
 abbrev pub AreRested : ℕ → ℕ → PoolValue → PoolValue → Type 0
 AreRested held zero v w = w ≡ v
-AreRested held (suc count) v w = (x : PoolValue) × AreRested held count v x × (held_yet held count < length x.queues.run) × IsRested x w
+AreRested held (suc count) v w = (x : PoolValue) × AreRested held count v x × (held < length x.queues.run) × IsRested x w
 
 -- Some queues rest. Then only queues that are held back are left on the run list, or another one gave a message.
 abbrev pub Starts : ℕ → PoolValue → Option (Service × TokenValue) → PoolValue → Type 0
-Starts held v None w = (count : ℕ) × AreRested held count v w × (length w.queues.run ≤ held_yet held count)
-Starts held v (Some given) w = (count : ℕ) × (x : PoolValue) × AreRested held count v x × (held_yet held count < length x.queues.run) × IsGiven (held_yet held count) given.0 given.1 x w
+Starts held v None w = (count : ℕ) × AreRested held count v w × (length w.queues.run ≤ held)
+Starts held v (Some given) w = (count : ℕ) × (x : PoolValue) × AreRested held count v x × (held < length x.queues.run) × IsGiven held given.0 given.1 x w
 
 -- the first queue of the run list has no next one, to which its messages could go on
 abbrev pub IsBlocked : PoolValue → Type 0

@@ -83,6 +83,10 @@ pub data Step : Type 0 where
   Flushed : ℕ → Flush → Step
   Enabled : ℕ → Step
 
+-- the pool with another run list
+abbrev pub with_run : List ℕ → PoolValue → PoolValue
+with_run run v = record v { queues = record v.queues { run = run } }
+
 -- queue p is enabled
 abbrev pub with_queue_enabled : ℕ → PoolValue → PoolValue
 with_queue_enabled p v = record v { queues = with_enabled p v.queues }

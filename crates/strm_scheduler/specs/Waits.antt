@@ -9,13 +9,14 @@ use Rattle.strm_pool.specs.PoolValue.{PoolValue, queued_blocks_of}
 use Rattle.strm_queue.specs.declared.queued_info.QueuedInfo.{QueuedInfo}
 use Rattle.strm_queue.specs.Flow.{enabled_where}
 use Rattle.strm_queue.specs.QueueLooks.{queued_at}
-use Rattle.strm_scheduler.specs.Modules.{IsHeldBack, IsRunWith, Needs, Treats, with_run}
+use Rattle.strm_scheduler.specs.Modules.{IsHeldBack, IsRunWith, Needs, Treats}
 use Rattle.strm_scheduler.specs.Needs.{are_free, can_wait}
 use Rattle.strm_scheduler.specs.Laws.{KeepsQueued}
 use Rattle.strm_scheduler.specs.Sides.{NoneWaits, SidesValue, need_at, next_of}
 use Rattle.std.specs.List.{All}
 use Rattle.strm_queue.specs.Limits.{most_queues}
 use Rattle.strm_scheduler.specs.Serving.{times_of, work}
+use Rattle.strm_scheduler.specs.Steps.{with_run}
 
 -- ---- waking
 

@@ -205,9 +205,10 @@ impl Sides {
         }
     }
 
-    /// Serves queues until one gives a message that may go on, and takes that message off; then the queue is enabled again. The
-    /// caller treats the message in calls of its own. It passes it on ([`put`](Sides::put) on `next`), replies (`put` on a queue of
-    /// the other side), frees it, keeps it for later, or puts it back ([`hold`](Sides::hold)). No queue is asleep meanwhile.
+    /// Serves queues until one gives a message that may go on, and takes that message off. Then the queue is enabled again, as the
+    /// last one; a queue that this woke comes first. The caller treats the message in calls of its own. It passes it on
+    /// ([`put`](Sides::put) on `next`), replies (`put` on a queue of the other side), frees it, keeps it for later, or puts it back
+    /// ([`hold`](Sides::hold)). No queue is asleep meanwhile.
     ///
     /// The last `held` queues of the run list are not served: those that the caller holds back. So the caller starts with 0, and
     /// goes on with one more than [`Service::held`] if it has only called `hold`, and otherwise with 0. If no message is returned,

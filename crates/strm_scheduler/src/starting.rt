@@ -1,11 +1,11 @@
 //! The start of a service.
-ghost use Rattle.std.specs.Prelude.{◌≡◌, ◌⊎◌, IfSome, IsTrue, None, [], Ok, length, option_map};
+ghost use Rattle.std.specs.Prelude.{◌≡◌, ◌⊎◌, ◌++◌, ◌∷◌, ℕ, IfSome, IsTrue, List, None, [], Ok, length, option_map};
 ghost use Rattle.strm_mblk.specs.Calls.{TakesAny};
 ghost use Rattle.strm_pool.specs.PoolValue.{arena, has_queue};
 ghost use Rattle.strm_scheduler.specs.Laws.{AreKeptAwake};
-ghost use Rattle.strm_scheduler.specs.Running.{IsBlocked, Serves, Starts, still_held};
+ghost use Rattle.strm_scheduler.specs.Running.{IsBlocked, Serves, Starts, with_woken_first};
 ghost use Rattle.strm_scheduler.specs.Serving.{IsBegun};
-ghost use Rattle.strm_scheduler.specs.Steps.{with_queue_enabled};
+ghost use Rattle.strm_scheduler.specs.Steps.{with_queue_enabled, with_run};
 
 use crate::steps::enable;
 use crate::treating::take_allowed;
@@ -33,43 +33,62 @@ pub fn serve(pool: &mut Pool, held: u32) -> Option<(Service, Token)>
     ensures holds { TakesAny arena (Ok (option_map (λ given. given.1.head) result, pool.new)) pool.old pool.new
         (Ok (option_map (λ given. given.1) result)) }
 {
-    let mut count = held;
-    while pool.run_at(count).is_some() {
+    while pool.run_at(held).is_some() {
         let enabled = count_enabled(pool);
         let Some((queue, next)) = begin(pool) else {
             return None;
         };
         if let Some(token) = take_allowed(pool, queue, next) {
-            return Some((service_of(pool, queue, next, count, enabled), token));
+            return Some((service_of(pool, queue, next, held, enabled), token));
         }
-        count = 0;
     }
     None
 }
 
-// Enables a queue that gave a message again. Returns its service, by how many queues were held back, and on the run list, before.
+// Enables a queue that gave a message again, as the last one, behind those held back. Returns its service.
+#[tactic(auto, using(crate::proofs::Holding::woken_there))]
 fn service_of(pool: &mut Pool, queue: u8, next: u8, held: u32, enabled: u32) -> Service
     requires { IsTrue (has_queue pool.old queue) }
-    ensures pool { pool.new ≡ with_queue_enabled queue pool.old }
-    ensures service { result ≡ record {
-      queue = queue;
-      next = next;
-      held = still_held held enabled (length pool.new.queues.run);
-    } }
+    ensures pool { pool.new ≡ with_queue_enabled queue (with_woken_first enabled pool.old) }
+    ensures service { result ≡ record { queue = queue; next = next; held = held } }
 {
+    put_woken_first(pool, enabled);
     enable(pool, queue);
-    Service {
-        queue,
-        next,
-        held: still_held(held, enabled, count_enabled(pool)),
+    Service { queue, next, held }
+}
+
+// Makes the last queue of the run list the first if the message that was taken off woke it: then as many are enabled as before with
+// the queue that gave the message. So those held back stay together at the end.
+#[tactic(auto, using(crate::proofs::Resting::turned_first))]
+fn put_woken_first(pool: &mut Pool, enabled: u32)
+    ensures { pool.new ≡ with_woken_first enabled pool.old }
+{
+    let now = count_enabled(pool);
+    if now == enabled {
+        turn(pool, now.saturating_sub(1));
     }
 }
 
-// How many queues are held back, by how many were on the run list before and are now.
-fn still_held(held: u32, before: u32, now: u32) -> u32
-    ensures { result ≡ still_held held before now }
+// Moves the first queues of the run list to its end, this number of them.
+fn turn(pool: &mut Pool, count: u32)
+    ensures { (first behind : List ℕ) → pool.old.queues.run ≡ first ++ behind → length first ≡ count
+        → pool.new ≡ with_run (behind ++ first) pool.old }
 {
-    if now == before { held } else { 0 }
+    if count > 0 {
+        turn_first(pool);
+        turn(pool, count - 1);
+    }
+}
+
+// Moves the first queue of the run list to its end.
+fn turn_first(pool: &mut Pool)
+    ensures { (first : ℕ) (behind : List ℕ) → pool.old.queues.run ≡ first ∷ behind
+        → pool.new ≡ with_run (behind ++ first ∷ []) pool.old }
+{
+    pool.lawful();
+    if let Some(queue) = pool.next_service() {
+        let _ = pool.qenable(queue);
+    }
 }
 
 // How many queues are on the run list.

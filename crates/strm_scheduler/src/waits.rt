@@ -1,7 +1,7 @@
 //! Queues that rest because blocks are not free, and what they wait for.
 ghost use Rattle.std.specs.Prelude.{◌≡◌, ◌≢◌, ◌<◌, ◌++◌, ◌∷◌, [], ℕ, List, false, is_some, length, map};
-ghost use Rattle.strm_scheduler.specs.Modules.{with_run};
 ghost use Rattle.strm_scheduler.specs.Sides.{NoneWaits, need_at};
+ghost use Rattle.strm_scheduler.specs.Steps.{with_run};
 ghost use Rattle.strm_scheduler.specs.Waits.{AreEntries, IsEntry, Rests, ended_by, is_over, not_waiting, unless_over, with_queue_woken, with_queues_woken};
 
 use crate::ended::Ended;

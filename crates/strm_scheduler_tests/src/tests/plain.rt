@@ -476,28 +476,29 @@ impl Plain {
             .expect(rt, "no last queue is enabled")
     }
 
-    // Serves queues, but for the last ones of the run list, until one gives a message that may go on, and is enabled again.
+    // Serves queues, but for the last ones of the run list, until one gives a message that may go on, and is enabled again. One
+    // that this woke comes first.
     pub(super) fn give(&mut self, rt: &impl Abort, held: u32) -> Option<Given> {
         self.wake(rt);
-        let mut left = held;
         for _turn in 0..SERVICES {
-            if self.run.len() <= left as usize {
+            if self.run.len() <= held as usize {
                 return None;
             }
             let enabled = self.run.len();
             let queue = self.run.remove(0);
             let next = self.next_of(rt, queue);
             if let Some(message) = self.take_allowed(rt, queue, next) {
+                if self.run.len() == enabled {
+                    self.run.rotate_right(1);
+                }
                 self.enable(rt, queue);
-                let woken = self.run.len() > enabled;
                 return Some(Given {
                     queue,
                     next,
                     message,
-                    held: if woken { 0 } else { left },
+                    held,
                 });
             }
-            left = 0;
         }
         panic!(rt; "a queue neither gives a message nor rests");
     }

@@ -346,8 +346,26 @@ fn a_need_is_never_met(rt: HostRuntime) {
     assert_rows(&rt, rt.alloc(), &wide(), &rows, 1);
 }
 
-// A caller puts messages back in turn, until all queues that are left are held back. A queue that rests, as queue 1 once it is
-// empty, ends the count.
+// A message that is taken off a full queue, and put back, wakes the queue behind. That finds no room, and the other one stays held
+// back.
+#[test]
+fn a_held_back_queue_wakes_another(rt: HostRuntime) {
+    let rows = [
+        Row::Put(0, b'a'),
+        Row::Pass(0, 0, 0),
+        Row::Put(0, b'b'),
+        Row::Hold(0, 1, 0),
+        Row::Woken(0),
+        Row::Rest(1),
+        Row::Sizes([1, 1, 0]),
+        Row::Run(Way::Forward, None),
+        Row::Sizes([0, 1, 1]),
+    ];
+    assert_rows(&rt, rt.alloc(), &narrow(), &rows, 2);
+}
+
+// A caller puts messages back in turn, until all queues that are left are held back. They stay so if another queue rests, as queue
+// 1 once it is empty.
 #[test]
 fn a_caller_holds_back(rt: HostRuntime) {
     let rows = [
@@ -357,7 +375,6 @@ fn a_caller_holds_back(rt: HostRuntime) {
         Row::Hold(0, 0, 0),
         Row::Pass(1, 1, 1),
         Row::Hold(0, 0, 0),
-        Row::Hold(1, 0, 0),
         Row::Rest(1),
         Row::Sizes([1, 0, 1]),
         Row::Run(Way::Forward, None),
