@@ -1097,12 +1097,13 @@ int strm_next_service(struct strm_pool *pool, uint32_t *queue);
 /*
  * Serves queues until one gives a message that may go on to its next queue: one of high priority,
  * or whose band has room there by strm_bcanput. Takes it off, and enables the queue again, as the
- * last one; a queue that this woke comes first. Other queues rest. Then strm_putq on service->next
+ * last one. Other queues rest. One that this wakes comes first. Then strm_putq on service->next
  * passes the message on, strm_putq on another queue replies, strm_freemsg drops it, strm_hold puts
  * it back. The last `held` queues of the run list are not served: begin with 0, and go on with
- * service->held + 1 if only strm_hold and looks were called since, otherwise with 0. Returns
- * STRM_NONE if no other queue is enabled, or if the first one has no next queue; it stays there. No
- * wake-up is lost if exactly the queues with a next queue have a service procedure. Since 0.6.0.
+ * service->held + 1 if only strm_hold on service->queue and looks were called since, otherwise with
+ * 0. Returns STRM_NONE if no other queue is enabled, or the first one has no next queue; it stays
+ * there. No wake-up is lost if exactly the queues with a next queue have a service procedure.
+ * Since 0.6.0.
  * Not in STREAMS.
  */
 int strm_serve(struct strm_pool *pool, uint32_t held, struct strm_service *service, struct strm_msg *msg);

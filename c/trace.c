@@ -1101,7 +1101,7 @@ static int serve_by_calls(struct strm_pool *pool, uint32_t held, struct strm_ser
 	struct strm_queue_spec spec;
 	struct strm_queued first;
 	struct strm_msg own;
-	uint32_t queue, yes = 0;
+	uint32_t queue, enabled, place, yes = 0;
 
 	while (is_right && strm_untraced_run_at(pool, held, &queue) == STRM_OK) {
 		strm_untraced_run_at(pool, 0, &queue);
@@ -1111,9 +1111,14 @@ static int serve_by_calls(struct strm_pool *pool, uint32_t held, struct strm_ser
 		if (strm_untraced_queued_at(pool, queue, 0, &first) == STRM_OK
 		    && (first.type >= STRM_M_IOCACK || (strm_bcanput(pool, spec.next, first.band, &yes) == STRM_OK && yes)))
 			break;
+		enabled = strm_trace_enabled(pool);
 		strm_next_service(pool, &queue);
 		if (strm_getq(pool, queue, &own) == STRM_OK)
 			strm_putbq(pool, queue, own);
+		/* one that woke comes first */
+		for (place = 1; enabled == strm_trace_enabled(pool) && place < enabled; place++)
+			if (strm_next_service(pool, &queue) == STRM_OK)
+				strm_qenable(pool, queue);
 	}
 	if (is_right && traced != NULL)
 		traced->enabled = strm_trace_enabled(pool);

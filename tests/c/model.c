@@ -1347,11 +1347,12 @@ static int has_given(struct model *v, const struct call *call, uint32_t queue)
 	return 0;
 }
 
-/* Serves all but the last queues of the run list, as many as the call's place says, until one gives a message. A queue that this woke comes first. */
+/* Serves all but the last queues of the run list, as many as the call's place says, until one gives a message. A queue that wakes comes first. */
 static struct reply served(struct model *v, const struct call *call)
 {
 	struct reply reply = reply_of(TOLD_SERVICE);
 	uint32_t before, queue, last;
+	int is_given;
 
 	while (v->run_count > call->place) {
 		queue = v->run[0];
@@ -1359,13 +1360,14 @@ static struct reply served(struct model *v, const struct call *call)
 		if (v->queues[queue].spec.next == STRM_NO_QUEUE)
 			break;
 		served_next(v);
-		if (!has_given(v, call, queue))
-			continue;
+		is_given = has_given(v, call, queue);
 		if (v->run_count == before) {
 			last = v->run[before - 1];
 			memmove(v->run + 1, v->run, (before - 1) * sizeof *v->run);
 			v->run[0] = last;
 		}
+		if (!is_given)
+			continue;
 		enabled(v, queue);
 		reply.numbers[0] = queue;
 		reply.numbers[1] = v->queues[queue].spec.next;

@@ -68,6 +68,32 @@ serving_woken q n enabled v s = by_number (nat_eq (length v.queues.run) enabled)
     by_number true = serving_first q n v s
     by_number false = s
 
+kept_first : (v : PoolValue) → AreKeptAwake v → AreKeptAwake (with_run (last_first v.queues.run) v)
+kept_first v kept = record {
+  sides = kept.sides;
+  awake = λ p t next. awake_grown (queued_blocks_of v) (record v.queues { run = last_first v.queues.run }) (record { alone = refl; more = λ r on. last_first_has r v.queues.run on }) p t (kept.awake p t next);
+}
+
+pub kept_woken : (enabled : ℕ) (v : PoolValue) → AreKeptAwake v → AreKeptAwake (with_woken_first enabled v)
+kept_woken enabled v kept = by_number (nat_eq (length v.queues.run) enabled)
+  where
+    by_number : (b : Bool) → AreKeptAwake (if b then with_run (last_first v.queues.run) v else v)
+    by_number true = kept_first v kept
+    by_number false = kept
+
+pub woken_powers : (enabled : ℕ) (v : PoolValue) → powers (with_woken_first enabled v).queues.run ≡ powers v.queues.run
+woken_powers enabled v = by_number (nat_eq (length v.queues.run) enabled)
+  where
+    by_number : (b : Bool) → powers (if b then with_run (last_first v.queues.run) v else v).queues.run ≡ powers v.queues.run
+    by_number true =
+        let run = v.queues.run in
+        let n = length run - 1 in
+        let turned = powers-append (drop n run) (take n run) in
+        let before = powers-append (take n run) (drop n run) in
+        let whole = ap powers (take-append-drop n run) in
+        omega (arith, turned, before, whole)
+    by_number false = refl
+
 pub woken_arena : (enabled : ℕ) (v : PoolValue) → (with_woken_first enabled v).arena ≡ v.arena
 woken_arena enabled v = by_number (nat_eq (length v.queues.run) enabled)
   where

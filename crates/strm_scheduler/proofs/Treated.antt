@@ -28,7 +28,7 @@ use Rattle.strm_mblk.proofs.arena.Counts.{had_is}
 use Rattle.strm_pool.proofs.Tokens.{has_here}
 use Rattle.strm_scheduler.specs.declared.starting.Service.{Service}
 use Rattle.strm_scheduler.specs.Running.{IsBlocked, IsGiven, IsRested, with_woken_first}
-use Rattle.strm_scheduler.proofs.Holding.{kept_enabled, serving_woken, woken_arena}
+use Rattle.strm_scheduler.proofs.Holding.{kept_enabled, kept_woken, serving_woken, woken_arena, woken_powers}
 
 -- queues with the same state, store and shelves are awake alike
 awake_alike : (v w : QueuedBlocks) → w.queues ≡ v.queues → w.arena.store ≡ v.arena.store → w.arena.shelves ≡ v.arena.shelves → (q n : ℕ) → is_awake v q n ≡ true → is_awake w q n ≡ true
@@ -249,32 +249,39 @@ blocked_here v w same k here stops = subst IsBlocked same (elim stops [ inl none
 -- queue q, whose next is queue n, has left the run list of pool v
 module _ (q n : ℕ) (v x : PoolValue) (begun : IsBegun q n v x) where
   -- it rests
-  module _ (w : PoolValue) (ended : handed_on q n (queued_blocks_of x) ≡ (false, queued_blocks_of w)) (rest : KeepsRest x w) where
-    pub rests : IsRested v w
-    rests = record {
+  module _ (left : PoolValue) (ended : handed_on q n (queued_blocks_of x) ≡ (false, queued_blocks_of left)) (rest : KeepsRest x left)
+      (enabled : ℕ) (w : PoolValue) (after : w ≡ with_woken_first enabled left) where
+    pub rests : enabled ≡ length v.queues.run → IsRested v w
+    rests count = record {
       queue = q;
       next = n;
       first = begun.first;
       goes_on = begun.next;
+      left = left;
       stays = ap (λ (p : PoolValue). handed_on q n (queued_blocks_of p)) (sym begun.after) ∙ ended;
       wishes = rest.wishes ∙ ap (λ (p : PoolValue). p.wishes) begun.after;
+      after = after ∙ ap (λ k. with_woken_first k left) count;
     }
 
     pub rests_awake : AreKeptAwake v → AreKeptAwake w
-    rests_awake kept = awake_ended q n x begun.lawful (begun.serving kept) w ended rest.specs
+    rests_awake kept = subst AreKeptAwake (sym after) (kept_woken enabled left (awake_ended q n x begun.lawful (begun.serving kept) left ended rest.specs))
+
+    arena_rested : w.arena ≡ left.arena
+    arena_rested = ap (λ (p : PoolValue). p.arena) after ∙ woken_arena enabled left
 
     pub rests_held : w.arena.held ≡ v.arena.held
-    rests_held = (handed_same q n x w ended).held ∙ ap (λ (p : PoolValue). p.arena.held) begun.after
+    rests_held = ap (λ (a : Arena). a.held) arena_rested ∙ (handed_same q n x left ended).held ∙ ap (λ (p : PoolValue). p.arena.held) begun.after
 
     pub rests_id : w.arena.id ≡ v.arena.id
-    rests_id = (handed_same q n x w ended).id ∙ ap (λ (p : PoolValue). p.arena.id) begun.after
+    rests_id = ap (λ (a : Arena). a.id) arena_rested ∙ (handed_same q n x left ended).id ∙ ap (λ (p : PoolValue). p.arena.id) begun.after
 
     pub rests_less : powers w.queues.run < powers v.queues.run
     rests_less =
+        let same = ap (λ (p : PoolValue). powers p.queues.run) after ∙ woken_powers enabled left in
         let less =
         subst (λ (r : Bool × QueuedBlocks). powers r.1.queues.run < power q + powers x.queues.run) ended
         (handed_powers q n (queued_blocks_of x) begun.lawful.lawful_queues (within x q _ begun.behind begun.lawful.flagged) (ap (λ (r : Bool × QueuedBlocks). r.0) ended)) in
-        omega (arith, less, ap powers begun.run)
+        omega (arith, less, same, ap powers begun.run)
 
   -- it gives the message of token t
   module _ (t : TokenValue) (left : PoolValue) (taken : IsTaken q n t x left) (enabled : ℕ) (w : PoolValue) (after : w ≡ with_queue_enabled q (with_woken_first enabled left)) where

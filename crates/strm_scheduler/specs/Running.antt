@@ -37,15 +37,6 @@ IsServed old new = (count : ℕ) × (new ≡ with_served count old)
 
 -- ---- message by message
 
--- The first queue of the run list was taken off it, and rests: its first message, if any, could not go on.
-pub record IsRested (v w : PoolValue) : Type 0 where
-  pub queue : ℕ
-  pub next : ℕ
-  pub first : rows.first v.queues.run ≡ Some queue
-  pub goes_on : next_of v.queues.specs queue ≡ Some next
-  pub stays : handed_on queue next (next_service (queued_blocks_of v)).1 ≡ (false, queued_blocks_of w)
-  pub wishes : w.wishes ≡ v.wishes
-
 -- the last of these queues comes first
 abbrev pub last_first : List ℕ → List ℕ
 last_first run = drop (length run - 1) run ++ take (length run - 1) run
@@ -53,6 +44,18 @@ last_first run = drop (length run - 1) run ++ take (length run - 1) run
 -- The queue that woke, if one did, is the first of the run list. This number of queues was enabled before.
 abbrev pub with_woken_first : ℕ → PoolValue → PoolValue
 with_woken_first enabled v = if nat_eq (length v.queues.run) enabled then with_run (last_first v.queues.run) v else v
+
+-- The first queue of the run list was taken off it, and rests: its first message, if any, could not go on. A queue that woke as this was
+-- taken off, and put back, is the first.
+pub record IsRested (v w : PoolValue) : Type 0 where
+  pub queue : ℕ
+  pub next : ℕ
+  pub first : rows.first v.queues.run ≡ Some queue
+  pub goes_on : next_of v.queues.specs queue ≡ Some next
+  pub left : PoolValue
+  pub stays : handed_on queue next (next_service (queued_blocks_of v)).1 ≡ (false, queued_blocks_of left)
+  pub wishes : left.wishes ≡ v.wishes
+  pub after : w ≡ with_woken_first (length v.queues.run) left
 
 -- The first queue of the run list was taken off it. Its first message, which could go on, is held. A queue that this woke is the first
 -- then, and the queue is the last one again, behind those that are held back.

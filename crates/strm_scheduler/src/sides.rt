@@ -206,7 +206,7 @@ impl Sides {
     }
 
     /// Serves queues until one gives a message that may go on, and takes that message off. Then the queue is enabled again, as the
-    /// last one; a queue that this woke comes first. The caller treats the message in calls of its own. It passes it on
+    /// last one. Others rest. A queue that this woke comes first. The caller treats the message in calls of its own. It passes it on
     /// ([`put`](Sides::put) on `next`), replies (`put` on a queue of the other side), frees it, keeps it for later, or puts it back
     /// ([`hold`](Sides::hold)). No queue is asleep meanwhile.
     ///

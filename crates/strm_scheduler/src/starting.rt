@@ -41,6 +41,7 @@ pub fn serve(pool: &mut Pool, held: u32) -> Option<(Service, Token)>
         if let Some(token) = take_allowed(pool, queue, next) {
             return Some((service_of(pool, queue, next, held, enabled), token));
         }
+        put_woken_first(pool, enabled);
     }
     None
 }
@@ -57,8 +58,8 @@ fn service_of(pool: &mut Pool, queue: u8, next: u8, held: u32, enabled: u32) -> 
     Service { queue, next, held }
 }
 
-// Makes the last queue of the run list the first if the message that was taken off woke it: then as many are enabled as before with
-// the queue that gave the message. So those held back stay together at the end.
+// Makes the last queue of the run list the first if taking a message off woke it, also one that was put back: then as many are enabled
+// as before with the queue that had the message. So those held back stay together at the end.
 #[tactic(auto, using(crate::proofs::Resting::turned_first))]
 fn put_woken_first(pool: &mut Pool, enabled: u32)
     ensures { pool.new ≡ with_woken_first enabled pool.old }

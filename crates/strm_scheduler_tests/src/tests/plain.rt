@@ -476,8 +476,8 @@ impl Plain {
             .expect(rt, "no last queue is enabled")
     }
 
-    // Serves queues, but for the last ones of the run list, until one gives a message that may go on, and is enabled again. One
-    // that this woke comes first.
+    // Serves queues, but for the last ones of the run list, until one gives a message that may go on, and is enabled again. A queue
+    // that woke meanwhile comes first.
     pub(super) fn give(&mut self, rt: &impl Abort, held: u32) -> Option<Given> {
         self.wake(rt);
         for _turn in 0..SERVICES {
@@ -487,10 +487,11 @@ impl Plain {
             let enabled = self.run.len();
             let queue = self.run.remove(0);
             let next = self.next_of(rt, queue);
-            if let Some(message) = self.take_allowed(rt, queue, next) {
-                if self.run.len() == enabled {
-                    self.run.rotate_right(1);
-                }
+            let taken = self.take_allowed(rt, queue, next);
+            if self.run.len() == enabled {
+                self.run.rotate_right(1);
+            }
+            if let Some(message) = taken {
                 self.enable(rt, queue);
                 return Some(Given {
                     queue,

@@ -76,19 +76,23 @@ loop-pool-preserved c =
     let v = c.loop-pool.pool in
     let x = c.begin.new.pool in
     let begun = c.in-Some.ensures.begun in
-    let w = c.take_allowed.new.pool in
+    let left = c.take_allowed.new.pool in
     let ended = c.in_default-take_allowed.ensures.takes in
     let rest = c.take_allowed.ensures.rest in
+    let enabled = c.count_enabled-enabled.result in
+    let w = c.put_woken_first.new.pool in
+    let after = c.put_woken_first.ensures in
     record {
-      awake = λ kept. rests_awake c.in-Some.queue c.in-Some.next v x begun w ended rest (c.loop-pool.invariant.awake kept);
-      rested = (suc rested.0, (v, rested.1, here, rests c.in-Some.queue c.in-Some.next v x begun w ended rest));
-      held = rests_held c.in-Some.queue c.in-Some.next v x begun w ended rest ∙ c.loop-pool.invariant.held;
-      id = rests_id c.in-Some.queue c.in-Some.next v x begun w ended rest ∙ c.loop-pool.invariant.id;
+      awake = λ kept. rests_awake c.in-Some.queue c.in-Some.next v x begun left ended rest enabled w after (c.loop-pool.invariant.awake kept);
+      rested = (suc rested.0, (v, rested.1, here, rests c.in-Some.queue c.in-Some.next v x begun left ended rest enabled w after c.count_enabled-enabled.ensures));
+      held = rests_held c.in-Some.queue c.in-Some.next v x begun left ended rest enabled w after ∙ c.loop-pool.invariant.held;
+      id = rests_id c.in-Some.queue c.in-Some.next v x begun left ended rest enabled w after ∙ c.loop-pool.invariant.id;
     }
 
 pub loop-pool-smaller : goal.loop-pool-smaller
 loop-pool-smaller c =
     rests_less c.in-Some.queue c.in-Some.next c.loop-pool.pool c.begin.new.pool c.in-Some.ensures.begun c.take_allowed.new.pool c.in_default-take_allowed.ensures.takes c.take_allowed.ensures.rest
+    c.count_enabled-enabled.result c.put_woken_first.new.pool c.put_woken_first.ensures
 
 -- ---- no other queue is enabled
 
