@@ -1957,6 +1957,24 @@ static void test_serving(void)
 	}
 	CHECK(given == 2 && held == 2);
 	ANSWERS(strm_close(&pool), STRM_OK);
+	/* queue 1 cannot give, and wakes queue 0 as it rests: that comes first, so that queue 3, which is held back, is not served again */
+	pool = opened_lines(6, 3);
+	ANSWERS(strm_putq(&pool, 2, message(&pool, "abcd")), STRM_OK);
+	ANSWERS(strm_putq(&pool, 1, message(&pool, "abc")), STRM_OK);
+	ANSWERS(strm_putq(&pool, 1, message(&pool, "d")), STRM_OK);
+	ANSWERS(strm_putq(&pool, 0, message(&pool, "x")), STRM_OK);
+	ANSWERS(strm_serve(&pool, 0, &service, &out), STRM_NONE);
+	ANSWERS(strm_putq(&pool, 3, message(&pool, "y")), STRM_OK);
+	ANSWERS(strm_getq(&pool, 2, &out), STRM_OK);
+	ANSWERS(strm_putq(&pool, 2, out), STRM_OK);
+	ANSWERS(strm_serve(&pool, 0, &service, &out), STRM_OK);
+	CHECK(service.queue == 3);
+	ANSWERS(strm_hold(&pool, service.queue, out), STRM_OK);
+	ANSWERS(strm_serve(&pool, service.held + 1, &service, &out), STRM_NONE);
+	ANSWERS(strm_run_at(&pool, 0, &queue), STRM_OK);
+	CHECK(queue == 3);
+	ANSWERS(strm_run_at(&pool, 1, &queue), STRM_NONE);
+	ANSWERS(strm_close(&pool), STRM_OK);
 	/* a queue without a next one stays first on the run list */
 	ANSWERS(strm_putq(&others, 2, message(&others, "a")), STRM_OK);
 	ANSWERS(strm_serve(&others, 0, &service, &out), STRM_NONE);
