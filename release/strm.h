@@ -21,9 +21,10 @@
  *     held.
  *   - place: of a block, counted from 0 in its message; of a message, from 0 on its queue.
  *   - service procedure: your code for an enabled queue, which strm_next_service returns
- *     (examples/c/service.c). It takes messages off the queue until strm_getq or strm_getq_n returns
- *     STRM_NONE, or until strm_bcanput sets *yes to 0 and it puts one back. If it stops for another
- *     reason, call strm_qenable when it can go on. strm_serve is a loop over such procedures.
+ *     (examples/c/service.c). It takes messages off the queue until strm_getq returns STRM_NONE,
+ *     strm_getq_n gives fewer than `length`, or strm_bcanput sets *yes to 0 and it puts one back. If
+ *     it stops for another reason, call strm_qenable when it can go on. strm_serve is a loop over
+ *     such procedures.
  *   - read place, write place: where the bytes of a message block begin and end in its data block.
  *     Each message block has its own.
  *   - room, headroom: bytes of the data block after the write place, and before the read place.
@@ -41,7 +42,8 @@
  *   - enable: to append a queue to the run list, whose first queue strm_next_service takes. A queue
  *     already on the list, or without a service procedure, is not appended.
  *   - enabling: on in a new queue; strm_noenable switches it off, strm_enableok on.
- *   - want-to-read: a mark that a new queue has, and that strm_getq sets or clears.
+ *   - want-to-read: a mark that a new queue has. strm_getq, strm_getq_n and strm_serve set or clear
+ *     it.
  *   - wish (bufcall): a recorded request for a message block and a data block. strm_take_ready
  *     returns the wish, not the blocks.
  *   - look: a call that changes nothing in the pool. Its handle is `const`. Looks are strm_testb,
@@ -83,7 +85,7 @@
  *      no queued message has the head.
  *
  * With STRM_NONE nothing is stored through pointers, except that strm_freeb and strm_unlinkb set
- * *rest to STRM_NO_MSG. After any code but STRM_OK and STRM_NONE, the pool, names, and what
+ * *rest to STRM_NO_MSG, and _n calls *count to 0. After any code but STRM_OK and STRM_NONE, the pool, names, and what
  * pointers lead to are unchanged, but *count of strm_takeq, strm_takeq_band and _n calls is 0.
  *
  * A call whose name ends in _n makes `length` single calls, or fewer, up to the first that does not
@@ -199,8 +201,8 @@ extern "C" {
 #endif
 
 /* The version of this header, as a text and as a number. */
-#define STRM_VERSION "0.9.0"
-#define STRM_VERSION_NUMBER 9000
+#define STRM_VERSION "0.10.0"
+#define STRM_VERSION_NUMBER 10000
 
 enum {
 	STRM_OK = 0,			/* done */
@@ -997,8 +999,8 @@ int strm_flushband(struct strm_pool *pool, uint32_t queue, uint32_t band, uint32
 
 /*
  * Takes messages off a queue that strm_flushq would free, front to back, at most `length`. Stores
- * their number in *count, 0 if refused, and their names in the array `msgs` of `length` names. The
- * rest of the array is unchanged. Then it settles the queue once. Since 0.5.0.
+ * their number in *count, 0 if refused or there are none, and their names in the array `msgs` of
+ * `length` names. The rest of the array is unchanged. Then it settles the queue once. Since 0.5.0.
  * Not in STREAMS.
  */
 int strm_takeq(struct strm_pool *pool, uint32_t queue, uint32_t flush, struct strm_msg *msgs, size_t length, size_t *count);
@@ -1094,13 +1096,14 @@ int strm_next_service(struct strm_pool *pool, uint32_t *queue);
 
 /*
  * Serves queues until one gives a message that may go on to its next queue: one of high priority,
- * or whose band has room there by strm_bcanput. Takes it off, and enables the queue again. Other
- * queues rest. Then strm_putq on service->next passes the message on, strm_putq on another queue
- * replies, strm_freemsg drops it, strm_hold puts it back. The last `held` queues of the run list
- * are not served: begin with 0, and go on with service->held + 1 if only strm_hold was called
- * since, otherwise with 0. Returns STRM_NONE if no other queue is enabled, or if the first one has
- * no next queue; it stays there. No wake-up is lost if exactly the queues with a next queue have a
- * service procedure. Since 0.6.0.
+ * or whose band has room there by strm_bcanput. Takes it off, and enables the queue again, as the
+ * last one. Other queues rest. One that this wakes comes first. Then strm_putq on service->next
+ * passes the message on, strm_putq on another queue replies, strm_freemsg drops it, strm_hold puts
+ * it back. The last `held` queues of the run list are not served: begin with 0, and go on with
+ * service->held + 1 if only strm_hold on service->queue and looks were called since, otherwise with
+ * 0. Returns STRM_NONE if no other queue is enabled, or the first one has no next queue; it stays
+ * there. No wake-up is lost if exactly the queues with a next queue have a service procedure.
+ * Since 0.6.0.
  * Not in STREAMS.
  */
 int strm_serve(struct strm_pool *pool, uint32_t held, struct strm_service *service, struct strm_msg *msg);
