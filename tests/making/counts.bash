@@ -55,14 +55,9 @@ sum_up() {
     [ "$failed" -eq 0 ]
 }
 
-# Prints what the example in C of this name prints: its section of examples/c/printed.
-printed() {
-    awk -v name="$1" '$1 == "==" { is = $2 == name; found = found || is; next } is; END { exit !found }' "${top:-.}/examples/c/printed"
-}
-
-# Whether a program prints what the example in C of this name prints.
+# Whether a program prints the text beside the example in C of this name.
 prints() {
-    "${@:2}" >"$room/text" && diff -u <(printed "$1") "$room/text"
+    "${@:2}" >"$room/text" && diff -u "${top:-.}/examples/c/$1.text" "$room/text"
 }
 
 # Whether there is a cargo that builds the crate. If not, says that the script leaves out $1.
