@@ -42,7 +42,12 @@ int same_name(struct strm_msg a, struct strm_msg b)
 	return a.pool == b.pool && a.head == b.head && a.stamp == b.stamp;
 }
 
-void open_scene(struct scene *scene, struct strm_pool *pool, struct strm_pool *other, uint32_t id)
+static int opened(struct strm_pool *pool, const struct strm_config *config, const struct strm_allocator *allocator)
+{
+	return allocator != NULL ? strm_open_with(pool, config, allocator) : strm_open(pool, config);
+}
+
+void open_scene_with(struct scene *scene, struct strm_pool *pool, struct strm_pool *other, uint32_t id, const struct strm_allocator *allocator)
 {
 	static const struct strm_class_spec classes[] = { { 16, 12 }, { 64, 4 } };
 	static const struct strm_queue_spec queues[] = { { 10, 4, 1, 1 }, { 10, 4, 1, STRM_NO_QUEUE } };
@@ -57,9 +62,9 @@ void open_scene(struct scene *scene, struct strm_pool *pool, struct strm_pool *o
 	scene->pool = pool;
 	scene->other = other;
 	*pool = *other = closed;
-	ANSWERS(strm_open(pool, &config), STRM_OK);
+	ANSWERS(opened(pool, &config, allocator), STRM_OK);
 	config.id++;
-	ANSWERS(strm_open(other, &config), STRM_OK);
+	ANSWERS(opened(other, &config, allocator), STRM_OK);
 	ANSWERS(strm_allocb(pool, 16, &scene->x), STRM_OK);
 	ANSWERS(strm_reserve(pool, scene->x, 0, 4), STRM_OK);
 	ANSWERS(strm_write(pool, scene->x, 0, "held", 4), STRM_OK);
@@ -78,6 +83,11 @@ void open_scene(struct scene *scene, struct strm_pool *pool, struct strm_pool *o
 	ANSWERS(strm_bcanput(pool, 1, 0, &yes), STRM_OK);
 	ANSWERS(strm_bufcall(pool, 16, &scene->wish), STRM_OK);
 	ANSWERS(strm_bufcall(pool, 16, &scene->wish), STRM_OK);
+}
+
+void open_scene(struct scene *scene, struct strm_pool *pool, struct strm_pool *other, uint32_t id)
+{
+	open_scene_with(scene, pool, other, id, NULL);
 }
 
 void close_scene(struct scene *scene)

@@ -43,6 +43,8 @@ struct scene {
 	struct results results, before;
 };
 
+/* `allocator` may be null. */
+void open_scene_with(struct scene *scene, struct strm_pool *pool, struct strm_pool *other, uint32_t id, const struct strm_allocator *allocator);
 void open_scene(struct scene *scene, struct strm_pool *pool, struct strm_pool *other, uint32_t id);
 void close_scene(struct scene *scene);
 

@@ -216,6 +216,34 @@ static void test_allocb(void)
 	ANSWERS(strm_close(&pool), STRM_OK);
 }
 
+/* Of message blocks, and of data blocks of a class, the one that was freed last is taken first; those never used come by rising numbers. */
+static void test_blocks_taken(void)
+{
+	/* the blocks of the three messages that were freed, the last one first, and then new ones */
+	static const uint32_t wanted[] = { 1, 3, 2, 0, 4, 5 };
+	struct strm_pool pool = opened(8);
+	struct strm_msg msgs[6];
+	struct strm_block_place where;
+	int i;
+
+	for (i = 0; i < 4; i++)
+		msgs[i] = message(&pool, "a");
+	ANSWERS(strm_linkb(&pool, msgs[2], msgs[3]), STRM_OK);
+	ANSWERS(strm_freemsg(&pool, msgs[0]), STRM_OK);
+	ANSWERS(strm_freemsg(&pool, msgs[2]), STRM_OK);
+	ANSWERS(strm_freemsg(&pool, msgs[1]), STRM_OK);
+	for (i = 0; i < 6; i++) {
+		msgs[i] = message(&pool, "a");
+		ANSWERS(strm_place(&pool, msgs[i], 0, &where), STRM_OK);
+		CHECK(msgs[i].head == wanted[i] && where.data == wanted[i]);
+	}
+	/* no data block of the first class is left */
+	ANSWERS(strm_allocb(&pool, 1, &msgs[0]), STRM_OK);
+	ANSWERS(strm_place(&pool, msgs[0], 0, &where), STRM_OK);
+	CHECK(msgs[0].head == 6 && where.data == 6 && where.capacity == 64);
+	ANSWERS(strm_close(&pool), STRM_OK);
+}
+
 static void test_duplicates(void)
 {
 	struct strm_pool pool = opened(5);
@@ -840,6 +868,43 @@ static void test_region(void)
 	ANSWERS(strm_close(&pool), STRM_OK);
 }
 
+/* Each call that gives an address of a block gives one in the region of its class, where the data block of strm_place has it. */
+static void test_addresses(void)
+{
+	struct strm_pool pool = opened(8);
+	const uint8_t *bases[2], *bytes, *base;
+	uint8_t *at;
+	struct strm_block_place where;
+	struct strm_iov iov;
+	struct strm_msg msg;
+	size_t size, stride, length, count;
+	uint32_t i;
+
+	for (i = 0; i < 2; i++)
+		ANSWERS(strm_region(&pool, i, &bases[i], &size, &stride), STRM_OK);
+	for (i = 0; i < 8; i++) {
+		ANSWERS(strm_allocb(&pool, i < 6 ? 16 : 64, &msg), STRM_OK);
+		ANSWERS(strm_reserve(&pool, msg, 0, i), STRM_OK);
+		ANSWERS(strm_write(&pool, msg, 0, "lion", 4), STRM_OK);
+		ANSWERS(strm_place(&pool, msg, 0, &where), STRM_OK);
+		base = i < 6 ? bases[0] + where.data * 16 : bases[1] + (where.data - 6) * 64;
+		ANSWERS(strm_window(&pool, msg, 0, &at, &length), STRM_OK);
+		CHECK(at == base && length == where.capacity);
+		ANSWERS(strm_room(&pool, msg, 0, &at, &length), STRM_OK);
+		CHECK(at == base + i + 4 && length == where.capacity - i - 4);
+		ANSWERS(strm_edit(&pool, msg, 0, &at, &length), STRM_OK);
+		CHECK(at == base + i && length == 4);
+		ANSWERS(strm_bytes(&pool, msg, 0, &bytes, &length), STRM_OK);
+		CHECK(bytes == base + i);
+		ANSWERS(strm_iov(&pool, msg, 0, &iov, 1, &count), STRM_OK);
+		CHECK(iov.base == base + i);
+		ANSWERS(strm_putq(&pool, 1, msg), STRM_OK);
+		ANSWERS(strm_queued_bytes(&pool, msg.head, 0, &bytes, &length), STRM_OK);
+		CHECK(bytes == base + i);
+	}
+	ANSWERS(strm_close(&pool), STRM_OK);
+}
+
 static void test_overwrite(void)
 {
 	static const char many[100] = "";
@@ -1231,6 +1296,45 @@ static void test_order_by_heads(void)
 	ANSWERS(strm_close(&pool), STRM_OK);
 }
 
+/* A head is no name: once its message was taken off and freed, another one that has the same first block is found. */
+static void test_stale_head(void)
+{
+	struct strm_pool pool = opened(8);
+	struct strm_msg a = message(&pool, "a"), b, c = message(&pool, "c"), out;
+
+	ANSWERS(strm_putq(&pool, 2, a), STRM_OK);
+	ANSWERS(strm_getq(&pool, 2, &out), STRM_OK);
+	ANSWERS(strm_freemsg(&pool, out), STRM_OK);
+	b = message(&pool, "b");
+	CHECK(b.head == a.head && !same_name(a, b));
+	ANSWERS(strm_putq(&pool, 2, b), STRM_OK);
+	ANSWERS(strm_insq_at(&pool, 2, a.head, c), STRM_OK);
+	ANSWERS(strm_rmvq_msg(&pool, a.head, &out), STRM_OK);
+	CHECK(has_bytes(&pool, out, "b"));
+	ANSWERS(strm_close(&pool), STRM_OK);
+}
+
+/* Several messages that are put back, the last one first, are in the order in which they came off. */
+static void test_put_back(void)
+{
+	struct strm_pool pool = opened(8);
+	struct strm_msg msgs[4];
+	uint32_t head;
+	size_t count, i;
+
+	for (i = 0; i < 4; i++)
+		ANSWERS(strm_putq(&pool, 2, message(&pool, "a")), STRM_OK);
+	ANSWERS(strm_getq_n(&pool, 2, msgs, 3, &count), STRM_OK);
+	for (i = count; i-- > 0; )
+		ANSWERS(strm_putbq(&pool, 2, msgs[i]), STRM_OK);
+	ANSWERS(strm_first_queued(&pool, 2, &head), STRM_OK);
+	for (i = 0; i < 3; i++) {
+		CHECK(head == msgs[i].head);
+		ANSWERS(strm_queued_after(&pool, head, &head), STRM_OK);
+	}
+	ANSWERS(strm_close(&pool), STRM_OK);
+}
+
 /* Checks the fewest free message blocks, and data blocks of both classes. */
 #define LEAST(pool, blocks, of_first, of_second) \
 	do { \
@@ -1269,6 +1373,67 @@ static void test_least(void)
 	LEAST(&pool, 4, 3, 2);
 	ANSWERS(strm_reset_least(&pool), STRM_OK);
 	LEAST(&pool, 5, 5, 2);
+	ANSWERS(strm_close(&pool), STRM_OK);
+}
+
+/* Allocates two messages over data blocks of 16 bytes, and one over one of 64, and frees them. Returns whether it could. */
+static int allocates(struct strm_pool *pool)
+{
+	struct strm_msg msgs[3];
+	int i, done = 0;
+
+	for (i = 0; i < 3; i++)
+		done += strm_allocb(pool, i < 2 ? 16 : 64, &msgs[done]) == STRM_OK;
+	for (i = 0; i < done; i++)
+		ANSWERS(strm_freemsg(pool, msgs[i]), STRM_OK);
+	return done == 3;
+}
+
+/* With the fewest that were free fewer, all is allocated, and with one fewer still it is not. A wish is ready only where its blocks are free. */
+static void test_fewer(void)
+{
+	struct strm_pool pool = opened(6), fewer = STRM_POOL_INIT;
+	struct strm_class_spec some[2];
+	struct strm_config config = config_of(6);
+	struct strm_msg held;
+	struct strm_wish wish;
+	uint32_t fewest, id, i, yes;
+
+	config.classes = some;
+	/* nothing is allocated, only asked for */
+	ANSWERS(strm_bufcall(&pool, 64, &id), STRM_OK);
+	ANSWERS(strm_take_ready(&pool, &wish), STRM_OK);
+	ANSWERS(strm_testb(&pool, 64, &yes), STRM_OK);
+	CHECK(yes == 1);
+	LEAST(&pool, 6, 6, 2);
+	config.mblks -= 6;
+	refuse(&config, STRM_BAD_MBLKS);
+	config.mblks = 1;
+	some[0] = classes[0];
+	some[1] = classes[1];
+	some[1].count -= 2;
+	refuse(&config, STRM_BAD_CLASS_TOTAL);
+	CHECK(allocates(&pool));
+	LEAST(&pool, 3, 4, 1);
+	config.mblks = 6 - 3;
+	some[0].count = 6 - 4;
+	some[1].count = 2 - 1;
+	ANSWERS(strm_open(&fewer, &config), STRM_OK);
+	CHECK(allocates(&fewer));
+	LEAST(&fewer, 0, 0, 0);
+	/* what is held here leaves a block there, and none here */
+	for (i = 0; i < 2; i++) {
+		struct strm_pool *either = i == 0 ? &pool : &fewer;
+
+		ANSWERS(strm_allocb(either, 64, &held), STRM_OK);
+		ANSWERS(strm_bufcall(either, 64, &id), STRM_OK);
+		ANSWERS(strm_take_ready(either, &wish), i == 0 ? STRM_OK : STRM_NONE);
+	}
+	ANSWERS(strm_close(&fewer), STRM_OK);
+	config.mblks--;
+	ANSWERS(strm_open(&fewer, &config), STRM_OK);
+	CHECK(!allocates(&fewer));
+	ANSWERS(strm_close(&fewer), STRM_OK);
 	ANSWERS(strm_close(&pool), STRM_OK);
 }
 
@@ -1983,6 +2148,85 @@ static void test_serving(void)
 	ANSWERS(strm_close(&others), STRM_OK);
 }
 
+/* What the want-to-read mark of queue 0 is. */
+static uint32_t read_mark(const struct strm_pool *pool)
+{
+	struct strm_queue_info info = { 0, 0, 9, 0, 0 };
+
+	ANSWERS(strm_queue_info(pool, 0, &info), STRM_OK);
+	return info.read;
+}
+
+/* strm_serve sets and clears the want-to-read mark as strm_getq does; other calls that take messages off leave it. */
+static void test_want_to_read(void)
+{
+	struct strm_pool pool = opened_lines(2, 2);
+	struct strm_service service;
+	struct strm_msg out;
+	size_t count;
+
+	CHECK(read_mark(&pool) == 1);
+	ANSWERS(strm_putq(&pool, 0, message(&pool, "a")), STRM_OK);
+	CHECK(read_mark(&pool) == 1);
+	ANSWERS(strm_serve(&pool, 0, &service, &out), STRM_OK);
+	CHECK(read_mark(&pool) == 0);
+	ANSWERS(strm_serve(&pool, 0, &service, &out), STRM_NONE);
+	CHECK(read_mark(&pool) == 1);
+	/* the mark stays set .. */
+	ANSWERS(strm_putq(&pool, 0, message(&pool, "a")), STRM_OK);
+	ANSWERS(strm_putq(&pool, 0, message(&pool, "b")), STRM_OK);
+	ANSWERS(strm_rmvq(&pool, 0, 1, &out), STRM_OK);
+	ANSWERS(strm_takeq(&pool, 0, STRM_FLUSHALL, &out, 1, &count), STRM_OK);
+	ANSWERS(strm_flushq(&pool, 0, STRM_FLUSHALL), STRM_OK);
+	CHECK(read_mark(&pool) == 1);
+	/* .. or cleared, even where the queue runs empty; a message that is put back clears it, too */
+	ANSWERS(strm_putq(&pool, 1, message(&pool, "full")), STRM_OK);
+	ANSWERS(strm_putq(&pool, 0, message(&pool, "a")), STRM_OK);
+	ANSWERS(strm_serve(&pool, 0, &service, &out), STRM_NONE);
+	CHECK(read_mark(&pool) == 0);
+	ANSWERS(strm_rmvq(&pool, 0, 0, &out), STRM_OK);
+	CHECK(read_mark(&pool) == 0);
+	ANSWERS(strm_putq(&pool, 0, out), STRM_OK);
+	ANSWERS(strm_takeq_band(&pool, 0, 0, STRM_FLUSHALL, &out, 1, &count), STRM_OK);
+	ANSWERS(strm_flushband(&pool, 0, 0, STRM_FLUSHALL), STRM_OK);
+	CHECK(count == 1 && read_mark(&pool) == 0);
+	ANSWERS(strm_close(&pool), STRM_OK);
+}
+
+/* A queue that rests with a message was settled without it, and whom that woke was served before queues that were enabled. */
+static void test_resting(void)
+{
+	struct strm_pool pool = opened_lines(6, 3);
+	struct strm_service service;
+	struct strm_band_info band;
+	struct strm_msg out;
+	uint32_t yes, queue;
+
+	ANSWERS(strm_putq(&pool, 2, message(&pool, "full")), STRM_OK);
+	ANSWERS(strm_putq(&pool, 1, message(&pool, "abcd")), STRM_OK);
+	ANSWERS(strm_bcanput(&pool, 1, 0, &yes), STRM_OK);
+	ANSWERS(strm_band_info(&pool, 1, 0, &band), STRM_OK);
+	CHECK(yes == 0 && band.bytes == 4 && band.wanted == 1);
+	ANSWERS(strm_serve(&pool, 0, &service, &out), STRM_NONE);
+	ANSWERS(strm_band_info(&pool, 1, 0, &band), STRM_OK);
+	CHECK(band.bytes == 4 && band.full == 1 && band.wanted == 0);
+	ANSWERS(strm_band_info(&pool, 2, 0, &band), STRM_OK);
+	CHECK(band.wanted == 1);
+	/* queue 1 wakes queue 0 as it rests: a message of band 1 there goes on before that of queue 3, which was enabled long before */
+	ANSWERS(strm_bcanput(&pool, 1, 0, &yes), STRM_OK);
+	out = message(&pool, "b");
+	ANSWERS(strm_setband(&pool, out, 1), STRM_OK);
+	ANSWERS(strm_putq(&pool, 0, out), STRM_OK);
+	ANSWERS(strm_next_service(&pool, &queue), STRM_OK);
+	ANSWERS(strm_qenable(&pool, 1), STRM_OK);
+	ANSWERS(strm_putq(&pool, 3, message(&pool, "c")), STRM_OK);
+	ANSWERS(strm_serve(&pool, 0, &service, &out), STRM_OK);
+	CHECK(queue == 0 && service.queue == 0 && has_bytes(&pool, out, "b"));
+	ANSWERS(strm_serve(&pool, 0, &service, &out), STRM_OK);
+	CHECK(service.queue == 3);
+	ANSWERS(strm_close(&pool), STRM_OK);
+}
+
 /* ---- names, codes, versions */
 
 static void test_names(void)
@@ -2200,6 +2444,7 @@ int main(void)
 	test_open();
 	test_largest();
 	test_allocb();
+	test_blocks_taken();
 	test_duplicates();
 	test_most_names();
 	test_copies();
@@ -2219,6 +2464,7 @@ int main(void)
 	test_shape();
 	test_shape_all();
 	test_region();
+	test_addresses();
 	test_overwrite();
 	test_headroom();
 	test_advance();
@@ -2228,7 +2474,10 @@ int main(void)
 	test_transfer_refused();
 	test_order();
 	test_order_by_heads();
+	test_stale_head();
+	test_put_back();
 	test_least();
+	test_fewer();
 	test_looks_at_queues();
 	test_report();
 	test_several();
@@ -2240,6 +2489,8 @@ int main(void)
 	test_flow_control();
 	test_enabling();
 	test_serving();
+	test_want_to_read();
+	test_resting();
 	test_names();
 	test_failed();
 	test_version();

@@ -286,6 +286,39 @@ static void find_lines(struct arena *arena)
 	ANSWERS(strm_close(&pool), STRM_OK);
 }
 
+/* strm_open_with calls the allocator, and strm_close calls it. No other call does, also with names of what is not there. */
+static void call_each(struct arena *arena)
+{
+	struct strm_allocator allocator = allocator_of(arena);
+	struct scene scene;
+	struct strm_pool pool, other;
+	size_t bytes;
+	struct setting setting;
+	long before;
+	int verb;
+
+	fill(&setting, 1, 1, 1);
+	for (verb = 0; verb < VERBS; verb++) {
+		before = arena->asked;
+		open_scene_with(&scene, &pool, &other, 7, &allocator);
+		CHECK(arena->asked == before + 2 && arena->kept == 2);
+		set_call(&scene, verb);
+		spoil_call(&scene);
+		make_call(&scene);
+		set_call(&scene, verb);
+		ANSWERS(make_call(&scene), STRM_OK);
+		CHECK(strm_report(&pool, NULL, 0) > 0 && strm_is_open(&pool) && !strm_same_msg(scene.x, scene.z) && !strm_is_no_msg(scene.x));
+		ANSWERS(strm_open_with(&pool, &setting.config, &allocator), STRM_IS_OPEN);
+		ANSWERS(strm_memory(&setting.config, &bytes), STRM_OK);
+		CHECK(arena->asked == before + 2 && arena->kept == 2);
+		ANSWERS(strm_close(&pool), STRM_OK);
+		CHECK(arena->kept == 1);
+		ANSWERS(strm_close(&pool), STRM_NOT_OPEN);
+		ANSWERS(strm_close(&other), STRM_OK);
+		CHECK(arena->asked == before + 2 && arena->kept == 0 && arena->broken == 0);
+	}
+}
+
 /* A thread opens pools in memory of its own, and finds all bytes there. It returns what it got, or null. */
 static void *open_in(void *context)
 {
@@ -362,6 +395,7 @@ int main(void)
 	open_each(&arenas[0]);
 	refuse(&arenas[0]);
 	find_lines(&arenas[0]);
+	call_each(&arenas[0]);
 	stay_apart(arenas);
 	open_in_threads(arenas);
 	return summary();
