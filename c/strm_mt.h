@@ -10,28 +10,34 @@
  *
  * Results
  *
- * Calls return codes as those of strm.h do, in its order, and store results only with STRM_OK. The
- * codes below are added; strm_mt_error has the text of all.
+ * Calls return codes as those of strm.h do, in its order, and store results only with STRM_OK: also
+ * *count of _n calls. The codes below are added; strm_mt_error has the text of all.
  *
  *
  * Waiting
  *
  * A `deadline` is a time of CLOCK_MONOTONIC. With null a call waits for ever; with a time that has
  * passed, such as zeros, it never waits. If a call would have to wait longer, it returns
- * STRM_MT_TIMED_OUT.
+ * STRM_MT_TIMED_OUT. A tv_nsec below 0 or above 999,999,999 is STRM_BAD_ARGUMENT, even if the call
+ * need not wait.
  *
  * Each unlock serves the calls that wait: it puts, takes or allocates for each that can go on, and
  * then wakes its thread. So at no time while the lock is free does a call wait that could go on.
  * Calls are served in these orders:
  *
  *   - At a queue, those that send in one band, and those that receive, in the order in which they
- *     came. No later call overtakes them.
+ *     came. No later call overtakes them. strm_mt_send_n comes anew to the band of a message whose
+ *     band is not that of the message before: after calls that wait there already, even if these
+ *     began later.
  *   - Of those that send in several bands, greater bands first. Greater bands are received first
  *     too, so they can keep messages of smaller ones waiting for ever.
  *   - Of those that allocate, in the order in which they came, each that finds its blocks.
  *
+ * These are orders among calls of this header. A thread that has the lock puts and takes by calls
+ * of strm.h at once.
+ *
  * A full band has room once it is below its high water mark; the low one plays no part. Each unlock
- * costs a call of strm.h for each queue and band at which a call waits, for each size that one
+ * costs some calls of strm.h: for each queue and band at which a call waits, for each size that one
  * waits for, and for each descriptor of strm_mt_fd. Without these it costs nothing, and a call that
  * need not wait makes no system call.
  *
@@ -75,7 +81,8 @@ struct timespec;
 
 /*
  * Opens a pool as strm_open does. This call and strm_mt_fd are the only ones that allocate.
- * Refused as by strm_open.
+ * Refused as by strm_open; STRM_NO_MEMORY may come before STRM_BAD_ARGUMENT and faults of the
+ * configuration.
  */
 int strm_mt_open(struct strm_mt **mt, const struct strm_config *config);
 
@@ -91,23 +98,28 @@ int strm_mt_close(struct strm_mt *mt);
  */
 struct strm_pool *strm_mt_lock(struct strm_mt *mt);
 
-/* Serves the calls that wait, unlocks the pool, and wakes the threads of those that went on. */
+/*
+ * Serves the calls that wait, unlocks the pool, and wakes the threads of those that went on. `mt` is
+ * not null.
+ */
 void strm_mt_unlock(struct strm_mt *mt);
 
 /*
- * Locks the pool for looks. Several threads may hold it so at the same time; one that waits for
- * strm_mt_lock goes before those that come later.
+ * Locks the pool for looks. Several threads may hold it so at the same time. While a thread waits
+ * in strm_mt_lock until they are done, no further thread gets the lock for looks. Null has no pool,
+ * as at strm_mt_lock.
  */
 const struct strm_pool *strm_mt_rdlock(struct strm_mt *mt);
 
-/* Unlocks what strm_mt_rdlock locked. */
+/* Unlocks what strm_mt_rdlock locked. `mt` is not null. */
 void strm_mt_rdunlock(struct strm_mt *mt);
 
 /* ---- send and receive: strm_mt_send(3) */
 
 /*
  * Puts a message on a queue as strm_putq does, once strm_bcanput allows it for the message's band.
- * High priority never waits. `msg` is then no longer valid; after any other code it is still yours.
+ * High priority waits for the lock only. With STRM_OK `msg` is no longer valid; after any other
+ * code it is as before.
  * Refused as STRM_MT_CLOSED, STRM_MT_TIMED_OUT.
  */
 int strm_mt_send(struct strm_mt *mt, uint32_t queue, struct strm_msg msg, const struct timespec *deadline);
@@ -120,8 +132,10 @@ int strm_mt_receive(struct strm_mt *mt, uint32_t queue, struct strm_msg *msg, co
 
 /*
  * Sends messages as strm_mt_send does, with one deadline for all: those named in the array `msgs`
- * of `length` names, in this order. The result is as of strm_putq_n. The thread sleeps until all
- * are sent, and those of other senders in the same band do not come between.
+ * of `length` names, in this order. The result is as of strm_putq_n: STRM_OK once one is sent, even
+ * if the deadline passes or the queue is shut then. The thread sleeps until all are sent. Between
+ * messages of one band that follow one another in the array come none of other senders in this
+ * band.
  */
 int strm_mt_send_n(struct strm_mt *mt, uint32_t queue, const struct strm_msg *msgs, size_t length,
 	const struct timespec *deadline, size_t *count);
@@ -142,8 +156,8 @@ int strm_mt_alloc(struct strm_mt *mt, uint32_t size, struct strm_msg *msg, const
 
 /*
  * Shuts a queue for ever: sending there, and receiving once it is empty, returns STRM_MT_CLOSED.
- * All calls that wait there return so at once. STRM_NO_QUEUE shuts all queues, and waiting for
- * blocks.
+ * All calls that wait there return so at once, or with STRM_OK if they have sent messages.
+ * STRM_NO_QUEUE shuts all queues, and waiting for blocks.
  */
 int strm_mt_shut(struct strm_mt *mt, uint32_t queue);
 
@@ -155,13 +169,13 @@ int strm_mt_waiting(struct strm_mt *mt, uint32_t queue, uint32_t *calls);
 /* ---- event loops: strm_mt_fd(3) */
 
 /*
- * Sets *fd to a descriptor (an eventfd) for poll, epoll or io_uring. It is readable exactly while
- * the lock is free and a receive (`what` is STRM_MT_READABLE), or a send in `band`
- * (STRM_MT_WRITABLE), would not wait. So it is level-triggered. Another thread may come first:
- * receive and send with a deadline of zeros, and take STRM_MT_TIMED_OUT as spurious. The band of
- * STRM_MT_READABLE is ignored. Equal arguments give the same descriptor, which stays until
- * strm_mt_close or execve; do not read, write or close it. Each change of readiness costs a system
- * call.
+ * Sets *fd to a descriptor (an eventfd) for poll, epoll or io_uring. While the lock is free, it is
+ * readable exactly if a receive (`what` is STRM_MT_READABLE), or a send in `band`
+ * (STRM_MT_WRITABLE), would not wait. So it is level-triggered. While a thread has the lock, it
+ * stays as it was. Another thread may come first: receive and send with a deadline of zeros, and
+ * take STRM_MT_TIMED_OUT as spurious. The band of STRM_MT_READABLE is ignored. Equal arguments give
+ * the same descriptor, which stays until strm_mt_close or execve; do not read, write or close it.
+ * Each change of readiness costs a system call.
  * Refused as STRM_BAD_ARGUMENT for another `what` or band, STRM_NO_SUCH_QUEUE, STRM_NO_MEMORY,
  * STRM_MT_NO_FD.
  */

@@ -250,7 +250,6 @@ static void check_lock(void)
 
 static void check_codes(void)
 {
-	static const struct timespec wrong = { 1, 1000000000 }, negative = { 1, -1 };
 	struct strm_config empty = { 1, 1, NULL, 0, NULL, 0, 0, 1 };
 	struct strm_msg msg = made(0, "a"), none = STRM_NO_MSG, msgs[2] = { STRM_NO_MSG, STRM_NO_MSG };
 	struct strm_mt *other = mt;
@@ -265,8 +264,6 @@ static void check_codes(void)
 	ANSWERS(strm_mt_close(NULL), STRM_NOT_OPEN);
 	CHECK(strm_mt_lock(NULL) == NULL && strm_mt_rdlock(NULL) == NULL);
 	ANSWERS(strm_mt_send(NULL, WIDE, msg, &now), STRM_NOT_OPEN);
-	ANSWERS(strm_mt_send(mt, WIDE, msg, &wrong), STRM_BAD_ARGUMENT);
-	ANSWERS(strm_mt_send(mt, WIDE, msg, &negative), STRM_BAD_ARGUMENT);
 	ANSWERS(strm_mt_send(mt, QUEUES, none, &now), STRM_INVALID);
 	ANSWERS(strm_mt_send(mt, QUEUES, msg, &now), STRM_NO_SUCH_QUEUE);
 	ANSWERS(strm_mt_send(mt, STRM_MOST_QUEUES, msg, NULL), STRM_NO_SUCH_QUEUE);
@@ -307,12 +304,25 @@ static void check_codes(void)
 	CHECK(strcmp(strm_mt_error(STRM_NO_SUCH_QUEUE), "there is no such queue") == 0);
 }
 
-/* A call that waits ends when its deadline has passed, and not before. */
+/* A call that waits ends when its deadline has passed, and not before. One that is no time is refused, even if the call need not wait. */
 static void check_deadlines(void)
 {
+	static const struct timespec wrong[] = { { 1, 1000000000 }, { 1, 2000000000 }, { 0, -1 } }, before = { -1, 0 };
 	struct strm_msg msg = made(0, "b"), got;
 	struct timespec at = after(30), late = after(5000);
+	size_t count = 7;
+	int number;
 
+	send_now(NARROW, 0, "a");
+	for (number = 0; number < 3; number++) {
+		ANSWERS(strm_mt_send(mt, WIDE, msg, &wrong[number]), STRM_BAD_ARGUMENT);
+		ANSWERS(strm_mt_send_n(mt, WIDE, &msg, 1, &wrong[number], &count), STRM_BAD_ARGUMENT);
+		ANSWERS(strm_mt_receive(mt, NARROW, &got, &wrong[number]), STRM_BAD_ARGUMENT);
+		ANSWERS(strm_mt_receive_n(mt, NARROW, &got, 1, &wrong[number], &count), STRM_BAD_ARGUMENT);
+		ANSWERS(strm_mt_alloc(mt, 1, &got, &wrong[number]), STRM_BAD_ARGUMENT);
+	}
+	CHECK(count == 7 && brings(NARROW, "a"));
+	ANSWERS(strm_mt_receive(mt, NARROW, &got, &before), STRM_MT_TIMED_OUT);
 	ANSWERS(strm_mt_receive(mt, NARROW, &got, &at), STRM_MT_TIMED_OUT);
 	CHECK(has_passed(at));
 	send_now(NARROW, 0, "a");
@@ -389,6 +399,7 @@ static void check_bursts(void)
 	struct task burst = { .kind = SEND, .queue = WIDE, .length = 6 }, taker = { .kind = RECEIVE, .queue = WIDE, .length = 3 }, single;
 	struct task mixed = { .kind = SEND, .queue = NARROW, .length = 3 };
 	struct strm_msg msgs[MOST] = { STRM_NO_MSG };
+	struct strm_pool *pool;
 	struct timespec at = after(30);
 	size_t count = 0;
 	int number;
@@ -440,6 +451,29 @@ static void check_bursts(void)
 	CHECK(brings(NARROW, "f") && brings(NARROW, "e") && brings(NARROW, "h") && brings(NARROW, "g"));
 	ANSWERS(code_of(&mixed), STRM_OK);
 	CHECK(mixed.count == 3 && is_empty(NARROW));
+	/* While it waits in its second band, others send in its first. */
+	send_now(NARROW, 3, "3");
+	mixed.msgs[0] = made(5, "f");
+	mixed.msgs[1] = made(3, "g");
+	mixed.msgs[2] = made(5, "h");
+	mixed.count = 0;
+	begin(&mixed);
+	CHECK(brings(NARROW, "f"));
+	send_now(NARROW, 5, "e");
+	CHECK(brings(NARROW, "e") && brings(NARROW, "3"));
+	ANSWERS(code_of(&mixed), STRM_OK);
+	CHECK(mixed.count == 3 && brings(NARROW, "h") && brings(NARROW, "g") && is_empty(NARROW));
+	/* A thread that has the lock waits for no call. */
+	send_now(NARROW, 0, "0");
+	sender(&single, NARROW, made(0, "e"));
+	msgs[0] = made(0, "l");
+	pool = strm_mt_lock(mt);
+	ANSWERS(strm_getq(pool, NARROW, &msgs[1]), STRM_OK);
+	ANSWERS(strm_putq(pool, NARROW, msgs[0]), STRM_OK);
+	strm_mt_unlock(mt);
+	CHECK(is(msgs[1], "0") && brings(NARROW, "l"));
+	ANSWERS(code_of(&single), STRM_OK);
+	CHECK(brings(NARROW, "e") && is_empty(NARROW));
 }
 
 static void check_allocating(void)
@@ -475,19 +509,24 @@ static void check_allocating(void)
 static void check_shutting(void)
 {
 	struct task receivers[2], senders[2], allocates = { .kind = ALLOCATE, .size = 60, .length = 1 };
+	struct task burst = { .kind = SEND, .queue = NARROW, .length = 2 };
 	struct strm_msg msg, large;
 	int at;
+
 
 	for (at = 0; at < 2; at++)
 		receiver(&receivers[at], WIDE);
 	send_now(NARROW, 0, "0");
 	for (at = 0; at < 2; at++)
 		sender(&senders[at], NARROW, made(0, "s"));
+	burst.msgs[0] = made(1, "sent");
+	burst.msgs[1] = made(1, "more");
+	begin(&burst);
 	ANSWERS(strm_mt_shut(mt, WIDE), STRM_OK);
 	for (at = 0; at < 2; at++)
 		ANSWERS(code_of(&receivers[at]), STRM_MT_CLOSED);
 	ANSWERS(strm_mt_receive(mt, WIDE, &msg, NULL), STRM_MT_CLOSED);
-	CHECK(come_to_wait(NARROW, 2));
+	CHECK(come_to_wait(NARROW, 3));
 	ANSWERS(strm_mt_alloc(mt, 60, &large, NULL), STRM_OK);
 	begin(&allocates);
 	ANSWERS(strm_mt_shut(mt, STRM_NO_QUEUE), STRM_OK);
@@ -496,6 +535,9 @@ static void check_shutting(void)
 		ANSWERS(code_of(&senders[at]), STRM_MT_CLOSED);
 		CHECK(is(senders[at].msgs[0], "s"));
 	}
+	/* A call that has sent some of its messages says so. */
+	ANSWERS(code_of(&burst), STRM_OK);
+	CHECK(burst.count == 1 && is(burst.msgs[1], "more") && brings(NARROW, "sent"));
 	/* What is on the queue can still be received. */
 	msg = made(0, "x");
 	ANSWERS(strm_settype(strm_mt_lock(mt), msg, 0, STRM_M_PCPROTO), STRM_OK);
@@ -530,6 +572,8 @@ static void check_descriptors(void)
 	int other_room = fd_of(NARROW, STRM_MT_WRITABLE, 1), wide = fd_of(WIDE, STRM_MT_READABLE, 999), round;
 	struct task task;
 	struct rlimit limit, none;
+	struct strm_pool *pool;
+	struct strm_msg msg;
 
 	CHECK(message == fd_of(NARROW, STRM_MT_READABLE, 7) && wide != message && room != other_room);
 	for (round = 0; round < 3; round++) {
@@ -551,6 +595,23 @@ static void check_descriptors(void)
 		ANSWERS(code_of(&task), STRM_OK);
 		CHECK(is(task.msgs[0], "d"));
 	}
+	/* While a thread has the lock, they stay as they were. */
+	msg = made(0, "a");
+	pool = strm_mt_lock(mt);
+	CHECK(!is_readable(message) && is_readable(room));
+	ANSWERS(strm_putq(pool, NARROW, msg), STRM_OK);
+	CHECK(!is_readable(message) && is_readable(room));
+	strm_mt_unlock(mt);
+	CHECK(is_readable(message) && !is_readable(room));
+	strm_mt_rdlock(mt);
+	CHECK(is_readable(message) && !is_readable(room));
+	strm_mt_rdunlock(mt);
+	pool = strm_mt_lock(mt);
+	ANSWERS(strm_getq(pool, NARROW, &msg), STRM_OK);
+	ANSWERS(strm_freemsg(pool, msg), STRM_OK);
+	CHECK(is_readable(message) && !is_readable(room));
+	strm_mt_unlock(mt);
+	CHECK(!is_readable(message) && is_readable(room));
 	getrlimit(RLIMIT_NOFILE, &limit);
 	none = limit;
 	none.rlim_cur = 0;
