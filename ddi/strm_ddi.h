@@ -10,8 +10,8 @@
  *     str_close(head);
  *     return str_fini();
  *
- * Calls return 0 or a number of errno, unless they say else. None waits: time passes by str_wait
- * alone, in ticks of 10 ms.
+ * Calls return 0 or a number of errno, unless they say else. None waits: time passes in ticks of
+ * 10 ms, in str_wait, in an ioctl that has no reply yet, and in qwait of a module.
  *
  *
  * Misuse
@@ -21,7 +21,7 @@
  * it goes on without what the call would do.
  *
  * If it has a path as STRM_DDI_TRACE, that file gets a trace for strm-record, of at most 16 queues,
- * up to the first str_pop or str_close.
+ * up to the first str_pop or str_close, or the first open of a module or driver that fails.
  */
 #ifndef STRM_DDI_H
 #define STRM_DDI_H
@@ -58,13 +58,16 @@ int str_pop(strhead_t *head);
 /* Closes all modules and the driver of a stream, each as str_pop does. */
 int str_close(strhead_t *head);
 
-/* Sends bytes down, in messages of the size that the module below takes. EAGAIN if flow control holds them. */
+/* Sends bytes down, in messages of the size that the module below takes. ERANGE if it takes no such size. EAGAIN if flow
+ * control holds them, or the rest of them: the first messages may have been sent. */
 int str_write(strhead_t *head, const void *bytes, size_t length);
 
-/* Reads bytes of the first message, and leaves the rest. EAGAIN if there is none, EBADMSG if it is not M_DATA. */
+/* Reads bytes of the first message, and leaves the rest. EAGAIN if there is none, or after M_ERROR its number, or 0 with
+ * *count 0 after M_HANGUP. EBADMSG if the message is not M_DATA. */
 int str_read(strhead_t *head, void *into, size_t length, size_t *count);
 
-/* Sends a message down: of `type` with bytes of `control`, if that is not null, and an M_DATA block. */
+/* Sends a message down: of `type` with bytes of `control`, if that is not null, and an M_DATA block, unless `bytes` is null and
+ * `control` is not. */
 int str_putmsg(strhead_t *head, const void *control, size_t control_length, const void *bytes, size_t length, int type, int band);
 
 /* Returns the first message, or null. The caller frees it. */
@@ -87,7 +90,7 @@ int str_run(void);
 /* Has time pass: runs what can run, and so the timeouts of the next ticks. Returns how many ran. */
 int str_wait(clock_t ticks);
 
-/* Returns the read queue of a stream head, and the queue of the module or driver `place` below it. */
+/* Returns the read queue of the module or driver `place` below a stream head, for 0 that of the head; null if there is none. */
 queue_t *str_queue(strhead_t *head, int place);
 
 #endif
