@@ -60,6 +60,11 @@ RT := $(shell command -v rt 2>/dev/null)
 # Stops make with one line if there is no `rt`.
 NEEDS_RT = $(if $(RT),,$(error no rt on PATH, so nothing is proved or built; release/ has strm and libstrm.a, proved and built: make try and make check run them, and make install and make install-lib take them by STRM=release/strm ARCHIVE=release/libstrm.a SHARED=release/libstrm.so (README.md, "Without rt")))
 
+# The variables that were given on the command line of make. What runs a script of the gate without them, and without what else says how make was
+# called: a make that the script starts would take all of these for its own.
+GIVEN = $(foreach name,$(.VARIABLES),$(if $(filter command,$(firstword $(origin $(name)))),$(name)))
+ALONE = env $(addprefix -u ,MAKEFLAGS MAKELEVEL MAKEOVERRIDES MFLAGS GNUMAKEFLAGS MAKE_TERMOUT MAKE_TERMERR $(GIVEN))
+
 .PHONY: run help try test test-arm check gate-times cases edits lint soak soak-mt field view-test pages pictures bench bench-lines bench-library bench-batches bench-census bench-header bench-lock bench-c bench-bindings bench-peers bench-mt strm install install-pages install-tools install-docs uninstall lib install-lib dist release vendor
 
 # Runs examples/first_run.strm on the proved program (default). `make` alone does this and does not list rules, so that people who type `make`
@@ -90,16 +95,16 @@ endif
 # Runs the gate: all proofs, edits to be refused, tests and cases.
 test:
 	$(NEEDS_RT)
-	@.ci/run
+	@$(ALONE) .ci/gate
 
 # Runs what of the gate needs no proof, in a few minutes. Without `rt`, tests run what is in release.
 check:
-	@.ci/check
+	@$(ALONE) .ci/check
 
 # Runs the gate, and puts its processor times into docs/GATE.md.
 gate-times:
 	$(NEEDS_RT)
-	@.ci/run && .ci/times put build/gate-times.md docs/GATE.md
+	@$(ALONE) .ci/gate && .ci/times put build/gate-times.md docs/GATE.md
 
 # Proves strm, and runs tests/cases, or those that CASES names. Once it is proved, trying a new case takes seconds.
 cases: $(BUILT)

@@ -1,4 +1,4 @@
-# The jobs of the gate: starts them side by side, and counts what they report. .ci/run and tests/gate_check source this file.
+# The jobs of the gate: starts them side by side, and counts what they report. .ci/gate, .ci/check and tests/gate_check source this file.
 #
 # A job is a command whose last line is 'N passed, M failed'. A line of it that begins with 'not run: ' says what it left out, and why.
 # Whoever sources this sets `room`, a folder for reports, and `processors`, the number of jobs that run at once.
