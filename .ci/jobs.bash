@@ -1,27 +1,38 @@
-# The jobs of the gate: starts them side by side, and counts what they report. .ci/gate, .ci/check and tests/gate_check source this file.
+# The jobs of the gate: starts them side by side, says when each begins and ends, and counts what they report. .ci/gate, .ci/check and
+# tests/gate_check source this file.
 #
 # A job is a command whose last line is 'N passed, M failed'. A line of it that begins with 'not run: ' says what it left out, and why.
 # Whoever sources this sets `room`, a folder for reports, and `processors`, the number of jobs that run at once.
 # shellcheck disable=SC2154 # as the line above says
 
+# shellcheck source=.ci/progress.bash
+. .ci/progress.bash
+
 passed=0
 failed=0
-begun=()
+# The command of each job, its words quoted, and the numbers of jobs that run in turn, and of those that begin_planned starts.
+commands=()
 in_turn=()
+planned=()
 left_out=()
 
-# Adds up what the command $1 reported, in the file $2, with the exit status $3, and shows the report if anything failed. Three kinds of
-# reports are a failure by themselves: one without a count at its end, one that counts nothing, and one of a command that failed but
-# counts no failure.
-add_report() {
-    local command=$1 report=$2 status=${3:-1} won=0 lost=0 line
-    if [[ "$(tail -n 1 "$report")" =~ ^([0-9]+)\ passed,\ ([0-9]+)\ failed$ ]]; then
+# Sets `won` and `lost` to what the report $1 counts, of a command that ended with the status $2. Three kinds of reports are a failure by themselves:
+# one without a count at its end, one that counts nothing, and one of a command that failed but counts no failure.
+read_count() {
+    won=0 lost=0
+    if [[ "$(tail -n 1 "$1")" =~ ^([0-9]+)\ passed,\ ([0-9]+)\ failed$ ]]; then
         won=${BASH_REMATCH[1]}
         lost=${BASH_REMATCH[2]}
     fi
-    if [ "$lost" -eq 0 ] && { [ "$won" -eq 0 ] || [ "$status" -ne 0 ]; }; then
+    if [ "$lost" -eq 0 ] && { [ "$won" -eq 0 ] || [ "$2" -ne 0 ]; }; then
         lost=1
     fi
+}
+
+# Adds up what the command $1 reported, in the file $2, with the exit status $3, and shows the report if anything failed.
+add_report() {
+    local command=$1 report=$2 status=${3:-1} won lost line
+    read_count "$report" "$status"
     passed=$((passed + won))
     failed=$((failed + lost))
     while read -r line; do
@@ -30,15 +41,23 @@ add_report() {
     [ "$lost" -eq 0 ] || { echo "$command FAILED (status $status):"; sed 's/^/  /' "$report"; }
 }
 
-# Runs the job with the number $1, which is the command behind it, and leaves its report, its status, how long it took, and the processor
-# seconds that it used.
+# Sets `words` to the command of the job $1, and `name` to what it is called: these words without the folder for reports.
+read_job() {
+    eval "words=(${commands[$1]})"
+    name=${words[*]//"$room/"/}
+}
+
+# Runs the job $1, and leaves its report, its status, and the processor seconds that it used.
 run_job() {
-    local report=$room/report$1 from=$SECONDS TIMEFORMAT='%U %S'
-    shift
-    { time "$@" >"$report" 2>&1 </dev/null; } 2>"$report.used"
+    local report=$room/report$1 from=$SECONDS words name won lost TIMEFORMAT='%U %S'
+    read_job "$1"
+    echo "$SECONDS ${words[0]#tests/}" >"$report.begun"
+    [ -n "$clear" ] || say "begins  $name"
+    { time "${words[@]}" >"$report" 2>&1 </dev/null; } 2>"$report.used"
     echo $? >"$report.status"
-    echo $((SECONDS - from)) >"$report.seconds"
-    awk -v job="${*#tests/}" '{ split(job, words); print $1 + $2, words[1], words[2] ~ /^--/ ? words[2] : "" }' "$report.used" >"$report.times"
+    awk -v job="${name#tests/}" '{ split(job, words); print $1 + $2, words[1], words[2] ~ /^--/ ? words[2] : "" }' "$report.used" >"$report.times"
+    read_count "$report" "$(cat "$report.status")"
+    say "ended   $name: $won passed, $lost failed in $((SECONDS - from)) s ($(ended_jobs))"
 }
 
 # Waits until fewer than `processors` jobs run.
@@ -51,61 +70,74 @@ await_processor() {
 # Starts a job beside the others.
 begin() {
     await_processor
-    begun+=("$*")
-    run_job $((${#begun[@]} - 1)) "$@" &
+    commands+=("${*@Q}")
+    run_job $((${#commands[@]} - 1)) &
 }
 
 # Starts jobs, one after another, as soon as the process $1, which need not be a job, has ended.
 begin_after() {
-    local process=$1 number words first=${#begun[@]}
+    local process=$1 number first=${#commands[@]}
     shift
-    begun+=("$@")
+    commands+=("$@")
     {
         tail --pid="$process" -f /dev/null
         for ((number = first; number < first + $#; number++)); do
-            read -ra words <<<"${begun[$number]}"
-            run_job "$number" "${words[@]}"
+            run_job "$number"
         done
     } &
 }
 
-# Takes the job with the number $1 for whoever calls first, and sets `words` to its command.
+# Takes the job $1 for whoever calls first.
 take_job() {
-    mkdir "$room/taken$1" 2>/dev/null && read -ra words <<<"${begun[$1]}"
+    mkdir "$room/taken$1" 2>/dev/null
 }
 
 # Starts jobs that run one after another, beside all others, at a lower priority: chains of proofs decide when the gate ends.
 begin_in_turn() {
-    local job number words
+    local job number
     for job in "$@"; do
-        in_turn+=("${#begun[@]}")
-        begun+=("$job")
+        in_turn+=("${#commands[@]}")
+        commands+=("$job")
     done
     {
         renice -n 10 -p "$BASHPID" >/dev/null
         for number in "${in_turn[@]}"; do
-            take_job "$number" && (run_job "$number" "${words[@]}")
+            take_job "$number" && (run_job "$number")
         done
     } &
 }
 
-# Starts those of these jobs that have not begun beside each other.
-begin_at_once() {
-    local number words
-    for number in "${in_turn[@]}"; do
+# Plans a job that begin_planned starts.
+plan() {
+    planned+=("${#commands[@]}")
+    commands+=("${*@Q}")
+}
+
+# Plans those of the jobs in turn that have not begun by then.
+plan_in_turn() {
+    planned+=("${in_turn[@]}")
+}
+
+# Starts the planned jobs beside each other.
+begin_planned() {
+    local number
+    say "scripts to run: ${#planned[@]}, $processors at once"
+    echo ${#commands[@]} >"$room/total"
+    for number in "${planned[@]}"; do
         await_processor
-        take_job "$number" && run_job "$number" "${words[@]}" &
+        take_job "$number" && run_job "$number" &
     done
 }
 
-# Waits for the jobs that were started, says how long each took, and adds up what each reported.
+# Waits for the jobs that were started, and adds up what each reported.
 add_jobs() {
-    local number report
+    local number report words name
     wait
-    for number in "${!begun[@]}"; do
+    end_status
+    for number in "${!commands[@]}"; do
         report=$room/report$number
-        printf '%4d s  %s\n' "$(cat "$report.seconds" 2>/dev/null)" "${begun[$number]%% *}"
-        add_report "${begun[$number]}" "$report" "$(cat "$report.status" 2>/dev/null)"
+        read_job "$number"
+        add_report "$name" "$report" "$(cat "$report.status" 2>/dev/null)"
     done
 }
 
