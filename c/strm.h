@@ -374,7 +374,7 @@ struct strm_config {
 struct strm_allocator {
 	/*
 	 * Returns an address of `bytes` bytes for this pool alone, at a multiple of `align`, or null. It may
-	 * be called from each thread that opens a pool with it, as may the next.
+	 * be called in each thread that opens a pool with it, and `release` also in each that closes one.
 	 */
 	void *(*allocate)(void *context, size_t bytes, size_t align);
 	void (*release)(void *context, void *at, size_t bytes);	/* takes back what allocate returned */

@@ -93,8 +93,8 @@ int strm_mt_open(struct strm_mt **mt, const struct strm_config *config);
 int strm_mt_close(struct strm_mt *mt);
 
 /*
- * Locks the pool, for any call of strm.h but strm_open and strm_close. Null has no pool: the call
- * returns null.
+ * Locks the pool, for any call of strm.h but strm_open, strm_open_with and strm_close. Null has no
+ * pool: the call returns null.
  */
 struct strm_pool *strm_mt_lock(struct strm_mt *mt);
 
@@ -150,14 +150,15 @@ int strm_mt_receive_n(struct strm_mt *mt, uint32_t queue, struct strm_msg *msgs,
 /*
  * Allocates a message as strm_allocb does, once blocks for it are free. Its wish is not one of
  * strm_bufcall: it uses up no id, and `bufcalls` of the configuration does not limit it.
- * Refused as STRM_TOO_LARGE, STRM_MT_CLOSED if all is shut and it would wait, STRM_MT_TIMED_OUT.
+ * Refused as STRM_TOO_LARGE, STRM_MT_CLOSED if STRM_NO_QUEUE was shut and it would wait,
+ * STRM_MT_TIMED_OUT.
  */
 int strm_mt_alloc(struct strm_mt *mt, uint32_t size, struct strm_msg *msg, const struct timespec *deadline);
 
 /*
  * Shuts a queue for ever: sending there, and receiving once it is empty, returns STRM_MT_CLOSED.
  * All calls that wait there return so at once, or with STRM_OK if they have sent messages.
- * STRM_NO_QUEUE shuts all queues, and waiting for blocks.
+ * STRM_NO_QUEUE shuts all queues, and waiting for blocks, which shutting each queue does not.
  */
 int strm_mt_shut(struct strm_mt *mt, uint32_t queue);
 

@@ -1325,8 +1325,8 @@ static void test_put_back(void)
 	for (i = 0; i < 4; i++)
 		ANSWERS(strm_putq(&pool, 2, message(&pool, "a")), STRM_OK);
 	ANSWERS(strm_getq_n(&pool, 2, msgs, 3, &count), STRM_OK);
-	for (i = count; i-- > 0; )
-		ANSWERS(strm_putbq(&pool, 2, msgs[i]), STRM_OK);
+	for (i = count; i > 0; i--)
+		ANSWERS(strm_putbq(&pool, 2, msgs[i - 1]), STRM_OK);
 	ANSWERS(strm_first_queued(&pool, 2, &head), STRM_OK);
 	for (i = 0; i < 3; i++) {
 		CHECK(head == msgs[i].head);

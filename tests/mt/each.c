@@ -529,8 +529,12 @@ static void check_shutting(void)
 	CHECK(come_to_wait(NARROW, 3));
 	ANSWERS(strm_mt_alloc(mt, 60, &large, NULL), STRM_OK);
 	begin(&allocates);
+	ANSWERS(strm_mt_shut(mt, NARROW), STRM_OK);
+	CHECK(come_to_wait(NARROW, 0) && come_to_wait(STRM_NO_QUEUE, 1));
+	ANSWERS(strm_mt_alloc(mt, 60, &msg, &now), STRM_MT_TIMED_OUT);
 	ANSWERS(strm_mt_shut(mt, STRM_NO_QUEUE), STRM_OK);
 	ANSWERS(code_of(&allocates), STRM_MT_CLOSED);
+	ANSWERS(strm_mt_alloc(mt, 60, &msg, &now), STRM_MT_CLOSED);
 	for (at = 0; at < 2; at++) {
 		ANSWERS(code_of(&senders[at]), STRM_MT_CLOSED);
 		CHECK(is(senders[at].msgs[0], "s"));
