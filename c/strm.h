@@ -35,7 +35,7 @@
  *   - high priority: said of messages of type STRM_M_IOCACK or a type listed after it.
  *   - rank: the band of an ordinary message. High priority ranks above all bands.
  *   - full: said of a band that has at least as many bytes as its high water mark.
- *   - wanted: a mark of a band. strm_bcanput and strm_serve set it if they find the band full;
+ *   - wanted: a mark of a band. strm_bcanput and strm_serve set it if they find the band full; only
  *     settling clears it.
  *   - settle: to clear the wanted marks of a queue's bands that are at their low water mark or
  *     below. If a mark was cleared, the pool looks at the queue whose next is this queue, at the
@@ -114,9 +114,9 @@
  * passed as a name. Names may be copied, kept, and compared by strm_same_msg. STRM_NO_MSG, all
  * zeros, is the name of no message, and never valid. Its initialiser is STRM_NO_MSG_INIT.
  *
- * Stamps start again after 2^64 names with the same block. Two pools opened with the
- * same id, together or one after the other, can't tell their names apart: give different ids to
- * pools whose names can meet.
+ * Stamps start again after 2^64 names with the same block. Two pools opened with the same id,
+ * together or one after the other, can't tell their names apart: give different ids to pools whose
+ * names can meet.
  *
  * A message whose name is lost stays held until the pool is closed. strm_name_at finds its name.
  *
@@ -218,8 +218,8 @@
  * A call strm_NAME is the routine NAME of the UNIX System V Release 4 Programmer's Guide: STREAMS,
  * if that has one. strm_open, strm_close, strm_read and strm_write are no system calls. In all
  * calls names and numbers replace pointers, and codes replace 0, -1 and null pointers. The text on
- * each call ends with what else differs. No call waits, or runs a service procedure. None calls a
- * function of yours, except that strm_open_with and strm_close call those of its allocator.
+ * each call ends with what else differs. No call waits, or runs a service procedure. Only
+ * strm_open_with, and strm_close of its pools, call functions of yours: those of the allocator.
  */
 #ifndef STRM_H
 #define STRM_H
