@@ -60,6 +60,9 @@ RT := $(shell command -v rt 2>/dev/null)
 # Stops make with one line if there is no `rt`.
 NEEDS_RT = $(if $(RT),,$(error no rt on PATH, so nothing is proved or built; release/ has strm and libstrm.a, proved and built: make try and make check run them, and make install and make install-lib take them by STRM=release/strm ARCHIVE=release/libstrm.a SHARED=release/libstrm.so (README.md, "Without rt")))
 
+# Has a command execute a script as strm does, which prints replies alone, and prints each beside the script's command.
+LISTED = text=$$($(1) <"$(2)") && tools/strm-list --report "$(2)" - <<<"$$text"
+
 # The variables that were given on the command line of make. What runs a script of the gate without them, and without what else says how make was
 # called: a make that the script starts would take all of these for its own.
 GIVEN = $(foreach name,$(.VARIABLES),$(if $(filter command,$(firstword $(origin $(name)))),$(name)))
@@ -70,7 +73,7 @@ ALONE = env $(addprefix -u ,MAKEFLAGS MAKELEVEL MAKEOVERRIDES MFLAGS GNUMAKEFLAG
 # Runs examples/first_run.strm on the proved program (default). `make` alone does this and does not list rules, so that people who type `make`
 # and then `sudo make install` do not prove the program as root.
 run: $(BUILT)
-	@$(BUILT) --serial <examples/first_run.strm
+	@$(call LISTED,$(BUILT) --serial,examples/first_run.strm)
 
 # Lists these rules. What a line says is the first sentence of the comment above the rule.
 help:
@@ -81,15 +84,15 @@ test-arm:
 	@$(MAKE) -s lib TARGET=$(ARM)
 	@tests/c/run --arm build/aarch64/libstrm.a
 
-# Executes SCRIPT, by default examples/first_run.strm. With `rt`, strm is unproved; of what `rt` says this shows only a failure. Without it, strm
-# is the proved one in release.
+# Executes SCRIPT, and prints each command beside its reply. SCRIPT is examples/first_run.strm if none is named; the report comes last. With `rt`,
+# strm is unproved; of what `rt` says this shows only a failure. Without it, strm is the proved one in release.
 try:
 ifdef RT
 	@echo "nothing is proved here: strm is built without its proofs, which takes one to two minutes, and executes $(SCRIPT)" >&2
-	@{ cd crates/strm_driver && rt try -- --serial 2>&1 >&3 | { grep -vE '^(checked|races): |^run=' >&2 || true; }; } 3>&1 <"$(SCRIPT)"
+	@$(call LISTED,{ cd crates/strm_driver && rt try -- --serial 2>&1 >&3 | { grep -vE '^(checked|races): |^run=' >&2 || true; }; } 3>&1,$(SCRIPT))
 else
 	@echo "release/strm, proved and built from commit $$(sed -n 's/^Commit: //p' release/PROOF), executes $(SCRIPT)" >&2
-	@release/strm --serial <"$(SCRIPT)"
+	@$(call LISTED,release/strm --serial,$(SCRIPT))
 endif
 
 # Runs the gate: all proofs, edits to be refused, tests and cases.
