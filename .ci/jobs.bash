@@ -41,10 +41,11 @@ add_report() {
     [ "$lost" -eq 0 ] || { echo "$command FAILED (status $status):"; sed 's/^/  /' "$report"; }
 }
 
-# Sets `words` to the command of the job $1, and `name` to what it is called: these words without the folder for reports.
+# Sets `words` to the command of the job $1, and `name` to what it is called: these words without the folder for reports and that of the repository.
 read_job() {
     eval "words=(${commands[$1]})"
     name=${words[*]//"$room/"/}
+    name=${name//"$PWD/"/}
 }
 
 # Runs the job $1, and leaves its report, its status, and the processor seconds that it used.
