@@ -19,7 +19,7 @@
  * A `deadline` is a time of CLOCK_MONOTONIC. With null a call waits for ever; with a time that has
  * passed, such as zeros, it never waits. If a call would have to wait longer, it returns
  * STRM_MT_TIMED_OUT. A tv_nsec below 0 or above 999,999,999 is STRM_BAD_ARGUMENT, even if the call
- * need not wait.
+ * need not wait, but not for a `length` of 0.
  *
  * Each unlock serves the calls that wait: it puts, takes or allocates for each that can go on, and
  * then wakes its thread. So at no time while the lock is free does a call wait that could go on.
@@ -99,8 +99,8 @@ int strm_mt_close(struct strm_mt *mt);
 struct strm_pool *strm_mt_lock(struct strm_mt *mt);
 
 /*
- * Serves the calls that wait, unlocks the pool, and wakes the threads of those that went on. `mt` is
- * not null.
+ * Serves the calls that wait, unlocks the pool, and wakes the threads of those that went on. `mt`
+ * is not null.
  */
 void strm_mt_unlock(struct strm_mt *mt);
 
@@ -132,17 +132,17 @@ int strm_mt_receive(struct strm_mt *mt, uint32_t queue, struct strm_msg *msg, co
 
 /*
  * Sends messages as strm_mt_send does, with one deadline for all: those named in the array `msgs`
- * of `length` names, in this order. The result is as of strm_putq_n: STRM_OK once one is sent, even
- * if the deadline passes or the queue is shut then. The thread sleeps until all are sent. Between
- * messages of one band that follow one another in the array come none of other senders in this
- * band.
+ * of `length` names, in this order. The thread sleeps until all are sent, or a message is refused
+ * or the deadline passes. Then it returns STRM_OK if one was sent, or `length` is 0, and *count is
+ * the number of those sent; otherwise the code of the first. Between messages of one band that
+ * follow one another in the array come none of other senders in this band.
  */
 int strm_mt_send_n(struct strm_mt *mt, uint32_t queue, const struct strm_msg *msgs, size_t length,
 	const struct timespec *deadline, size_t *count);
 
 /*
- * Receives messages as strm_mt_receive does: as many as there are, at most `length`. It waits only
- * while there is none. The result is as of strm_getq_n.
+ * Receives messages as strm_mt_receive does: as many as there are, at most `length`, and stores
+ * their number in *count. It waits only while there is none.
  */
 int strm_mt_receive_n(struct strm_mt *mt, uint32_t queue, struct strm_msg *msgs, size_t length,
 	const struct timespec *deadline, size_t *count);
@@ -157,7 +157,7 @@ int strm_mt_alloc(struct strm_mt *mt, uint32_t size, struct strm_msg *msg, const
 
 /*
  * Shuts a queue for ever: sending there, and receiving once it is empty, returns STRM_MT_CLOSED.
- * All calls that wait there return so at once, or with STRM_OK if they have sent messages.
+ * All calls that wait there return so at once; strm_mt_send_n returns STRM_OK if it has sent some.
  * STRM_NO_QUEUE shuts all queues, and waiting for blocks, which shutting each queue does not.
  */
 int strm_mt_shut(struct strm_mt *mt, uint32_t queue);

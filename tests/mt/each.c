@@ -322,6 +322,8 @@ static void check_deadlines(void)
 		ANSWERS(strm_mt_alloc(mt, 1, &got, &wrong[number]), STRM_BAD_ARGUMENT);
 	}
 	CHECK(count == 7 && brings(NARROW, "a"));
+	ANSWERS(strm_mt_send_n(mt, WIDE, NULL, 0, &wrong[0], &count), STRM_OK);
+	CHECK(count == 0);
 	ANSWERS(strm_mt_receive(mt, NARROW, &got, &before), STRM_MT_TIMED_OUT);
 	ANSWERS(strm_mt_receive(mt, NARROW, &got, &at), STRM_MT_TIMED_OUT);
 	CHECK(has_passed(at));
