@@ -35,7 +35,8 @@ typedef struct strhead strhead_t;
 
 /*
  * Opens the first pool, with the message blocks, the classes and the wishes of `config`, or for null
- * with 2,048 blocks. More pools like it are opened for each 16 queues.
+ * with 2,048 blocks. Another pool like it is opened after 16 queues that have messages or are asked
+ * for room; a 17th pool ends the program. EINVAL for a wrong configuration.
  */
 int str_init(const struct strm_config *config);
 
