@@ -57,11 +57,11 @@ end_status() {
 # Prints the output of `rt ci` as it comes, of so many crates, but not what says of an item that it is proved. `rt ci` prints all of a crate at once,
 # when the crate is done.
 tell_proofs() {
-    local line proved=0
+    local line done_crates=0
     while IFS= read -r line; do
         case $line in
             'rt: '*)
-                [[ ! $line =~ ^rt:\ [a-z_]+\ (proved$|is\ kept:) ]] || echo "rt ci: $((++proved)) of $1 crates; " >"$room/step"
+                [[ ! $line =~ ^rt:\ [a-z_]+\ (proved$|is\ kept:) ]] || echo "rt ci: $((++done_crates)) of $1 crates; " >"$room/step"
                 say "$line"
                 ;;
             *': proved' | 'statements '* | 'logic '* | 'logic='*) ;;
