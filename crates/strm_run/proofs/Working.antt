@@ -223,15 +223,16 @@ module _ {N : Type 0} (n : Ghosts N) (parts : List (List Line)) (ps : List Pair)
         let replayed = left.told.replayed in
         let told =
         text_from-merge_of n.opened v (empty_tables n.desks) es (sym (ap (λ (r : Replay). r.pool) replayed)) (sym (ap (λ (r : Replay). r.replies) replayed)) in
+        let replied : text ≡ flat_map entry_text es ++ report_text v = written ∙ ap (λ (xs : List Entry). flat_map entry_text xs ++ report_text v) traced in
         let is =
-        written
-        ∙ ap (λ (xs : List Entry). flat_map entry_text xs ++ report_text v) traced
+        replied
         ∙ told
         ∙ ap (λ (w : PoolValue). text_from w (empty_tables n.desks) merge) opens
         ∙ ap (λ (k : ℕ). text_from (opening_pool script.config) (empty_tables k) merge) (under.desks ∙ ap length (sym same)) in
         record {
           entries = es;
           under = (merges, is);
+          replied = (report_text v, replied);
           each = length-map came (λ (d : DeskValue). d.served) ∙ worked.kept ∙ ap length (sym same);
           served = λ k within.
               served_at k (omega (arith, within, ap length same))

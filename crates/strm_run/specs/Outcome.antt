@@ -1,5 +1,6 @@
 -- What an input gives: its first fault, or a text of its script.
-use Rattle.std.specs.Prelude.{◌≡◌, ℕ, ◌+◌, ◌<◌, nat_lt, List, [], length, slice_index_or, Option, None, Some, Result, Ok, Err, IsOkAnd, if◌then◌else◌}
+use Rattle.std.specs.Prelude.{◌≡◌, ℕ, ◌+◌, ◌<◌, nat_lt, List, [], ◌++◌, length, slice_index_or, Option, None, Some, Result, Ok, Err, IsOkAnd, if◌then◌else◌}
+use Rattle.std.specs.List.{flat_map}
 use Rattle.std.specs.Option.{option_map}
 use Rattle.strm_pool.specs.declared.config.Config.{Config as ConfigValue}
 use Rattle.strm_pool.specs.Config.{fault_of}
@@ -13,7 +14,7 @@ use Rattle.strm_run.specs.declared.runs.Mode.TheVariants.{Serial, Workers}
 use Rattle.strm_script.specs.Merge.{Served, IsMerge, merge_of, serial_merge}
 use Rattle.strm_script.specs.declared.script.Script.{Script as ScriptValue}
 use Rattle.strm_script.specs.Script.{script_of}
-use Rattle.strm_script.specs.Text.{text_of}
+use Rattle.strm_script.specs.Text.{entry_text, text_of}
 
 -- ---- the fault
 
@@ -50,14 +51,22 @@ abbrev pub IsTextOf : Mode → ScriptValue → List ℕ → Type 0
 IsTextOf Serial script text = IsSerialText script text
 IsTextOf Workers script text = IsMergedText script text × (length script.parts ≡ 1 → IsSerialText script text)
 
--- A text in the order of serving: that of the script under the merge of some entries. The first entry has stamp `first` + 1, and
--- each next one has 1 more. There is a desk for each section, which was served exactly the entries of its number, with their
--- stamps. So what desks were served shows which entries these are, and in which order.
+-- A text in the order of serving: that of the script under the merge of some entries. It begins with a line for each of them,
+-- which has the entry's reply. The first entry has stamp `first` + 1, and each next one has 1 more. There is a desk for each
+-- section, which was served exactly the entries of its number, with their stamps. So what desks were served shows which entries
+-- these are, and in which order.
 pub record IsTextAsServed (script : ScriptValue) (first : ℕ) (desks : List (List (ℕ × Entry))) (text : List ℕ) : Type 0 where
   pub entries : List Entry
   pub under : IsTextUnder script (merge_of entries) text
+  pub replied : (report : List ℕ) × (text ≡ flat_map entry_text entries ++ report)
   pub each : length desks ≡ length script.parts
   pub served : (k : ℕ) → k < length script.parts → served_from (first + 1) k entries ≡ slice_index_or desks k []
+
+-- A text with the desks of its workers. By workers, it is in the order in which these desks were served. In serial mode there
+-- are no desks.
+abbrev pub IsTextBy : Mode → ScriptValue → List (List (ℕ × Entry)) → List ℕ → Type 0
+IsTextBy Serial script desks text = IsSerialText script text × (desks ≡ [])
+IsTextBy Workers script desks text = IsTextAsServed script 0 desks text
 
 -- the input has no fault, and this is the text of its script
 abbrev pub IsTextOfInput : Mode → ℕ → List ℕ → List ℕ → Type 0

@@ -1,12 +1,15 @@
--- The record of a reader or writer: failures, the end, and calls that came too late.
-use Rattle.std.specs.Prelude.{◌≡◌, ℕ, Bool, false, true, ◌||◌, ◌==◌, Result, Ok, Err}
+-- The record of a reader or writer: failures, the end, calls that came too late, and the desks whose text was written.
+use Rattle.std.specs.Prelude.{◌≡◌, ℕ, List, Bool, false, true, ◌||◌, ◌==◌, Result, Ok, Err}
+use Rattle.strm_pool.specs.declared.line.Entry.{Entry}
 
--- A reader or a writer, and whether a call on it failed, whether a read found the end, and whether a call came after either.
+-- A reader or a writer, and whether a call on it failed, whether a read found the end, and whether a call came after either. For
+-- each desk of the workers whose text a writer got: the entries that it was served, with their stamps.
 pub record Observed (T : Type 0) : Type 0 where
   pub inner : T
   pub failed : Bool
   pub ended : Bool
   pub past : Bool
+  pub desks : List (List (ℕ × Entry))
 
 -- a write failed, or took no bytes
 abbrev pub took_none : {E : Type 0} → Result ℕ E → Bool

@@ -30,8 +30,8 @@ use strm_shared::{
     Start, Trace, run_workers_without_replies,
 };
 
-/// The text of a script by workers, and the workers' desks, in order. The desks are spent, and contracts see what they were
-/// served.
+/// The text of a script, and the desks of the workers that executed it, in order; in serial mode there are none. The desks are
+/// spent, and contracts see what they were served.
 #[derive(Drop)]
 pub struct ServedText {
     pub text: Vec<u8>,

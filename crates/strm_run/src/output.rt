@@ -41,6 +41,7 @@ pub fn write_text<W: Write>(writer: &mut Watched<W>, text: &[u8]) -> Result<(), 
         (take n text.now)) }
     ensures writer { writer.new.failed ≡ (writer.old.failed || is_err result) }
     ensures stops { Stops writer.old writer.new }
+    ensures desks { writer.new.desks ≡ writer.old.desks }
 {
     let mut written = 0;
     while written < text.len() {

@@ -1,5 +1,5 @@
-//! A reader or writer with a record of failures, and of calls that came too late.
-ghost use Rattle.std.specs.Prelude.{◌≡◌, ◌||◌, ◌<◌, false, is_err, length};
+//! A reader or writer with a record of failures, of calls that came too late, and of the workers whose text it got.
+ghost use Rattle.std.specs.Prelude.{◌≡◌, ◌||◌, ◌<◌, [], false, is_err, length};
 ghost use Rattle.std.specs.Io.{ReadsAtMost, WritesAtMost};
 ghost use Rattle.std.specs.Io.KnownBytes.{Keeps, ReadConsumes, WriteAppends};
 ghost use Rattle.strm_run.specs.Watched.{gave_none, is_over, took_none};
@@ -7,15 +7,18 @@ ghost use Rattle.strm_run.specs.Watched.{gave_none, is_over, took_none};
 use std::io;
 use std::io::{Read, Write};
 use std::marker::Model;
+use strm_shared::SpentDesks;
 
 /// A reader or a writer. It records whether a call failed, whether a read found the end, and whether a call came after either.
-/// Only its own calls change this record.
+/// A writer also keeps the spent desks of the workers whose text it got last, and none before. Only its own calls and
+/// [`run`](crate::run) change this record.
 #[derive(Drop)]
 pub struct Watched<T> {
     inner: T,
     failed: bool,
     ended: bool,
     past: bool,
+    desks: SpentDesks,
 }
 
 impl<T> Model for Watched<T> {
@@ -23,7 +26,7 @@ impl<T> Model for Watched<T> {
 
     ghost Value = { Observed T };
 
-    ghost view = { λ w. record { inner = w.inner; failed = w.failed; ended = w.ended; past = w.past } };
+    ghost view = { λ w. record { inner = w.inner; failed = w.failed; ended = w.ended; past = w.past; desks = w.desks } };
 }
 
 impl<T> Watched<T> {
@@ -33,13 +36,22 @@ impl<T> Watched<T> {
         ensures failed { result.failed ≡ false }
         ensures ended { result.ended ≡ false }
         ensures past { result.past ≡ false }
+        ensures desks { result.desks ≡ [] }
     {
         Watched {
             inner,
             failed: false,
             ended: false,
             past: false,
+            desks: SpentDesks::new(),
         }
+    }
+
+    // Keeps the desks of the workers whose text comes next.
+    pub(crate) fn keep_desks(&mut self, desks: SpentDesks)
+        ensures { self.new ≡ record self.old { desks = desks } }
+    {
+        self.desks = desks;
     }
 
     // Notes a call: it is too late if one has failed, or if a read has found the end.
@@ -48,6 +60,7 @@ impl<T> Watched<T> {
         ensures failed { self.new.failed ≡ self.old.failed }
         ensures ended { self.new.ended ≡ self.old.ended }
         ensures past { self.new.past ≡ (self.old.past || is_over self.old) }
+        ensures desks { self.new.desks ≡ self.old.desks }
     {
         self.past = self.past || (self.failed || self.ended);
     }
@@ -61,6 +74,7 @@ impl<R: Read> Watched<R> {
         ensures failed { self.new.failed ≡ (self.old.failed || is_err result) }
         ensures ended { self.new.ended ≡ (self.old.ended || gave_none result) }
         ensures past { self.new.past ≡ (self.old.past || is_over self.old) }
+        ensures desks { self.new.desks ≡ self.old.desks }
     {
         self.note();
         let result = self.inner.read(buf);
@@ -79,6 +93,7 @@ impl<W: Write> Watched<W> {
         ensures failed { self.new.failed ≡ (self.old.failed || took_none result) }
         ensures ended { self.new.ended ≡ self.old.ended }
         ensures past { self.new.past ≡ (self.old.past || is_over self.old) }
+        ensures desks { self.new.desks ≡ self.old.desks }
     {
         self.note();
         let result = self.inner.write(buf);
@@ -92,6 +107,7 @@ impl<W: Write> Watched<W> {
         ensures failed { self.new.failed ≡ (self.old.failed || is_err result) }
         ensures ended { self.new.ended ≡ self.old.ended }
         ensures past { self.new.past ≡ (self.old.past || is_over self.old) }
+        ensures desks { self.new.desks ≡ self.old.desks }
     {
         self.note();
         let result = self.inner.flush();

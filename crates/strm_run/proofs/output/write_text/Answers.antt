@@ -12,4 +12,5 @@ loop-written-preserved g c = record {
   failed = search rules;
   ended = c.in-Ok.ensures.ended ∙ c.loop-written.invariant.ended;
   stops = stops_more c.args.writer.now c.loop-written.writer c.write.new.self c.loop-written.invariant.stops c.loop-written.invariant.failed c.loop-written.invariant.ended c.in-Ok.ensures.past;
+  desks = c.in-Ok.ensures.desks ∙ c.loop-written.invariant.desks;
 }

@@ -10,6 +10,7 @@ invariant-loop-written g l = record {
   failed : l.writer.failed ≡ l.initial.writer.failed;
   ended : l.writer.ended ≡ l.initial.writer.ended;
   stops : Stops l.initial.writer l.writer;
+  desks : l.writer.desks ≡ l.initial.writer.desks;
 }
 
 abbrev pub decreases-loop-written : goal.decreases-loop-written
