@@ -28,7 +28,7 @@ use Rattle.strm_scheduler.specs.Forwarding.{hand_first, handed_on, has_leave, wi
 use Rattle.strm_scheduler.specs.Modules.{AreTreated, AreTurns, Ends, IsTreated, IsTurn, Needs, Treats, service_moves, treated_moves, turn_moves, turns_moves}
 use Rattle.strm_scheduler.specs.Steps.{Accounts, AreMoved, AreSteps, Changed, Enabled, Flushed, IsStep, Move, Put, Ranked, Step, all_freed, all_joined, all_taken, free_of_queue, join, moves_at, ranked, ranked_at, step_moves, steps_moves, take_off, with_message_put, with_queue_flushed, with_rank}
 use Rattle.strm_scheduler.specs.Serving.{IsTaken}
-use Rattle.strm_scheduler.proofs.Beginning.{joined_parts}
+use Rattle.strm_scheduler.proofs.PoolLaws.{joined_parts}
 use Rattle.strm_scheduler.proofs.Holding.{enabled_specs}
 use Rattle.strm_scheduler.proofs.Moving.{enabling_keeps, put_keeps, put_leaves}
 use Rattle.strm_scheduler.proofs.Ordering.{of_rank-put}

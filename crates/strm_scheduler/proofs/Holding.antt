@@ -1,8 +1,8 @@
 -- Queues that are held back: each is enabled again, so all queues stay awake, and a run ends once all on the run list are held back.
-use Rattle.std.proofs.Common.{◌≡◌, ◌≢◌, ℕ, zero, suc, ◌+◌, ◌-◌, ◌<◌, ◌≤◌, inl, inr, Bool, true, false, not, ◌&&◌, List, [], ◌∷◌, ◌++◌, drop, length, IfSome, Option, Some, None, option_map, refl, sym, ap, ◌∙◌, subst, arith, append-nil, append_assoc, length-append, if◌then◌else◌, ◌||◌, ◌==◌, take, take-append-drop, nat_eq}
+use Rattle.std.proofs.Common.{◌≡◌, ◌≢◌, ℕ, zero, suc, ◌+◌, ◌-◌, ◌<◌, ◌≤◌, inl, inr, Bool, true, false, not, ◌&&◌, List, [], ◌∷◌, ◌++◌, drop, length, IfSome, Option, Some, None, option_map, refl, sym, ap, ◌∙◌, subst, arith, append-nil, append_assoc, length-append, if◌then◌else◌}
 use Rattle.std.specs.Prelude.{is_some, nat_lt, slice_get}
 use Rattle.std.specs.List.{All}
-use Rattle.std.proofs.lemmas.Bool.{cases_eq, eqb-false, eqb-true, false≢true, or_cases, or_left, or_right}
+use Rattle.std.proofs.lemmas.Bool.{cases_eq, eqb-false, eqb-true, false≢true}
 use Rattle.std.proofs.lemmas.Option.{none-some, same_Some}
 use Rattle.std.proofs.lemmas.List.Elements.{All-nil, All-push, All-same, All-weaker}
 use Rattle.strm_links.specs.Rows as rows
@@ -20,8 +20,6 @@ use Rattle.strm_scheduler.specs.Sides.{AreSides, next_of}
 use Rattle.strm_scheduler.specs.Steps.{with_queue_enabled, with_run}
 use Rattle.strm_scheduler.proofs.Falling.{powers-append, times_of_le}
 use Rattle.strm_scheduler.proofs.Keeping.{awake_grown, awake_on_run, enabled_grows, enabled_on}
-use Rattle.std.proofs.lemmas.List.Folds.{list_any-append}
-use Rattle.strm_scheduler.specs.Running.{last_first, with_woken_first}
 
 -- ---- a queue is enabled
 
@@ -37,76 +35,6 @@ pub enabled_last : (q : ℕ) (v : PoolValue) → (spec_at v.queues.specs q).serv
 enabled_last q v serves once = λ i.
     let t : QueueState = if serves i && not (once i) then record v.queues { run = v.queues.run ++ q ∷ [] } else v.queues in
     record v { queues = t }
-
--- ---- the last queue of the run list comes first
-
-last_first_has : (r : ℕ) (run : List ℕ) → rows.has r run ≡ true → rows.has r (last_first run) ≡ true
-last_first_has r run on =
-    let n = length run - 1 in
-    let split : rows.has r (take n run) || rows.has r (drop n run) ≡ true =
-    sym (list_any-append (λ x. x == r) (take n run) (drop n run)) ∙ ap (rows.has r) (take-append-drop n run) ∙ on in
-    list_any-append (λ x. x == r) (drop n run) (take n run)
-    ∙ elim (or_cases (rows.has r (take n run)) (rows.has r (drop n run)) split) [
-      | inl front ↦ or_right (rows.has r (drop n run)) (rows.has r (take n run)) front
-      | inr back ↦ or_left (rows.has r (drop n run)) (rows.has r (take n run)) back
-    ]
-
--- queue q is being served still
-serving_first : (q n : ℕ) (v : PoolValue) → IsServing q n v → IsServing q n (with_run (last_first v.queues.run) v)
-serving_first q n v s = record {
-  sides = s.sides;
-  next = s.next;
-  off = s.off;
-  others = λ p t other next.
-      awake_grown (queued_blocks_of v) (record v.queues { run = last_first v.queues.run }) (record { alone = refl; more = λ r on. last_first_has r v.queues.run on }) p t (s.others p t other next);
-}
-
-pub serving_woken : (q n enabled : ℕ) (v : PoolValue) → IsServing q n v → IsServing q n (with_woken_first enabled v)
-serving_woken q n enabled v s = by_number (nat_eq (length v.queues.run) enabled)
-  where
-    by_number : (b : Bool) → IsServing q n (if b then with_run (last_first v.queues.run) v else v)
-    by_number true = serving_first q n v s
-    by_number false = s
-
-kept_first : (v : PoolValue) → AreKeptAwake v → AreKeptAwake (with_run (last_first v.queues.run) v)
-kept_first v kept = record {
-  sides = kept.sides;
-  awake = λ p t next. awake_grown (queued_blocks_of v) (record v.queues { run = last_first v.queues.run }) (record { alone = refl; more = λ r on. last_first_has r v.queues.run on }) p t (kept.awake p t next);
-}
-
-pub kept_woken : (enabled : ℕ) (v : PoolValue) → AreKeptAwake v → AreKeptAwake (with_woken_first enabled v)
-kept_woken enabled v kept = by_number (nat_eq (length v.queues.run) enabled)
-  where
-    by_number : (b : Bool) → AreKeptAwake (if b then with_run (last_first v.queues.run) v else v)
-    by_number true = kept_first v kept
-    by_number false = kept
-
-pub woken_powers : (enabled : ℕ) (v : PoolValue) → powers (with_woken_first enabled v).queues.run ≡ powers v.queues.run
-woken_powers enabled v = by_number (nat_eq (length v.queues.run) enabled)
-  where
-    by_number : (b : Bool) → powers (if b then with_run (last_first v.queues.run) v else v).queues.run ≡ powers v.queues.run
-    by_number true =
-        let run = v.queues.run in
-        let n = length run - 1 in
-        let turned = powers-append (drop n run) (take n run) in
-        let before = powers-append (take n run) (drop n run) in
-        let whole = ap powers (take-append-drop n run) in
-        omega (arith, turned, before, whole)
-    by_number false = refl
-
-pub woken_arena : (enabled : ℕ) (v : PoolValue) → (with_woken_first enabled v).arena ≡ v.arena
-woken_arena enabled v = by_number (nat_eq (length v.queues.run) enabled)
-  where
-    by_number : (b : Bool) → (if b then with_run (last_first v.queues.run) v else v).arena ≡ v.arena
-    by_number true = refl
-    by_number false = refl
-
-pub woken_there : (enabled : ℕ) (v : PoolValue) (q : ℕ) → has_queue v q ≡ true → has_queue (with_woken_first enabled v) q ≡ true
-woken_there enabled v q there = by_number (nat_eq (length v.queues.run) enabled)
-  where
-    by_number : (b : Bool) → has_queue (if b then with_run (last_first v.queues.run) v else v) q ≡ true
-    by_number true = there
-    by_number false = there
 
 -- the queue that is being served is enabled
 module _ (q n : ℕ) (v : PoolValue) (s : IsServing q n v) where

@@ -14,3 +14,12 @@ pub mod Resting
 pub mod Needing
 pub mod Accounting
 pub mod Wanting
+pub mod Delivering
+pub mod Underway
+pub mod PoolLaws
+pub mod Looping
+pub mod Weighing
+pub mod Calls
+pub mod Started
+pub mod Turning
+pub mod Waking

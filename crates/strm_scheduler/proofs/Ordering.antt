@@ -20,7 +20,7 @@ use Rattle.strm_queue.proofs.order.Ends.{of_rank-append}
 use Rattle.strm_queue.proofs.order.Order.{rank_of-queued}
 use Rattle.strm_scheduler.specs.Sides.{KeepsOrder, next_of, part_of, side_of, side_within}
 use Rattle.strm_scheduler.proofs.Hops.{behind_is, behind_next, hop_ahead}
-use Rattle.strm_scheduler.proofs.Falling.{forwarded_weighs}
+use Rattle.strm_scheduler.proofs.Weighing.{forwarded_weighs}
 
 -- ---- one message joins a queue
 

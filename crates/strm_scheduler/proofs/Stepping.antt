@@ -27,13 +27,14 @@ use Rattle.strm_scheduler.specs.Serving.{IsServing, from_here, weigh}
 use Rattle.strm_pool.specs.Lawful.{IsLawful}
 use Rattle.strm_scheduler.specs.Sides.{AreSides, next_of}
 use Rattle.strm_scheduler.specs.Steps.{AreSteps, AreStill, Changed, Enabled, Flushed, IsStep, PassOne, Put, Step, with_message_put, with_queue_enabled, with_queue_flushed}
-use Rattle.strm_scheduler.proofs.Beginning.{banded_of}
-use Rattle.strm_scheduler.proofs.Settling.{AreBanded, awake_put, awake_settled, banded_left, flags_all, settled_flags, settled_specs}
+use Rattle.strm_scheduler.proofs.PoolLaws.{banded_of}
+use Rattle.strm_scheduler.proofs.Settling.{AreBanded, awake_settled, banded_left, flags_all, settled_flags, settled_specs}
+use Rattle.strm_scheduler.proofs.Calls.{awake_put}
 use Rattle.strm_scheduler.proofs.Hops.{hop_ahead}
 use Rattle.strm_scheduler.proofs.Keeping.{Grows, SameOff, awake_grown, awake_on_run, enabled_grows, enabled_on, enabled_where_grows, enabling_on, flags_related}
 use Rattle.strm_scheduler.proofs.Moving.{put_leaves}
 use Rattle.strm_scheduler.proofs.Unchanged.{awake_same}
-use Rattle.strm_scheduler.proofs.Falling.{each-put, weigh-set}
+use Rattle.strm_scheduler.proofs.Weighing.{each-put, weigh-set}
 
 -- ---- messages are freed
 

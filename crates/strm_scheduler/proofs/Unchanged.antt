@@ -22,7 +22,7 @@ use Rattle.strm_queue.proofs.Agreeing.{rank_of-same}
 use Rattle.strm_scheduler.specs.Laws.{KeepsQueued, is_awake, may_rest}
 use Rattle.strm_scheduler.specs.declared.need.Need.{Need}
 use Rattle.strm_scheduler.specs.Needs.{are_free}
-use Rattle.strm_scheduler.proofs.Beginning.{joined_parts}
+use Rattle.strm_scheduler.proofs.PoolLaws.{joined_parts}
 
 module _ (s t : DataStore) where
   rest_same : (read : Bool) (wanted : List Bool) (ms : List Message) → All (IsSameData s t) (flat_map (λ m. m) ms) → may_rest t read wanted ms ≡ may_rest s read wanted ms

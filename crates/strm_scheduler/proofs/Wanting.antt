@@ -17,7 +17,7 @@ use Rattle.strm_queue.specs.QueueLooks as looks
 use Rattle.strm_queue.specs.QueueSpecs.{are_lawful}
 use Rattle.strm_scheduler.specs.Laws.{IsAwaited}
 use Rattle.strm_scheduler.specs.Writers.{AreWritersWaiting, first_ready, is_wanted, or_ready, ready_at}
-use Rattle.strm_scheduler.proofs.Beginning.{banded_of}
+use Rattle.strm_scheduler.proofs.PoolLaws.{banded_of}
 use Rattle.strm_scheduler.proofs.Hops.{hop_ahead}
 use Rattle.strm_scheduler.proofs.Settling.{wanted_below}
 

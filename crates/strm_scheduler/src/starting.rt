@@ -47,7 +47,7 @@ pub fn serve(pool: &mut Pool, held: u32) -> Option<(Service, Token)>
 }
 
 // Enables a queue that gave a message again, as the last one, behind those held back. Returns its service.
-#[tactic(auto, using(crate::proofs::Holding::woken_there))]
+#[tactic(auto, using(crate::proofs::Turning::woken_there))]
 fn service_of(pool: &mut Pool, queue: u8, next: u8, held: u32, enabled: u32) -> Service
     requires { IsTrue (has_queue pool.old queue) }
     ensures pool { pool.new ≡ with_queue_enabled queue (with_woken_first enabled pool.old) }
@@ -60,7 +60,7 @@ fn service_of(pool: &mut Pool, queue: u8, next: u8, held: u32, enabled: u32) -> 
 
 // Makes the last queue of the run list the first if taking a message off woke it, also one that was put back: then as many are enabled
 // as before with the queue that had the message. So those held back stay together at the end.
-#[tactic(auto, using(crate::proofs::Resting::turned_first))]
+#[tactic(auto, using(crate::proofs::Turning::turned_first))]
 fn put_woken_first(pool: &mut Pool, enabled: u32)
     ensures { pool.new ≡ with_woken_first enabled pool.old }
 {

@@ -1,5 +1,5 @@
 -- A message that went is one more, and the first that stays is the end.
-use Rattle.strm_scheduler.proofs.Moving.{ended, ended_whole, further}
+use Rattle.strm_scheduler.proofs.Looping.{ended, ended_whole, further}
 use Rattle.strm_scheduler.proofs.service.forward.Goals as goal
 
 pub loop-from-preserved : goal.loop-from-preserved

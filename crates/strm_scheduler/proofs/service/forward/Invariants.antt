@@ -1,7 +1,7 @@
 -- So many messages have gone; the others are left, and so fewer with each round.
 use Rattle.std.proofs.Common.{length}
 use Rattle.strm_mblk.specs.Arena.{shelf_at}
-use Rattle.strm_scheduler.proofs.Moving.{IsOn}
+use Rattle.strm_scheduler.proofs.Looping.{IsOn}
 use Rattle.strm_scheduler.proofs.service.forward.Given as goal
 
 abbrev pub invariant-loop-from : goal.invariant-loop-from

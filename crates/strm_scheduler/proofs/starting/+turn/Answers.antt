@@ -1,5 +1,5 @@
 -- One queue goes to the end of the run list, and then others do.
-use Rattle.strm_scheduler.proofs.Resting.{turn_more}
+use Rattle.strm_scheduler.proofs.Turning.{turn_more}
 use Rattle.strm_scheduler.proofs.starting.+turn.Goals as goal
 
 pub returns-then-count-gt0 : goal.returns-then-count-gt0

@@ -5,7 +5,7 @@ use Rattle.strm_scheduler.specs.Laws.{AreKeptAwake}
 use Rattle.strm_scheduler.specs.Running.{AreRested}
 use Rattle.strm_scheduler.proofs.Holding.{place_past, place_within}
 use Rattle.strm_scheduler.proofs.Moving.{there_still}
-use Rattle.strm_scheduler.proofs.Treated.{blocked_here, gives, gives_awake, gives_held, none_taken, rests, rests_awake, rests_held, rests_id, rests_less}
+use Rattle.strm_scheduler.proofs.Started.{blocked_here, gives, gives_awake, gives_held, none_taken, rests, rests_awake, rests_held, rests_id, rests_less}
 use Rattle.strm_scheduler.proofs.starting.serve.Goals as goal
 
 pub loop-pool-init : goal.loop-pool-init

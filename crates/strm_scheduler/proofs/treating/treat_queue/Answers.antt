@@ -7,7 +7,7 @@ use Rattle.strm_scheduler.specs.Serving.{weigh}
 use Rattle.strm_scheduler.proofs.Beginning.{order_more}
 use Rattle.strm_scheduler.proofs.Ordering.{order_alike}
 use Rattle.strm_scheduler.proofs.Holding.{enabled_specs, kept_enabled, there_same}
-use Rattle.strm_scheduler.proofs.Moving.{begun, ended_whole, further}
+use Rattle.strm_scheduler.proofs.Looping.{begun, ended_whole, further}
 use Rattle.strm_scheduler.proofs.Needing.{never_held}
 use Rattle.strm_scheduler.proofs.Treated.{falls_ended, moved_more}
 use Rattle.strm_scheduler.proofs.treating.treat_queue.Goals as goal

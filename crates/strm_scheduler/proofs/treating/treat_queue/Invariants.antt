@@ -4,7 +4,7 @@ use Rattle.strm_mblk.specs.Arena.{shelf_at}
 use Rattle.strm_scheduler.specs.Modules.{AreTreated, IsMet, PassesEach, PassesOne}
 use Rattle.strm_scheduler.specs.Sides.{KeepsOrder}
 use Rattle.strm_scheduler.specs.Serving.{IsServing, weigh}
-use Rattle.strm_scheduler.proofs.Moving.{IsOn}
+use Rattle.strm_scheduler.proofs.Looping.{IsOn}
 use Rattle.strm_scheduler.proofs.treating.treat_queue.Given as goal
 
 abbrev pub invariant-loop-pool : goal.invariant-loop-pool

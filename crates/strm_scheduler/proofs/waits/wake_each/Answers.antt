@@ -1,7 +1,7 @@
 -- One more queue was woken, or waits still.
 use Rattle.std.proofs.Common.{arith, ap, length, sym, ◌∙◌, ◌≡◌, ◌||◌}
 use Rattle.strm_scheduler.specs.Waits.{with_queues_woken}
-use Rattle.strm_scheduler.proofs.Resting.{below_all, below_more, more_here, more_woken, none_below, none_more}
+use Rattle.strm_scheduler.proofs.Waking.{below_all, below_more, more_here, more_woken, none_below, none_more}
 use Rattle.strm_scheduler.proofs.waits.wake_each.Goals as goal
 use Rattle.strm_scheduler.proofs.waits.wake_each.Goals.{else-any, then-any}
 

@@ -1,6 +1,6 @@
 -- The queues before this one were woken if their wait was over. The entries from this one on are as they were.
 use Rattle.std.proofs.Common.{◌≡◌, ℕ, ◌-◌, ◌<◌, ◌≤◌, None, false, length}
-use Rattle.strm_scheduler.proofs.Resting.{AreWokenBelow}
+use Rattle.strm_scheduler.proofs.Waking.{AreWokenBelow}
 use Rattle.strm_scheduler.specs.Sides.{need_at}
 use Rattle.strm_scheduler.specs.Waits.{with_queues_woken}
 use Rattle.strm_scheduler.proofs.waits.wake_each.Given as goal

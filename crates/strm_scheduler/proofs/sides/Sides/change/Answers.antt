@@ -4,7 +4,7 @@ use Rattle.std.specs.Fn.{FnOnceReturnsAtMut}
 use Rattle.strm_pool.specs.PoolValue.{PoolValue}
 use Rattle.strm_scheduler.specs.Laws.{KeepsQueued}
 use Rattle.strm_scheduler.specs.Sides.{SidesValue}
-use Rattle.strm_scheduler.proofs.Resting.{wakes_after, woken_after}
+use Rattle.strm_scheduler.proofs.Waking.{wakes_after, woken_after}
 use Rattle.strm_scheduler.proofs.sides.Sides.change.Goals as goal
 
 pub invariant_of-self : goal.invariant_of-self

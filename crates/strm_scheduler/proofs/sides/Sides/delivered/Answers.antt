@@ -2,8 +2,8 @@ use Rattle.std.proofs.Common.{◌≡◌, [], subst}
 use Rattle.strm_pool.specs.PoolValue.{queued_blocks_of}
 use Rattle.strm_scheduler.specs.Laws.{AreAllEmpty, AreEndsEmpty}
 use Rattle.strm_scheduler.specs.Sides.{NoneWaits, SidesValue}
-use Rattle.strm_scheduler.proofs.Kept.{all_empty}
-use Rattle.strm_scheduler.proofs.Resting.{none_short}
+use Rattle.strm_scheduler.proofs.Delivering.{all_empty}
+use Rattle.strm_scheduler.proofs.Waking.{none_short}
 use Rattle.strm_scheduler.proofs.sides.Sides.delivered.Goals as goal
 
 pub returns : goal.returns

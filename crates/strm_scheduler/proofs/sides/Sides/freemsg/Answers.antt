@@ -4,7 +4,7 @@ use Rattle.strm_mblk.specs.Calls.{Spends}
 use Rattle.strm_mblk.specs.Freeing as freeing
 use Rattle.strm_pool.specs.PoolValue.{PoolValue, arena, with_token_spent}
 use Rattle.strm_scheduler.proofs.Unchanged.{arena_keeps}
-use Rattle.strm_scheduler.proofs.Resting.{wakes_after, woken_after}
+use Rattle.strm_scheduler.proofs.Waking.{wakes_after, woken_after}
 use Rattle.strm_scheduler.proofs.sides.Sides.freemsg.Goals as goal
 
 pub invariant_of-self : goal.invariant_of-self

@@ -1,7 +1,7 @@
 use Rattle.std.proofs.Common.{Ok}
 use Rattle.strm_mblk.specs.BlockCalls as blocks
 use Rattle.strm_scheduler.proofs.Unchanged.{arena_keeps, linkb_free}
-use Rattle.strm_scheduler.proofs.Resting.{held_kept}
+use Rattle.strm_scheduler.proofs.Waking.{held_kept}
 use Rattle.strm_scheduler.proofs.sides.Sides.linkb.Goals as goal
 
 pub invariant_of-self : goal.invariant_of-self

@@ -14,7 +14,7 @@ use Rattle.strm_scheduler.specs.declared.sides_fault.SidesFault.TheVariants.{NoN
 use Rattle.strm_scheduler.specs.Laws.{AreKeptAwake, may_rest}
 use Rattle.strm_scheduler.specs.Sides.{AreSides, SidesOpen, fault_from, fault_of_queue, or_fault}
 use Rattle.strm_scheduler.proofs.Keeping.{awake_at_rest}
-use Rattle.strm_scheduler.proofs.Resting.{awake_kept}
+use Rattle.strm_scheduler.proofs.Waking.{awake_kept}
 use Rattle.strm_scheduler.proofs.sides.Sides.new.Goals as goal
 
 -- New sides are kept awake: all queues are empty, and have their want-to-read marks.

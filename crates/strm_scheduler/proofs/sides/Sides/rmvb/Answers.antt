@@ -1,6 +1,6 @@
 use Rattle.strm_mblk.specs.BlockCalls as blocks
 use Rattle.strm_scheduler.proofs.Unchanged.{arena_keeps, rmvb_free}
-use Rattle.strm_scheduler.proofs.Resting.{held_kept}
+use Rattle.strm_scheduler.proofs.Waking.{held_kept}
 use Rattle.strm_scheduler.proofs.sides.Sides.rmvb.Goals as goal
 
 pub invariant_of-self : goal.invariant_of-self

@@ -1,7 +1,7 @@
 -- The queues that wait are enabled, and then all are awake.
 use Rattle.std.proofs.Common.{ap, subst, ◌∙◌}
 use Rattle.strm_scheduler.specs.Sides.{KeepsOrder, SidesValue}
-use Rattle.strm_scheduler.proofs.Resting.{awake_kept, begun_awake, begun_none, begun_order, begun_wishes}
+use Rattle.strm_scheduler.proofs.Waking.{awake_kept, begun_awake, begun_none, begun_order, begun_wishes}
 use Rattle.strm_scheduler.proofs.sides.Sides.run.Goals as goal
 
 pub serve_all-requires : goal.serve_all-requires

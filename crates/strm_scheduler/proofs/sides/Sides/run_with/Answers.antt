@@ -4,7 +4,8 @@ use Rattle.strm_pool.specs.PoolValue.{PoolValue}
 use Rattle.strm_scheduler.specs.Modules.{IsRunWith}
 use Rattle.strm_scheduler.specs.Sides.{SidesValue}
 use Rattle.strm_scheduler.specs.Waits.{with_all_woken}
-use Rattle.strm_scheduler.proofs.Resting.{awake_kept, begun_awake, begun_none, rests_kept}
+use Rattle.strm_scheduler.proofs.Waking.{awake_kept, begun_awake, begun_none}
+use Rattle.strm_scheduler.proofs.Resting.{rests_kept}
 use Rattle.strm_scheduler.proofs.sides.Sides.run_with.Goals as goal
 
 pub treat_all-requires-clause-awake : goal.treat_all-requires-clause-awake

@@ -4,7 +4,7 @@ use Rattle.strm_pool.specs.PoolValue.{PoolValue}
 use Rattle.strm_scheduler.specs.Running.{Starts}
 use Rattle.strm_scheduler.specs.Sides.{SidesValue}
 use Rattle.strm_scheduler.specs.Waits.{with_all_woken}
-use Rattle.strm_scheduler.proofs.Resting.{awake_kept, begun_awake, begun_none}
+use Rattle.strm_scheduler.proofs.Waking.{awake_kept, begun_awake, begun_none}
 use Rattle.strm_scheduler.proofs.sides.Sides.serve.Goals as goal
 
 pub invariant_of-self : goal.invariant_of-self

@@ -3,7 +3,7 @@ use Rattle.strm_mblk.specs.BlockCalls as blocks
 use Rattle.strm_mblk.specs.Calls.{Transfers}
 use Rattle.strm_pool.specs.PoolValue.{PoolValue, arena, on_arena, with_token_spent}
 use Rattle.strm_scheduler.proofs.Unchanged.{transfer_keeps}
-use Rattle.strm_scheduler.proofs.Resting.{wakes_after, woken_after}
+use Rattle.strm_scheduler.proofs.Waking.{wakes_after, woken_after}
 use Rattle.strm_scheduler.proofs.sides.Sides.transfer.Goals as goal
 
 pub invariant_of-self : goal.invariant_of-self

@@ -2,10 +2,10 @@ use Rattle.std.proofs.Common.{subst}
 use Rattle.strm_pool.specs.PoolValue.{queued_blocks_of}
 use Rattle.strm_scheduler.specs.Laws.{AreWaiting, AreWoken}
 use Rattle.strm_scheduler.specs.Sides.{SidesValue}
-use Rattle.strm_scheduler.proofs.Beginning.{banded_of}
-use Rattle.strm_scheduler.proofs.Kept.{waiting, woken_by}
+use Rattle.strm_scheduler.proofs.PoolLaws.{banded_of}
+use Rattle.strm_scheduler.proofs.Delivering.{waiting, woken_by}
 use Rattle.strm_scheduler.specs.Waits.{AreReadyWoken}
-use Rattle.strm_scheduler.proofs.Resting.{awake_unless_short, ready_woken}
+use Rattle.strm_scheduler.proofs.Waking.{awake_unless_short, ready_woken}
 use Rattle.strm_scheduler.proofs.sides.Sides.waiting.Goals as goal
 
 pub returns-clause-waits : goal.returns-clause-waits

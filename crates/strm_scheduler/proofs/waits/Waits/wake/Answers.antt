@@ -1,7 +1,7 @@
 -- Where no queue waits, none is woken.
 use Rattle.std.proofs.Common.{length, subst, sym}
 use Rattle.strm_scheduler.specs.Sides.{NoneWaits}
-use Rattle.strm_scheduler.proofs.Resting.{none_left, none_woken}
+use Rattle.strm_scheduler.proofs.Waking.{none_left, none_woken}
 use Rattle.strm_scheduler.proofs.waits.Waits.wake.Goals as goal
 
 pub returns-else-self-clause-waits : goal.returns-else-self-clause-waits
