@@ -1,5 +1,5 @@
 -- What the start of a service leaves: its queue rests, or gives a message and is enabled again.
-use Rattle.std.proofs.Common.{◌≡◌, ℕ, ◌+◌, ◌<◌, ◌⊎◌, inl, inr, Bool, true, false, List, [], ◌∷◌, length, get_or, set, Option, Some, None, sym, ap, ◌∙◌, subst, arith, Ok, refl, get_or-set_other, length-set}
+use Rattle.std.proofs.Common.{◌≡◌, ℕ, ◌+◌, ◌<◌, Bool, true, false, List, [], ◌∷◌, length, get_or, set, Option, Some, None, sym, ap, ◌∙◌, subst, arith, Ok, refl, get_or-set_other, length-set}
 use Rattle.std.proofs.lemmas.Bool.{false≢true}
 use Rattle.strm_links.specs.Rows as rows
 use Rattle.strm_mblk.specs.declared.token.TokenValue.{TokenValue}
@@ -17,8 +17,7 @@ use Rattle.strm_scheduler.proofs.Falling.{handed_powers}
 use Rattle.strm_mblk.specs.Calls.{TakesAny}
 use Rattle.strm_mblk.proofs.arena.Counts.{had_is}
 use Rattle.strm_pool.proofs.Tokens.{has_here}
-use Rattle.strm_scheduler.specs.declared.starting.Service.{Service}
-use Rattle.strm_scheduler.specs.Running.{IsBlocked, IsGiven, IsRested, with_woken_first}
+use Rattle.strm_scheduler.specs.Running.{IsGiven, IsRested, with_woken_first}
 use Rattle.strm_scheduler.proofs.Holding.{kept_enabled}
 use Rattle.strm_scheduler.proofs.Turning.{kept_woken, serving_woken, woken_arena, woken_powers}
 use Rattle.strm_scheduler.proofs.Treated.{awake_ended, serving_taken}
@@ -52,20 +51,6 @@ handed_same q n v w ended = record {
   held = sym (ap (λ (r : Bool × QueuedBlocks). r.1.arena.held) ended) ∙ first_held q n (messages_on (queued_blocks_of v) q) (queued_blocks_of v);
   id = sym (ap (λ (r : Bool × QueuedBlocks). r.1.arena.id) ended) ∙ first_id q n (messages_on (queued_blocks_of v) q) (queued_blocks_of v);
 }
-
--- nothing was taken of the held messages of u
-pub none_taken : (u w : PoolValue) → w.arena.held ≡ u.arena.held → w.arena.id ≡ u.arena.id → TakesAny arena (Ok (None, w)) u w (Ok None)
-none_taken u w held id = record {
-  after = refl;
-  token = refl;
-  had = tt;
-  unheld = tt;
-  others = record { id = id; size = ap length held; held = λ h none. ap (λ (ms : List (Option Message)). held_at (record u.arena { held = ms }) h) held };
-}
-
--- queues are enabled, so the first one is blocked if none can begin
-pub blocked_here : (v w : PoolValue) → v ≡ w → (k : ℕ) → k < length v.queues.run → (v.queues.run ≡ []) ⊎ IsBlocked v → IsBlocked w
-blocked_here v w same k here stops = subst IsBlocked same (elim stops [ inl none ↦ absurd (omega (arith, here, ap length none)) | inr blocked ↦ blocked ])
 
 -- ---- a service
 
@@ -118,18 +103,16 @@ module _ (q n : ℕ) (v x : PoolValue) (begun : IsBegun q n v x) where
     gives_awake kept =
         subst AreKeptAwake (sym after) (kept_enabled q n (with_woken_first enabled left) (serving_woken q n enabled left (serving_taken q n x begun.lawful (begun.serving kept) t left taken)))
 
-    pub gives : (held : ℕ) → enabled ≡ length v.queues.run → (s : Service) → s ≡ record { queue = q; next = n; held = held } → IsGiven held s t v w
-    gives held count s is =
-        subst (λ (k : Service). IsGiven held k t v w) (sym is)
-        (record {
-          first = begun.first;
-          goes_on = begun.next;
-          left = left;
-          taken = subst (λ (p : PoolValue). IsTaken q n t p left) begun.after taken;
-          after = after ∙ ap (λ k. with_queue_enabled q (with_woken_first k left)) count;
-          had = had_after;
-          held_is = refl;
-        })
+    pub gives : (held : ℕ) → enabled ≡ length v.queues.run → IsGiven held (record { queue = q; next = n; held = held }) t v w
+    gives held count = record {
+      first = begun.first;
+      goes_on = begun.next;
+      left = left;
+      taken = subst (λ (p : PoolValue). IsTaken q n t p left) begun.after taken;
+      after = after ∙ ap (λ k. with_queue_enabled q (with_woken_first k left)) count;
+      had = had_after;
+      held_is = refl;
+    }
 
     -- the held messages are those of u, and this one
     pub gives_held : (u : PoolValue) → v.arena.held ≡ u.arena.held → v.arena.id ≡ u.arena.id → held_at x.arena t.head ≡ None → TakesAny arena (Ok (Some t.head, w)) u w (Ok (Some t))

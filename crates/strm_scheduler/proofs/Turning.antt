@@ -2,7 +2,7 @@
 use Rattle.std.proofs.Common.{◌≡◌, ℕ, ◌-◌, ◌<◌, ◌≤◌, inl, inr, Bool, true, false, List, [], ◌∷◌, ◌++◌, drop, length, refl, sym, ap, ◌∙◌, arith, append-nil, append_assoc, if◌then◌else◌, ◌||◌, ◌==◌, take, take-append-drop, nat_eq}
 use Rattle.std.proofs.lemmas.Bool.{or_cases, or_left, or_right}
 use Rattle.strm_links.specs.Rows as rows
-use Rattle.strm_pool.specs.PoolValue.{PoolValue, has_queue, queued_blocks_of}
+use Rattle.strm_pool.specs.PoolValue.{PoolValue, queued_blocks_of}
 use Rattle.strm_scheduler.specs.Laws.{AreKeptAwake}
 use Rattle.strm_scheduler.specs.Serving.{IsServing, powers}
 use Rattle.strm_scheduler.specs.Steps.{with_run}
@@ -105,10 +105,3 @@ woken_arena enabled v = by_number (nat_eq (length v.queues.run) enabled)
     by_number : (b : Bool) → (if b then with_run (last_first v.queues.run) v else v).arena ≡ v.arena
     by_number true = refl
     by_number false = refl
-
-pub woken_there : (enabled : ℕ) (v : PoolValue) (q : ℕ) → has_queue v q ≡ true → has_queue (with_woken_first enabled v) q ≡ true
-woken_there enabled v q there = by_number (nat_eq (length v.queues.run) enabled)
-  where
-    by_number : (b : Bool) → has_queue (if b then with_run (last_first v.queues.run) v else v) q ≡ true
-    by_number true = there
-    by_number false = there

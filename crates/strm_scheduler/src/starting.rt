@@ -1,11 +1,11 @@
 //! The start of a service.
-ghost use Rattle.std.specs.Prelude.{◌≡◌, ◌⊎◌, ◌++◌, ◌∷◌, ℕ, IfSome, IsTrue, List, None, [], Ok, length, option_map};
+ghost use Rattle.std.specs.Prelude.{◌≡◌, ◌⊎◌, ◌++◌, ◌∷◌, ℕ, IfSome, List, None, [], Ok, length, option_map};
 ghost use Rattle.strm_mblk.specs.Calls.{TakesAny};
-ghost use Rattle.strm_pool.specs.PoolValue.{arena, has_queue};
+ghost use Rattle.strm_pool.specs.PoolValue.{arena};
 ghost use Rattle.strm_scheduler.specs.Laws.{AreKeptAwake};
 ghost use Rattle.strm_scheduler.specs.Running.{IsBlocked, Serves, Starts, with_woken_first};
 ghost use Rattle.strm_scheduler.specs.Serving.{IsBegun};
-ghost use Rattle.strm_scheduler.specs.Steps.{with_queue_enabled, with_run};
+ghost use Rattle.strm_scheduler.specs.Steps.{with_run};
 
 use crate::steps::enable;
 use crate::treating::take_allowed;
@@ -38,24 +38,14 @@ pub fn serve(pool: &mut Pool, held: u32) -> Option<(Service, Token)>
         let Some((queue, next)) = begin(pool) else {
             return None;
         };
-        if let Some(token) = take_allowed(pool, queue, next) {
-            return Some((service_of(pool, queue, next, held, enabled), token));
-        }
+        let taken = take_allowed(pool, queue, next);
         put_woken_first(pool, enabled);
+        if let Some(token) = taken {
+            enable(pool, queue);
+            return Some((Service { queue, next, held }, token));
+        }
     }
     None
-}
-
-// Enables a queue that gave a message again, as the last one, behind those held back. Returns its service.
-#[tactic(auto, using(crate::proofs::Turning::woken_there))]
-fn service_of(pool: &mut Pool, queue: u8, next: u8, held: u32, enabled: u32) -> Service
-    requires { IsTrue (has_queue pool.old queue) }
-    ensures pool { pool.new ≡ with_queue_enabled queue (with_woken_first enabled pool.old) }
-    ensures service { result ≡ record { queue = queue; next = next; held = held } }
-{
-    put_woken_first(pool, enabled);
-    enable(pool, queue);
-    Service { queue, next, held }
 }
 
 // Makes the last queue of the run list the first if taking a message off woke it, also one that was put back: then as many are enabled
