@@ -4,6 +4,7 @@ ghost use Rattle.std.specs.Fn.{FnOnceReturnsAtMut, FnOnceTakesAtMut};
 ghost use Rattle.strm_mblk.specs.Arena.{has};
 ghost use Rattle.strm_mblk.specs.BlockCalls as blocks;
 ghost use Rattle.strm_mblk.specs.Calls.{Frees, Joins, LeavesBlocks, Parts, Puts, Spends, TakesAny, Transfers};
+ghost use Rattle.strm_mblk.specs.Freeing as freeing;
 ghost use Rattle.strm_pool.specs.PoolValue.{PoolValue, arena, on_arena, on_queues, queued_blocks_of, with_arena, with_token_spent};
 ghost use Rattle.strm_queue.specs.QueueCalls as queues;
 ghost use Rattle.strm_scheduler.specs.Laws.{AreAllEmpty, AreEndsEmpty, AreKept, AreWaiting, AreWoken, KeepsQueued, hold, take};
@@ -247,13 +248,14 @@ impl Sides {
         returned
     }
 
-    /// Frees a message, and wakes the queues whose blocks are free then. A token that the pool does not have is spent, and nothing
-    /// else changes. As [`Pool::freemsg`].
+    /// Frees a message, and wakes the queues whose blocks are free then. As [`Pool::free_held`].
     pub fn freemsg(&mut self, token: Token)
-        ensures { ThenWakes (λ left. Spends arena token (with_token_spent self.old.pool token) self.old.pool left)
+        requires { IsTrue (has self.old.pool.arena token) }
+        ensures { ThenWakes (λ left. Spends arena token
+            (with_arena self.old.pool (freeing.freemsg token.head self.old.pool.arena)) self.old.pool left)
             self.old self.new }
     {
-        self.pool.freemsg(token);
+        self.pool.free_held(token);
         self.waits.wake(&mut self.pool, false);
     }
 
