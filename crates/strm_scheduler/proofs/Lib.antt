@@ -14,6 +14,7 @@ pub mod Resting
 pub mod Needing
 pub mod Accounting
 pub mod Wanting
+pub mod Recording
 pub mod Delivering
 pub mod Underway
 pub mod PoolLaws

@@ -1,7 +1,7 @@
 -- Writers that wait: the target of a queue, and what is true of the writers that `next` does not give.
-use Rattle.std.proofs.Common.{◌≡◌, ℕ, zero, suc, ◌+◌, ◌<◌, ◌≤◌, Bool, true, false, List, [], ◌∷◌, length, get_or, set, Option, Some, None, Ok, Err, refl, sym, ap, ◌∙◌, subst, arith, if◌then◌else◌, get_or-set_same, Result}
+use Rattle.std.proofs.Common.{◌≡◌, ℕ, zero, suc, ◌+◌, ◌<◌, ◌≤◌, Bool, true, false, not, List, [], ◌∷◌, length, set, Option, Some, None, Ok, Err, refl, sym, ap, ◌∙◌, inl, inr, subst, arith, if◌then◌else◌, get_or-set_same, Result}
 use Rattle.std.specs.Option.{option_map_or}
-use Rattle.std.proofs.lemmas.Bool.{ltb-false, ltb-true, ne_eqb}
+use Rattle.std.proofs.lemmas.Bool.{and_parts, eqb-true, ltb-false, ltb-true, ne_eqb, or_cases}
 use Rattle.std.proofs.lemmas.List.{get_or_past}
 use Rattle.strm_data.specs.declared.refusal.Refusal.{Refusal}
 use Rattle.strm_data.specs.declared.refusal.Refusal.TheVariants.{NoSuchQueue}
@@ -16,7 +16,7 @@ use Rattle.strm_queue.specs.QueuedBlocks.{QueuedBlocks}
 use Rattle.strm_queue.specs.QueueLooks as looks
 use Rattle.strm_queue.specs.QueueSpecs.{are_lawful}
 use Rattle.strm_scheduler.specs.Laws.{IsAwaited}
-use Rattle.strm_scheduler.specs.Writers.{AreWritersWaiting, first_ready, is_wanted, or_ready, ready_at}
+use Rattle.strm_scheduler.specs.Writers.{AreWritersWaiting, Writer, first_ready, is_same, is_wanted, waits}
 use Rattle.strm_scheduler.proofs.PoolLaws.{banded_of}
 use Rattle.strm_scheduler.proofs.Hops.{hop_ahead}
 use Rattle.strm_scheduler.proofs.Settling.{wanted_below}
@@ -87,7 +87,7 @@ module _ (v : QueuedBlocks) (q : ℕ) where
 
 module _ (v : PoolValue) (law : IsLawful v) where
   -- a wanted band has more bytes than its low water mark
-  pub awaited : (q band : ℕ) → is_wanted v.queues q band ≡ true → IsAwaited (queued_blocks_of v) (target v.queues.specs q) band
+  pub awaited : (q band : ℕ) → is_wanted v.queues (q, band) ≡ true → IsAwaited (queued_blocks_of v) (target v.queues.specs q) band
   awaited q band wanted =
       let p = target v.queues.specs q in
       let below : band < bands = wanted_below (flags_at v.queues p).wanted (banded_of v law p) band wanted in
@@ -99,7 +99,7 @@ module _ (v : PoolValue) (law : IsLawful v) where
         → (let p = target v.queues.specs q in
         let room : Bool × QueuedBlocks = if full then (false, with_state (with_wanted p band) (queued_blocks_of v)) else (true, queued_blocks_of v) in
         let given : Given QueuedBlocks Bool = if there then Ok room else Err NoSuchQueue in
-        answer_of (on_queues v given) ≡ Ok false → is_wanted (value_after v (on_queues v given)).queues q band ≡ true)
+        answer_of (on_queues v given) ≡ Ok false → is_wanted (value_after v (on_queues v given)).queues (q, band) ≡ true)
     asked false full is refused = absurd (cc)
     asked true false is refused = absurd (cc)
     asked true true is refused =
@@ -120,37 +120,31 @@ module _ (v : PoolValue) (law : IsLawful v) where
           by_there true is so = ltb-true q (length v.queues.specs) is
           by_there false is so = absurd (cc)
 
-      pub refused_wanted : (w : PoolValue) → w ≡ value_after v (on_queues v (bcanput q band (queued_blocks_of v))) → is_wanted w.queues q band ≡ true
+      pub refused_wanted : (w : PoolValue) → w ≡ value_after v (on_queues v (bcanput q band (queued_blocks_of v))) → is_wanted w.queues (q, band) ≡ true
       refused_wanted w after =
-          subst (λ (x : PoolValue). is_wanted x.queues q band ≡ true) (sym after)
+          subst (λ (x : PoolValue). is_wanted x.queues (q, band) ≡ true) (sym after)
           (asked (has_queue (queued_blocks_of v) q) (is_full (queued_blocks_of v) (target v.queues.specs q) band) refl refused)
 
 -- ---- which writers are given
 
-module _ (s : QueueState) where
-  no_first : (a b : Option (ℕ × ℕ)) → or_ready a b ≡ None → (a ≡ None) × (b ≡ None)
-  no_first None b none = (refl, none)
-  no_first (Some r) b none = absurd (cc)
-
-  -- a writer that is not ready waits for a band that is wanted
-  not_ready : (q band : ℕ) → ready_at s q (Some band) ≡ None → is_wanted s q band ≡ true
-  not_ready q band none = by_wanted (is_wanted s q band) none
-    where
-      by_wanted : (wanted : Bool) → ◌≡◌ {A = Option (ℕ × ℕ)} (if wanted then None else Some (q, band)) None → wanted ≡ true
-      by_wanted true none = refl
-      by_wanted false none = absurd (cc)
-
-  none_ready : (q : ℕ) (waits : List (Option ℕ)) → first_ready s q waits ≡ None → (k band : ℕ) → get_or waits k None ≡ Some band → is_wanted s (q + k) band ≡ true
-  none_ready q [] none k band is = absurd (cc)
-  none_ready q (wait ∷ waits) none zero band is =
-      let same : q + 0 ≡ q = omega arith in
-      ap (λ j. is_wanted s j band) same ∙ not_ready q band (ap (ready_at s q) (sym is) ∙ (no_first _ _ none).0)
-  none_ready q (wait ∷ waits) none (suc k) band is =
-      let same : q + suc k ≡ (q + 1) + k = omega arith in
-      ap (λ j. is_wanted s j band) same ∙ none_ready (q + 1) waits (no_first _ _ none).1 k band is
+-- if none is ready, the band of each is wanted
+none_ready : (s : QueueState) (ws : List Writer) → first_ready s ws ≡ None → (w : Writer) → waits w ws ≡ true → is_wanted s w ≡ true
+none_ready s [] none w waiting = absurd (cc)
+none_ready s (x ∷ ws) none w waiting = by_wanted (is_wanted s x) refl (λ rest there. none_ready s ws rest w there) none
+  where
+    by_wanted : (wanted : Bool) → is_wanted s x ≡ wanted → (first_ready s ws ≡ None → waits w ws ≡ true → is_wanted s w ≡ true)
+        → ◌≡◌ {A = Option Writer} (if not wanted then Some x else first_ready s ws) None → is_wanted s w ≡ true
+    by_wanted false is further some = absurd (cc)
+    by_wanted true is further rest =
+        elim (or_cases (is_same w x) (waits w ws) waiting) [
+          | inl here ↦
+              let parts = and_parts _ _ here in
+              let queue : w.0 ≡ x.0 = eqb-true w.0 x.0 parts.0 in
+              let band : w.1 ≡ x.1 = eqb-true w.1 x.1 parts.1 in
+              (λ i. is_wanted s (queue i, band i)) ∙ is
+          | inr there ↦ further rest there
+        ]
 
 -- if `next` gives none, each writer that waits is refused still
-pub all_wait : (v : PoolValue) → IsLawful v → (waits : List (Option ℕ)) → first_ready v.queues 0 waits ≡ None → AreWritersWaiting waits (queued_blocks_of v)
-all_wait v law waits none q band is =
-    let same : q ≡ 0 + q = omega arith in
-    awaited v law q band (ap (λ k. is_wanted v.queues k band) same ∙ none_ready v.queues 0 waits none q band is)
+pub all_wait : (v : PoolValue) → IsLawful v → (ws : List Writer) → first_ready v.queues ws ≡ None → AreWritersWaiting ws (queued_blocks_of v)
+all_wait v law ws none q band waiting = awaited v law q band (none_ready v.queues ws none (q, band) waiting)

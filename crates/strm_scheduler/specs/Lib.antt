@@ -7,4 +7,5 @@ pub mod Serving
 pub mod Steps
 pub mod Modules
 pub mod Writers
+pub mod WritersLayout
 pub mod Waits

@@ -31,9 +31,9 @@ enum Shape {
 struct Drawn {
     sides: Sides,
     plain: Plain,
-    // The writers that wait, and for each queue the band that its writer waits for.
+    // The writers that wait, and the queue and band of each, first refused first.
     writers: Writers,
-    waits: [Option<u8>; QUEUES],
+    waits: Vec<(u8, u8)>,
     // As many bytes as a message may have: to write, and to read into.
     bytes: Vec<u8>,
     room: Vec<u8>,
@@ -175,8 +175,8 @@ impl Drawn {
         Drawn {
             sides: opened(rt, alloc, specs).expect(rt, "sides"),
             plain: Plain::new(rt, alloc, specs),
-            writers: Writers::new(),
-            waits: [None; QUEUES],
+            writers: Writers::new(alloc).expect(rt, "writers"),
+            waits: Vec::new(alloc),
             bytes: most_bytes(rt, alloc),
             room: most_bytes(rt, alloc),
             count,
@@ -250,34 +250,36 @@ impl Drawn {
         self.take(rt, self.shape.end(self.count, side));
     }
 
-    // The writer of a queue asks whether a band has room, and waits if it has none.
+    // A writer asks whether a band of a queue has room, and waits if it has none. If it waits already, it keeps its place.
     fn ask(&mut self, rt: &impl Abort) {
         let queue = self.any_queue();
         let band = band(&mut self.draw);
         let room = self.plain.bcanput(rt, queue, band);
         assert_eq!(rt; self.sides.bcanput(queue, band), Ok(room));
         self.writers.record(queue, band, room);
-        self.waits[usize::from(queue)] = (!room).then_some(band);
+        if room {
+            self.waits.retain(|writer| *writer != (queue, band));
+        } else if !self.waits.contains(&(queue, band)) {
+            self.waits.push((queue, band)).expect(rt, "memory");
+        }
     }
 
-    // Whether the writer of a queue waits for this band, and the band is no longer wanted.
-    fn is_ready(&self, queue: u8, band: u8) -> bool {
+    // The place of the first writer whose band is no longer wanted.
+    fn ready(&self) -> Option<usize> {
         let queues = self.plain.queues();
-        queues
-            .get(usize::from(queue))
-            .is_some_and(|queue| !queue.band(band).wanted)
+        self.waits.iter().position(|(queue, band)| {
+            queues
+                .get(usize::from(*queue))
+                .is_some_and(|queue| !queue.band(*band).wanted)
+        })
     }
 
-    // Each writer whose band has drained is given, once, and no other one.
+    // Each writer whose band has drained is given, once, first refused first, and no other one.
     fn wake(&mut self, rt: &impl Abort) {
-        for queue in 0..self.count {
-            if let Some(band) = self.waits[usize::from(queue)]
-                && self.is_ready(queue, band)
-            {
-                assert_eq!(rt; self.writers.next(self.sides.pool()), Some((queue, band)));
-                self.waits[usize::from(queue)] = None;
-                self.written = self.written.wrapping_add(1);
-            }
+        while let Some(place) = self.ready() {
+            let writer = self.waits.remove(place);
+            assert_eq!(rt; self.writers.next(self.sides.pool()), Some(writer));
+            self.written = self.written.wrapping_add(1);
         }
         assert_eq!(rt; self.writers.next(self.sides.pool()), None);
     }
@@ -410,7 +412,7 @@ impl Drawn {
         }
         assert_same(rt, &self.sides, &self.plain, u8::MAX);
         self.wake(rt);
-        assert!(rt; self.waits.iter().all(|waits| waits.is_none()));
+        assert!(rt; self.waits.is_empty());
         let census = self.sides.pool().census();
         assert_eq!(rt; (census.free, census.queued, census.held), (MESSAGES, 0, 0));
     }

@@ -215,11 +215,9 @@ fn assert_asked(rt: &impl Abort, pool: &mut Pool, writers: &mut Writers, row: &A
     }
 }
 
-// Writers put on queue 2, by itself or by queue 0 or 1, which have no service procedure. There 8 bytes fill a band, and 2 are at
-// its low water mark. A writer is given once its band has drained so far, and not before, nor twice. It waits for the band of its
-// last question, and no longer if that has room.
-#[test]
-fn writers_wait_for_room(rt: HostRuntime) {
+// Four queues. Queue 2 has a service procedure, and 8 bytes fill a band there; its low water mark is 2. Queues 0 and 1 have none, so
+// their target is queue 2.
+fn passed(rt: &impl Abort, alloc: Global) -> Pool {
     let passes = |next| QueueSpec {
         service: false,
         ..queue(1, 0, Some(next))
@@ -230,9 +228,25 @@ fn writers_wait_for_room(rt: HostRuntime) {
         queue(8, 2, Some(3)),
         queue(1, 0, None),
     ];
-    let config = configured(&rt, 1, ClassSpec { size: 64, count: 8 }, &specs);
-    let mut pool = Pool::new(rt.alloc(), config).expect(&rt, "a pool");
-    let mut writers = Writers::new();
+    let config = configured(rt, 1, ClassSpec { size: 64, count: 8 }, &specs);
+    Pool::new(alloc, config).expect(rt, "a pool")
+}
+
+// The calls of these rows return what they have to. Then no writer is ready, also none of a queue that no pool has.
+fn assert_all_asked(rt: &impl Abort, alloc: Global, rows: &[Asked]) {
+    let mut pool = passed(rt, alloc);
+    let mut writers = Writers::new(alloc).expect(rt, "writers");
+    for row in rows {
+        assert_asked(rt, &mut pool, &mut writers, row);
+    }
+    writers.record(255, 0, false);
+    assert!(rt; writers.next(&pool).is_none());
+}
+
+// A writer is given once its band has drained to its low water mark, and not before, nor twice. It no longer waits once it was
+// answered that there is room.
+#[test]
+fn writers_wait_for_room(rt: HostRuntime) {
     let rows = [
         Asked::Ask(0, 0, Ok(true)),
         Asked::Put(0, 8),
@@ -263,14 +277,9 @@ fn writers_wait_for_room(rt: HostRuntime) {
         Asked::Ask(1, 0, Ok(true)),
         Asked::Take,
         Asked::Next(None),
-        // Another band.
-        Asked::Put(0, 8),
-        Asked::Put(1, 8),
-        Asked::Ask(0, 1, Ok(false)),
-        Asked::Ask(0, 0, Ok(false)),
-        Asked::Take,
-        Asked::Next(None),
         // Other water marks, and queues that do not exist.
+        Asked::Put(0, 8),
+        Asked::Ask(0, 0, Ok(false)),
         Asked::Marks(0, 20, 8),
         Asked::Ask(4, 0, Err(Refusal::NoSuchQueue)),
         Asked::Ask(255, 0, Err(Refusal::NoSuchQueue)),
@@ -278,9 +287,75 @@ fn writers_wait_for_room(rt: HostRuntime) {
         Asked::Next(None),
         Asked::Take,
     ];
-    for row in &rows {
-        assert_asked(&rt, &mut pool, &mut writers, row);
-    }
-    writers.record(255, 0, false);
-    assert!(&rt; writers.next(&pool).is_none());
+    assert_all_asked(&rt, rt.alloc(), &rows);
+}
+
+// A queue has a writer for each band. One that was refused is given once its band has drained, whatever the queue is answered about
+// other bands.
+#[test]
+fn writers_wait_for_each_band(rt: HostRuntime) {
+    let rows = [
+        Asked::Put(0, 8),
+        Asked::Put(1, 8),
+        Asked::Ask(0, 1, Ok(false)),
+        Asked::Ask(0, 0, Ok(false)),
+        Asked::Ask(0, 2, Ok(true)),
+        Asked::Next(None),
+        Asked::Take,
+        Asked::Next(Some((0, 1))),
+        Asked::Next(None),
+        Asked::Take,
+        Asked::Next(Some((0, 0))),
+        Asked::Next(None),
+        // Room in band 0 leaves the writer of band 1 waiting.
+        Asked::Put(1, 8),
+        Asked::Ask(0, 1, Ok(false)),
+        Asked::Ask(0, 0, Ok(true)),
+        Asked::Next(None),
+        Asked::Take,
+        Asked::Next(Some((0, 1))),
+    ];
+    assert_all_asked(&rt, rt.alloc(), &rows);
+}
+
+// Of writers that are ready, the first refused is given, whatever its queue. One that is refused again keeps its place, and comes last
+// if it was given before. So a writer of queue 0 that fills the band again and again does not starve the others.
+#[test]
+fn writers_are_given_in_turn(rt: HostRuntime) {
+    let rows = [
+        Asked::Put(0, 8),
+        Asked::Ask(2, 0, Ok(false)),
+        Asked::Ask(1, 0, Ok(false)),
+        Asked::Ask(0, 0, Ok(false)),
+        Asked::Ask(2, 0, Ok(false)),
+        Asked::Take,
+        Asked::Next(Some((2, 0))),
+        Asked::Put(0, 8),
+        Asked::Ask(2, 0, Ok(false)),
+        Asked::Take,
+        Asked::Next(Some((1, 0))),
+        Asked::Put(0, 8),
+        Asked::Ask(1, 0, Ok(false)),
+        Asked::Take,
+        Asked::Next(Some((0, 0))),
+        Asked::Put(0, 8),
+        Asked::Ask(0, 0, Ok(false)),
+        Asked::Take,
+        Asked::Next(Some((2, 0))),
+        Asked::Next(Some((1, 0))),
+        Asked::Next(Some((0, 0))),
+        // Writers behind one that still waits are given.
+        Asked::Put(0, 8),
+        Asked::Put(1, 8),
+        Asked::Ask(0, 0, Ok(false)),
+        Asked::Ask(2, 1, Ok(false)),
+        Asked::Ask(1, 1, Ok(false)),
+        Asked::Take,
+        Asked::Next(Some((2, 1))),
+        Asked::Next(Some((1, 1))),
+        Asked::Next(None),
+        Asked::Take,
+        Asked::Next(Some((0, 0))),
+    ];
+    assert_all_asked(&rt, rt.alloc(), &rows);
 }

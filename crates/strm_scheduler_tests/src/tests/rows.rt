@@ -425,7 +425,7 @@ fn assert_refused(rt: &impl Abort, sides: &mut Sides) {
 #[test]
 fn a_writer_waits(rt: HostRuntime) {
     let mut sides = opened(&rt, rt.alloc(), &narrow()).expect(&rt, "sides");
-    let mut writers = Writers::new();
+    let mut writers = Writers::new(rt.alloc()).expect(&rt, "writers");
     for byte in *b"ab" {
         assert_eq!(rt; sides.bcanput(1, 0), Ok(true));
         assert!(rt; put(&mut sides, 1, 0, &[byte]).is_ok());
