@@ -12,8 +12,11 @@ use crate::need::Need;
 use crate::steps::send;
 use strm_pool::{Pool, QueuedInfo, Token};
 
-/// A STREAMS module: its service procedure treats each message on its way to the next queue. Which messages may go, and when,
-/// is no concern of the module. It only says for which ones it needs blocks.
+/// A STREAMS module: its service procedure treats each message on its way to the next queue. It gets only messages that may go there:
+/// those of high priority, and those whose band has room.
+///
+/// A module cannot ask for room elsewhere. [`send`](crate::send) puts a message on a queue even if its band is full there: a reply, a
+/// message for another queue than the next one, a second message, and one whose band the module changed.
 pub trait Module {
     // What `need` can return: the module, the pool, the queue, its first message, and what is returned.
     ghost needs: { Self → PoolValue → ℕ → QueuedInfo → NeedValue → Type 0 };
@@ -25,7 +28,8 @@ pub trait Module {
     /// Says what must be free before the module treats this message, the first one of a queue, or that the module wants it
     /// later. Until then, the message stays on its queue.
     ///
-    /// If the pool has too few blocks for it even with all of them free, the run ends at the queue's turn, and reports the queue.
+    /// If the pool has too few blocks for it even with all of them free, the run ends at the queue's turn, and reports the queue. If it
+    /// has enough, the message waits until as many are free, even if only the message itself has them: then it waits for ever.
     fn need(&self, pool: &Pool, queue: u8, first: &QueuedInfo) -> Need
         ensures { needs self.now pool.now queue first.now result };
 

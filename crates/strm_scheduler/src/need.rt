@@ -10,7 +10,8 @@ use strm_pool::{ClassInfo, Pool, ShortList};
 pub const MOST_SIZES: usize = 8;
 
 /// What a module needs before it treats a message. For each size, this is what `allocb` takes: a message block, and a data block
-/// of at least this many bytes. Beside these it needs message blocks alone, as `dupb` and `dupmsg` take them.
+/// of at least this many bytes. Beside these it needs message blocks alone, as `dupb` and `dupmsg` take them. Those two may still be
+/// refused as `RefMax`: a data block has at most 255 references, which no need counts.
 #[derive(Debug, Drop)]
 pub struct Need {
     /// The sizes, in bytes.
@@ -56,7 +57,7 @@ impl Need {
             && all_fit(pool, false, self.sizes.items(), self.sizes.items())
     }
 
-    /// Says whether the pool has as much, free or not.
+    /// Says whether the pool has as much, free or not. All its blocks count, also those of messages on queues.
     pub fn can_be_free(&self, pool: &Pool) -> bool
         ensures { result ≡ can_be_free self.now pool.now.arena }
     {

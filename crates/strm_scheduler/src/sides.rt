@@ -28,8 +28,9 @@ use strm_pool::{Config, Pool, QueueSpec, Refusal, Rejected, Token};
 /// A pool whose queues form sides of streams. Each queue with a next queue has a service procedure that forwards its messages
 /// there. The last queue of a side has none: from it, the user takes messages.
 ///
-/// No wake-up is lost, whatever calls are made ([`lawful`](Sides::lawful)). So no call puts a message back without enabling the
-/// queue, or switches enabling off. None takes a message from the middle of a side that may not go on.
+/// No wake-up is lost, whatever calls are made ([`lawful`](Sides::lawful)). So a caller puts a message back only by
+/// [`hold`](Sides::hold), which enables the queue. No call switches enabling off. Of a queue with a next queue, only services take
+/// messages: those of [`run`](Sides::run), [`run_with`](Sides::run_with) and [`serve`](Sides::serve). They take none that may not go on.
 #[derive(Debug, Drop)]
 pub struct Sides {
     pool: Pool,
@@ -186,14 +187,20 @@ impl Sides {
     /// As `run`, but a module treats each message that has left its queue and may go on to the next one.
     ///
     /// A message is held back while what the module needs for it ([`Module::need`]) is not free. It stays first on its queue. Other
-    /// queues are served meanwhile. At the end the queues that are held back for blocks leave the run list and rest: a call that
-    /// frees these blocks, or the next run, enables them. A message that is wanted later stays on an enabled queue (`HeldBack`). A
-    /// need that the pool can never meet ends the run when its queue has a turn (`NeverMet`).
+    /// queues are served meanwhile. Once each enabled queue is held back, those held back for blocks leave the run list and rest. A
+    /// call that frees these blocks enables them, as do the next `run`, `run_with` and `serve`. A message that is wanted later stays on
+    /// an enabled queue (`HeldBack`).
+    ///
+    /// If the pool has fewer blocks in all than the module needs for a message, the run ends at the turn of its queue (`NeverMet`), and
+    /// no queue rests for blocks. All blocks of the pool count, also those of messages on queues, and of this message. So a queue may
+    /// wait for ever for blocks that only its own message has.
     ///
     /// No message is lost: one that was on a queue, or that the module put there, is there still, went to the module, or was
-    /// flushed. On a queue that is not flushed, messages of a rank leave in the order in which they came.
+    /// flushed. On a queue that is not flushed, messages of a rank leave in the order in which they came. That is said of each queue,
+    /// not of a side.
     ///
-    /// `budget` is the greatest number of services. Without one, the module must pass one message on at most for each that it
+    /// `budget` is the greatest number of services. Once they are spent, the run ends if a queue is enabled (`Spent`), and no queue rests
+    /// for blocks. Without a budget, the module must pass one message on at most for each that it
     /// gets, and leave the queues unchanged otherwise: so the run ends.
     pub fn run_with<M: Module>(&mut self, handler: &mut M, budget: Option<u32>) -> Ended
         requires ends { budget ≡ None → PassesOne M.treats }
