@@ -40,6 +40,8 @@ struct Drawn {
     count: u8,
     shape: Shape,
     draw: u32,
+    // The greatest number of queues that gave messages which were all put back.
+    turned: u32,
     // How often after a run a message waited, and how often one was held back. How often a message that was taken woke a queue that
     // waited for a block. How often a message was given, was taken, and a writer was given.
     waited: u32,
@@ -182,6 +184,7 @@ impl Drawn {
             count,
             shape,
             draw,
+            turned: 0,
             waited: 0,
             held: 0,
             woken: 0,
@@ -353,6 +356,28 @@ impl Drawn {
         }
     }
 
+    // Lets queues give messages, and puts each one back. This ends, and each queue gives its message once: those are the queues that are
+    // enabled then.
+    fn hold_each(&mut self, rt: &impl Abort) {
+        let mut gave = [false; QUEUES];
+        let mut held = 0;
+        while let Some((service, token)) = self.sides.serve(held) {
+            let wanted = self.plain.give(rt, held).expect(rt, "no message may go on");
+            assert_eq!(rt; service.queue, wanted.queue);
+            assert!(rt; !gave[usize::from(service.queue)]);
+            gave[usize::from(service.queue)] = true;
+            self.plain.hold(rt, service.queue, wanted.message);
+            assert_had(rt, &self.sides, &token);
+            let put = self.sides.hold(service.queue, token);
+            assert_put(rt, &mut self.sides, put);
+            held = service.held.wrapping_add(1);
+        }
+        assert!(rt; self.plain.give(rt, held).is_none());
+        let count = gave.iter().filter(|gave| **gave).count();
+        assert_eq!(rt; (held as usize, self.plain.enabled().len()), (count, count));
+        self.turned = self.turned.max(held);
+    }
+
     // A way in which queues are served.
     fn way(&mut self) -> Way {
         match (self.shape, below(&mut self.draw, 8)) {
@@ -377,6 +402,7 @@ impl Drawn {
             9 => self.ask(rt),
             10 => self.mark(rt),
             11..13 => self.serve(rt),
+            13 => self.hold_each(rt),
             _ => {
                 let way = self.way();
                 self.run(rt, way);
@@ -394,7 +420,13 @@ impl Drawn {
                 self.wake(rt);
             }
         }
-        assert!(rt; self.waited > 0 && self.given > 0 && self.taken > 0 && self.written > 0);
+        assert!(rt;
+            self.turned > 0
+                && self.waited > 0
+                && self.given > 0
+                && self.taken > 0
+                && self.written > 0
+        );
     }
 
     // Takes the first message of each side.

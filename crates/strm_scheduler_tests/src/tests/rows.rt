@@ -346,6 +346,23 @@ fn a_need_is_never_met(rt: HostRuntime) {
     assert_rows(&rt, rt.alloc(), &wide(), &rows, 1);
 }
 
+// A pool of one block, and a message that waits for a block which only the message itself has. Each run ends, nothing is held, and
+// no last queue has a message: the message waits for ever.
+#[test]
+fn a_need_waits_for_its_own_block(rt: HostRuntime) {
+    let class = ClassSpec { count: 1, ..CLASS };
+    let config = configured(&rt, 1, class, &wide());
+    let mut sides = Sides::new(rt.alloc(), config).expect(&rt, "sides");
+    assert_put(&rt, &mut sides, 0, &[BYTE; 2]);
+    for _run in 0..3 {
+        assert_eq!(rt; Way::Borrow.run(&mut sides), Ended::Idle);
+        assert!(&rt; sides.is_short(0) && sides.pool().run_at(0).is_none());
+        assert_sizes(&rt, &sides, &[1, 0, 0]);
+        let census = sides.pool().census();
+        assert_eq!(rt; (census.free, census.queued, census.held), (0, 1, 0));
+    }
+}
+
 // A message that is taken off a full queue, and put back, wakes the queue behind. That finds no room, and the other one stays held
 // back.
 #[test]
