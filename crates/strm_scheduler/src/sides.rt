@@ -200,8 +200,8 @@ impl Sides {
     /// not of a side.
     ///
     /// `budget` is the greatest number of services. Once they are spent, the run ends if a queue is enabled (`Spent`), and no queue rests
-    /// for blocks. Without a budget, the module must pass one message on at most for each that it
-    /// gets, and leave the queues unchanged otherwise: so the run ends.
+    /// for blocks. Without a budget, the module must pass one message on at most for each that it gets, and leave the queues unchanged
+    /// otherwise: so the run ends.
     pub fn run_with<M: Module>(&mut self, handler: &mut M, budget: Option<u32>) -> Ended
         requires ends { budget ≡ None → PassesOne M.treats }
         ensures { IsRunOfSides M.needs M.treats budget handler.old self.old result handler.new self.new }
@@ -214,7 +214,7 @@ impl Sides {
     }
 
     /// Serves queues until one gives a message that may go on, and takes that message off. Then the queue is enabled again, as the
-    /// last one. Others rest. A queue that this woke comes first. The caller treats the message in calls of its own. It passes it on
+    /// last one. Queues that give none rest. A queue that this woke comes first. The caller treats the message in calls of its own. It passes it on
     /// ([`put`](Sides::put) on `next`), replies (`put` on a queue of the other side), frees it, keeps it for later, or puts it back
     /// ([`hold`](Sides::hold)). No queue is asleep meanwhile.
     ///
