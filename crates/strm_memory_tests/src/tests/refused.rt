@@ -11,8 +11,10 @@ use std::sync::Wait;
 use std::thread::Threads;
 use strm_data::Data;
 use strm_links::{Links, Stacks, Strands};
+use strm_named::NamedPool;
 use strm_pool::{Blocks, ClassSpec, Config, NewFault, Pool, QueueSpec, Queues, Reply};
 use strm_run::{Mode, RunFault, Watched, run};
+use strm_scheduler::{Sides, SidesFault, Writers};
 use strm_script::{ParseFault, Script, parse, reply_text, report_text};
 use strm_shared::{
     BareOutcome, Brand, Desks, End, Ends, Entry, Gathered, Line, Name, OpenGate, Outcome, Parts,
@@ -23,6 +25,9 @@ use strm_shared::{
 // the first line.
 const SCRIPT: &[u8] =
     b"pool 1 8\nclass 16 4\nqueue 10 4 s -\nbufcalls 2 1\nworker\ncensus\nallocb a 3\nfreemsg a\nworker\n";
+
+// The script of a pool whose queue has no service procedure.
+const SIDE: &[u8] = b"pool 1 8\nclass 16 4\nqueue 10 4 n -\nbufcalls 2 1\nworker\n";
 
 const TEXT: &[u8] =
     b"0:6 census 8 0 0\n0:7 ok\n0:8 ok\nblocks free=8 queued=0 held=0 total=8\ndata size=16 free=4 total=4\n\
@@ -125,6 +130,34 @@ fn script(rt: &(impl Abort + Print), alloc: Global) -> Script {
 fn config(rt: &(impl Abort + Print), alloc: Global) -> Config {
     let Script { config, parts: _ } = script(rt, alloc);
     config
+}
+
+// A configuration of one queue, at which a side ends.
+fn side(rt: &(impl Abort + Print), alloc: Global) -> Config {
+    let Script { config, parts: _ } = made!(rt, ParseFault::Memory, parse, alloc, SIDE);
+    config
+}
+
+// A writer that waits for a band which is not wanted may ask again.
+fn writers(rt: &(impl Abort + Print), alloc: Global) {
+    let mut writers = made!(rt, AllocError, Writers::new, alloc);
+    writers.record(0, 3, false);
+    let memory = SidesFault::NotMade(NewFault::Memory);
+    let sides = made!(rt, memory, Sides::new, alloc, side(rt, alloc));
+    assert!(rt; writers.next(sides.pool()) == Some((0, 3)));
+    assert!(rt; writers.next(sides.pool()).is_none());
+}
+
+// All message blocks are free.
+fn named(rt: &(impl Abort + Print), alloc: Global) {
+    let named = made!(rt, NewFault::Memory, NamedPool::new, alloc, side(rt, alloc));
+    assert!(rt; named.pool().census().free == 8);
+}
+
+#[test]
+fn pools_of_other_types(rt: HostRuntime) {
+    writers(&rt, rt.alloc());
+    named(&rt, rt.alloc());
 }
 
 // How the script's pool is shared.
