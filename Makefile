@@ -84,16 +84,17 @@ test-arm:
 	@$(MAKE) -s lib TARGET=$(ARM)
 	@tests/c/run --arm build/aarch64/libstrm.a
 
-# Executes SCRIPT, and prints each command beside its reply. SCRIPT is examples/first_run.strm if none is named; the report comes last. With `rt`,
-# strm is unproved; of what `rt` says this shows only a failure. Without it, strm is the proved one in release.
+# Executes SCRIPT, and prints each command beside its reply. SCRIPT is examples/first_run.strm if none is named; the report comes last. strm is the
+# proved one in release, if that was built from these sources or there is no `rt`. Otherwise it is unproved, and takes a minute or two to build; of
+# what `rt` says this shows only a failure.
 try:
-ifdef RT
-	@echo "nothing is proved here: strm is built without its proofs, which takes one to two minutes, and executes $(SCRIPT)" >&2
-	@$(call LISTED,{ cd crates/strm_driver && rt try -- --serial 2>&1 >&3 | { grep -vE '^(checked|races): |^run=' >&2 || true; }; } 3>&1,$(SCRIPT))
-else
-	@echo "release/strm, proved and built from commit $$(sed -n 's/^Commit: //p' release/PROOF), executes $(SCRIPT)" >&2
-	@$(call LISTED,release/strm --serial,$(SCRIPT))
-endif
+	@if [ -z "$(RT)" ] || tools/dist --sources strm | grep -qxFf - release/PROOF; then \
+		echo "release/strm, proved and built from commit $$(sed -n 's/^Commit: //p' release/PROOF), executes $(SCRIPT)" >&2; \
+		$(call LISTED,release/strm --serial,$(SCRIPT)); \
+	else \
+		echo "nothing is proved here: strm is built without its proofs, which takes one to two minutes, and executes $(SCRIPT)" >&2; \
+		$(call LISTED,{ cd crates/strm_driver && rt try -- --serial 2>&1 >&3 | { grep -vE '^(checked|races): |^run=' >&2 || true; }; } 3>&1,$(SCRIPT)); \
+	fi
 
 # Runs the gate: all proofs, edits to be refused, tests and cases.
 test:
