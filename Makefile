@@ -63,10 +63,10 @@ NEEDS_RT = $(if $(RT),,$(error no rt on PATH, so nothing is proved or built; rel
 # Has a command execute a script as strm does, which prints replies alone, and prints each beside the script's command.
 LISTED = text=$$($(1) <"$(2)") && tools/strm-list --report "$(2)" - <<<"$$text"
 
-# The variables that were given on the command line of make. What runs a script of the gate without them, and without what else says how make was
-# called: a make that the script starts would take all of these for its own.
+# The variables that were given on the command line of make. What runs a script of the gate without them, without those that say where make installs
+# and for what it builds, and without what else says how make was called: a make that the script starts would take all of these for its own.
 GIVEN = $(foreach name,$(.VARIABLES),$(if $(filter command,$(firstword $(origin $(name)))),$(name)))
-ALONE = env $(addprefix -u ,MAKEFLAGS MAKELEVEL MAKEOVERRIDES MFLAGS GNUMAKEFLAGS MAKE_TERMOUT MAKE_TERMERR $(GIVEN))
+ALONE = env $(addprefix -u ,MAKEFLAGS MAKELEVEL MAKEOVERRIDES MFLAGS GNUMAKEFLAGS MAKE_TERMOUT MAKE_TERMERR PREFIX DESTDIR TARGET $(GIVEN))
 
 .PHONY: run help try test test-arm check gate-times cases edits lint soak soak-mt field view-test pages pictures bench bench-lines bench-library bench-batches bench-census bench-header bench-lock bench-c bench-bindings bench-peers bench-mt strm install install-pages install-tools install-docs uninstall lib install-lib dist release vendor
 
