@@ -67,7 +67,7 @@ Takes tells taken old new number was is =
 
 -- ---- the scheduler
 
--- the queues of the pool that were awake stay so, if the handle is open
+-- If the handle is open, the queues form sides, and each one with a next queue was awake, then each one is awake afterwards.
 abbrev pub KeepsAwake : Held → Held → Type 0
 KeepsAwake = WhileOpen (λ v w. AreKeptAwake v.pool → AreKeptAwake w.pool)
 

@@ -5,8 +5,8 @@ use strm_named::Fault;
 use strm_pool::{Refusal, Which};
 
 /// Why a call stored no result. Nothing changed, except if `Nothing` is returned by a call that was done: `freeb` freed the
-/// only block of a message, or `getq` set the want-to-read mark of an empty queue. Each code has a number in strm.h, where 0
-/// means done.
+/// only block of a message, `getq` set the want-to-read mark of an empty queue, or `serve` took queues off the run list. Each
+/// code has a number in strm.h, where 0 means done.
 #[derive(Clone, Copy, Debug, PartialEq, Eq)]
 pub enum Code {
     /// The pool refused the call. The code's number is that of the refusal.

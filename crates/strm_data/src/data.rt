@@ -283,7 +283,7 @@ impl Data {
     }
 
     /// Returns the class from which `take` takes for this size: the smallest that fits the size and has a free data block.
-    /// `take_from` takes from it, as long as it has free ones. Changes nothing.
+    /// `take_from` takes from it, as long as it has free ones, and no smaller class that fits has got one. Changes nothing.
     ///
     /// Refused as `TooLarge` if the size is above the largest class, then as `NoData` if no data block that fits is free.
     /// Takes at most two steps for each class.
@@ -471,7 +471,7 @@ impl Data {
     }
 
     /// Returns the fewest data blocks of a class that were free at a time since `new`, or since the last `reset_least`, or
-    /// none if there is no such class. Only `take` lowers this number. Changes nothing.
+    /// none if there is no such class. Only `take` and `take_from` lower this number. Changes nothing.
     pub fn least_free(&self, class: u8) -> Option<u32>
         ensures { result ≡ slice_get self.now.store.least class }
     {

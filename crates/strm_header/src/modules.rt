@@ -21,16 +21,17 @@ pub struct Numbering {
     pub number: u16,
 }
 
-/// A module that acknowledges each message of type `MIoctl`: makes it an `MIocack`, and puts it on the queue of its other side. If
-/// another block uses its data, or there is no such queue, it passes the message on as it is. It passes on all others.
+/// A module that acknowledges each message of type `MIoctl`: makes it an `MIocack`, and puts it on the queue of its other
+/// side. If another block uses its data, or there is no other queue `last - q`, it passes the message on as it is. It passes
+/// on all others.
 #[derive(Clone, Copy, Debug)]
 pub struct Acknowledging {
     /// The last queue of the stream.
     pub last: u8,
 }
 
-/// A module that flushes its read queue, its write queue or both if an `MFlush` says so by bits 0 and 1 of its first byte, and
-/// passes it on, as all others.
+/// A module that flushes its read queue, its write queue or both if an `MFlush` says so by bits 0 and 1 of its first block's
+/// first byte, and passes it on, as all others.
 #[derive(Clone, Copy, Debug)]
 pub struct Flushing {
     /// The last queue of the stream.

@@ -14,9 +14,9 @@ use std::mem::size_of;
 
 /// A fixed number of doubly linked lists over a fixed number of nodes, each in one list at most.
 ///
-/// Nodes and lists are numbers from 0 on; every number that a caller passes must be that of a node or a list. A node that
-/// is in no list is free. A node that joins a list must be free. A node that leaves a list must be in one, and so must
-/// the node before which another is put. `list_of` tests this.
+/// Nodes and lists are numbers from 0 on; every number that a caller passes must be that of a node or a list. A node that is
+/// in no list is free. A node that is put into a list must be free; `append` moves nodes from list to list. A node that leaves
+/// a list must be in one, and so must the node before which another is put. `list_of` tests this.
 ///
 /// Only `new` takes memory: 12 bytes a node and 12 bytes a list. Every call except `new` and `append` takes constant
 /// time. Contracts see `Rows`: the number of nodes, and the nodes of each list from front to back.

@@ -22,9 +22,9 @@ use std::mem::size_of;
 /// by its first node, its head. `begins_chain` says whether a node is a head. The free nodes are in an order, and are
 /// taken from its front.
 ///
-/// Only `new` takes memory: 16 bytes a node. Every call takes constant time except `new`, `begin_all`, `take_out`, `free`
-/// and `free_behind`, which walk along nodes. Contracts see `StrandLists`: the free nodes in order, and for each node the
-/// chain that begins with it.
+/// Only `new` takes memory: 16 bytes a node. Every call takes constant time except `new`, `begin_all`, `take_out`, `free`,
+/// `free_counted` and `free_behind`, which walk along nodes. Contracts see `StrandLists`: the free nodes in order, and for
+/// each node the chain that begins with it.
 #[derive(Debug, Drop)]
 pub struct Strands {
     nodes: Vec<Node>,

@@ -199,8 +199,8 @@ impl Blocks {
         self.data.least_free(class)
     }
 
-    /// Returns the fewest message blocks that were free at a time since `new`, or since the last `reset_least`. Each call
-    /// that takes message blocks lowers it when it takes them, also if it frees others before it returns. Changes nothing.
+    /// Returns the fewest message blocks that were free at a time since `new`, or since the last `reset_least`. Each call that
+    /// takes message blocks lowers it to the number that is free then, if that is less. Changes nothing.
     pub fn least_free_blocks(&self) -> u32
         ensures { result ≡ self.now.least }
     {
@@ -309,8 +309,9 @@ impl Blocks {
     }
 
     /// Makes a message as [`Blocks::allocb`] does for this size, from a supply that `supply` returned, and returns its token.
-    /// Each such call leaves the supply one call less; no other call may come between. So a burst chooses the class once. The
-    /// size and the count are for the contract only. Takes constant time.
+    /// Each such call leaves the supply one call less; no call may come between that takes or frees blocks, since the supply
+    /// may then be wrong. So a burst chooses the class once. The size and the count are for the contract only. Takes constant
+    /// time.
     #[inline(always)]
     pub fn allocb_from(&mut self, size: u32, supply: Supply) -> Token
         requires supply { IsSupplied size self.old supply }

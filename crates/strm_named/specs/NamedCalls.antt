@@ -150,7 +150,8 @@ pub record TransfersNamed (n : Name) (outcome : Outcome ℕ) (freed : Outcome (U
   pub there : Does one_message outcome [] other_old other_new answer
   pub here : MatchResult answer (λ made. Does no_message freed (n.head ∷ []) old new (Ok tt)) (λ fault. new ≡ old)
 
--- Queues were served but for these held ones, as `serve` of strm_scheduler says, and perhaps one gave a message. Queues that were awake stay so.
+-- Queues were served but for these held ones, as `serve` of strm_scheduler says, and perhaps one gave a message. If queues form sides, and each one
+-- with a next queue was awake, so it is afterwards.
 pub record ServesNamed (held : ℕ) (old new : NamedValue) (answer : Option (Service × Name)) : Type 0 where
   pub given : Option (Service × TokenValue)
   pub serves : Serves held old.pool given new.pool

@@ -44,7 +44,7 @@ impl Pool {
     /// Checks come in this order; a call that fails one changes neither pool nor registers:
     ///
     /// 1. `Refused(NoSuchQueue)`: the queue that the call names does not exist.
-    /// 2. `Empty`: a source, a register whose message the call uses, has no token.
+    /// 2. `Empty`: a source, a register whose message the call uses, has no token, or both sources are one register.
     /// 3. `Taken`: the destination, the register that would get a message, has a token.
     /// 4. The call's own refusals.
     // Inlined into its caller, so that the reply is moved once less.

@@ -20,7 +20,7 @@ pub enum Reply {
     No,
     /// The call was done, and there was nothing to return.
     Nothing,
-    /// A source of the call has no token, and nothing changed.
+    /// A source of the call has no token, or both sources are one register. Nothing changed.
     Empty,
     /// The destination of the call has a token, and nothing changed.
     Taken,

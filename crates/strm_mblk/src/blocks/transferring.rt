@@ -129,8 +129,8 @@ impl Blocks {
     ///
     /// Returns the token with `TooLarge` if a data block has a larger capacity than the largest class of `other`. Then with
     /// `NoMblk` if fewer message blocks are free there than the message has, and with `NoData` if the free data blocks there
-    /// do not suffice. On an error nothing changes in either pool. Takes the steps of `copymsg` and of `freemsg`, and a search
-    /// over the classes more for each block. Each byte is copied once.
+    /// do not suffice. On an error nothing changes in either pool. Takes the steps of `copymsg` and of `freemsg`, and a step
+    /// and a search over the classes more for each block. Each byte is copied once.
     pub fn transfer(&mut self, other: &mut Blocks, token: Token) -> Result<Token, Rejected>
         requires { IsTrue (has self.old token) }
         ensures { Transfers itself token (model.transfer self.old token.head other.old)

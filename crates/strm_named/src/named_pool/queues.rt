@@ -203,9 +203,9 @@ impl NamedPool {
         answered(taken)
     }
 
-    /// Serves queues, but for the last `held` ones of the run list, until one gives a message that may go on to its next queue.
-    /// Returns the service and the message's new name; the queue is enabled again. Queues that were awake stay so. As
-    /// [`serve`] of strm_scheduler.
+    /// Serves queues, but for the last `held` ones of the run list, until one gives a message that may go on to its next
+    /// queue. Returns the service and the message's new name; the queue is enabled again. If the queues form sides, and each
+    /// one with a next queue was awake, so it is afterwards. As [`serve`] of strm_scheduler.
     pub fn serve(&mut self, held: u32) -> Option<(Service, Name)>
         ensures { ServesNamed held self.old self.new result }
     {
@@ -215,8 +215,9 @@ impl NamedPool {
         }
     }
 
-    /// Puts a message back on a queue, as [`NamedPool::putbq`] does, and enables the queue. Queues that were awake stay so.
-    /// Refused as `Invalid`, then `NoSuchQueue`. As [`hold`] of strm_scheduler.
+    /// Puts a message back on a queue, as [`NamedPool::putbq`] does, and enables the queue. If the queues form sides, and each
+    /// one with a next queue was awake, so it is afterwards. Refused as `Invalid`, then `NoSuchQueue`. As [`hold`] of
+    /// strm_scheduler.
     pub fn hold(&mut self, queue: u8, name: Name) -> Result<(), Fault>
         ensures awake { AreKeptAwake self.old.pool → AreKeptAwake self.new.pool }
         ensures does { Does no_message (on_name self.old name (on_queues self.old.pool

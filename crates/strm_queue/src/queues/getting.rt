@@ -50,9 +50,9 @@ impl Queues {
     /// Removes the first messages of a queue, at most `most`, each as [`Queues::getq`] does. Their tokens go to `into`, and their
     /// number is returned. What is stored of the queue is written once.
     ///
-    /// It removes fewer than `most` only if it comes to where there is no such queue or no message, the want-to-read mark is set, which
-    /// `getq` clears, a band is wanted, or the first message is the last of its rank. So a caller takes turns: `getq`, then this.
-    /// Takes a step for each block of the messages. This project's own call.
+    /// It removes fewer than `most` only if there is no such queue or no message left. Or the want-to-read mark is set, which
+    /// `getq` clears, or a band is wanted, or the first message is the last of its rank. So a caller takes turns: `getq`, then
+    /// this. Takes a step for each block of the messages. This project's own call.
     #[inline(always)]
     #[tactic(auto, using(crate::proofs::moving::Fronts::takes_none))]
     pub fn getq_run<R: Receiver>(

@@ -21,7 +21,7 @@ use strm_mblk::{BlockNo, Blocks, Rejected, Token};
 /// Where the next message of a burst joins a queue if it has the band of the last one, so that it need not be looked up
 /// again.
 ///
-/// It is for one queue, and holds only while no other call changes queues or message blocks.
+/// It is for one queue, and holds while no other call changes that queue, its messages or the run list.
 #[derive(Clone, Copy, Debug)]
 pub struct BurstPlace {
     // The rank of the last message, or `RANKS` before the first one.
@@ -194,9 +194,9 @@ impl Queues {
         Ok(())
     }
 
-    /// Puts the next message of a burst on a queue, as [`Queues::putq`] does, and moves `place` after it. A message in the
-    /// band of the burst's last one is put at `place`. It need not enable the queue: if messages of this band do, the last
-    /// one did.
+    /// Puts the next message of a burst on a queue, as [`Queues::putq`] does, and moves `place` after it. A message that has
+    /// the rank of the burst's last one, and not high priority, is put at `place`. It need not enable the queue: if messages
+    /// of this band do, the last one did.
     ///
     /// Rejected as `NoSuchQueue`; then nothing changes, and the token comes back. Takes a step for each block of the
     /// message. This project's own call.

@@ -21,8 +21,9 @@ impl Queues {
     /// to `into`, and their number is returned. The others keep their places. Then the queue is settled once, as by
     /// [`Queues::getq`]. Nothing else enables a queue.
     ///
-    /// Refused as `NoSuchQueue`; then nothing changes. Takes a step for each message up to the last one taken, one for each
-    /// block that is taken, and those to settle. This project's own call: a `flushq` whose messages the caller frees.
+    /// Refused as `NoSuchQueue`; then nothing changes. Takes a step for each message up to the last one taken if that makes
+    /// `most`, otherwise for each message, one for each block that is taken, and those to settle. This project's own call: a
+    /// `flushq` whose messages the caller frees.
     pub fn take_flushed<R: Receiver>(
         &mut self,
         blocks: &mut Blocks,
@@ -42,8 +43,8 @@ impl Queues {
     /// Takes messages of one band off a queue, front to back, at most `most`: those that [`Queues::flushband`] would free.
     /// Otherwise it does what [`Queues::take_flushed`] does.
     ///
-    /// Refused as `NoSuchQueue`; then nothing changes. Takes a step for each message of the band up to the last one taken,
-    /// one for each block that is taken, and those to settle.
+    /// Refused as `NoSuchQueue`; then nothing changes. Takes a step for each message of the band up to the last one taken if
+    /// that makes `most`, otherwise for each message of the band, one for each block that is taken, and those to settle.
     pub fn take_flushed_band<R: Receiver>(
         &mut self,
         blocks: &mut Blocks,
