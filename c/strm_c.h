@@ -1,7 +1,8 @@
 /*
  * What the crate strm_c exports, for strm.c only. Each export is the call of strm.h whose name lacks the `c_`. Its caller keeps the
  * promises of strm.h, and passes no null pointer, no array of more than SIZE_MAX / 2 bytes, no place for two answers, and no handle
- * twice. The export checks all other misuse. tests/exports compares these declarations with the crate.
+ * twice. The export checks all other misuse. tests/exports compares these declarations with the crate, which stores a struct strm_msg
+ * by two halves of 8 bytes.
  */
 #ifndef STRM_C_H
 #define STRM_C_H

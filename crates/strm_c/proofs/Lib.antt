@@ -12,3 +12,4 @@ pub mod Measuring
 pub mod Loans
 pub mod Readers
 pub mod Finding
+pub mod Turning

@@ -5,6 +5,7 @@ pub mod InC
 pub mod InPlace
 pub mod Lending
 pub mod Memory
+pub mod Msg
 pub mod Opening
 pub mod Rights
 pub mod Series

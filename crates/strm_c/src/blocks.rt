@@ -17,6 +17,7 @@ use crate::answer::{coded, number, present, put};
 use crate::code::Code;
 use crate::handle::StrmPool;
 use crate::layout::{StrmBlockInfo, StrmQueued};
+use crate::msg::StrmMsg;
 use crate::numbers::{band_of, type_of};
 use crate::reader::StrmReader;
 use strm_named::Name;
@@ -190,7 +191,7 @@ pub extern "C" fn strm_c_has(pool: &mut StrmReader, msg: Name, yes: &mut u32) ->
 /// Stores the name of the message that is held at a head in `msg`. As [`NamedPool::name_at`] of strm_named. Returns `Nothing` if
 /// no message is held there.
 #[unsafe(no_mangle)]
-pub extern "C" fn strm_c_name_at(pool: &mut StrmReader, head: u32, msg: &mut Name) -> i32
+pub extern "C" fn strm_c_name_at(pool: &mut StrmReader, head: u32, msg: &mut StrmMsg) -> i32
     ensures answer { Asks (λ v. any_or_nothing (name_at v head)) pool.old.at.named pool.new.at.named result
         msg.old msg.new }
     ensures same { pool.new ≡ pool.old }
@@ -199,5 +200,5 @@ pub extern "C" fn strm_c_name_at(pool: &mut StrmReader, head: u32, msg: &mut Nam
         return Code::NotOpen.number();
     };
     let answer = view.named().name_at(head);
-    put(present(answer), msg)
+    put(present(answer).map(StrmMsg::of), msg)
 }

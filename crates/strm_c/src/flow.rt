@@ -13,6 +13,7 @@ use crate::answer::{coded, coded_refusal, number, present, put};
 use crate::code::Code;
 use crate::handle::StrmPool;
 use crate::layout::{StrmMarks, StrmService};
+use crate::msg::StrmMsg;
 use crate::numbers::{band_of, capped_number};
 use crate::reader::StrmReader;
 use strm_named::Name;
@@ -162,7 +163,7 @@ pub extern "C" fn strm_c_serve(
     pool: &mut StrmPool,
     held: u32,
     service: &mut StrmService,
-    msg: &mut Name,
+    msg: &mut StrmMsg,
 ) -> i32
     ensures { ServesHeld held pool.old.at.named pool.new.at.named result
         (service.old, msg.old) (service.new, msg.new) }
@@ -173,7 +174,7 @@ pub extern "C" fn strm_c_serve(
     match named.serve(held) {
         Some((given, name)) => {
             *service = StrmService::of(given);
-            *msg = name;
+            *msg = StrmMsg::of(name);
             0
         }
         None => Code::Nothing.number(),

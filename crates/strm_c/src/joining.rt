@@ -12,6 +12,7 @@ ghost use Rattle.strm_c.specs.InC.{both};
 use crate::answer::{coded, coded_any, coded_both, number, put};
 use crate::code::Code;
 use crate::handle::StrmPool;
+use crate::msg::StrmMsg;
 use strm_named::Name;
 
 /// Appends a message to another. As [`NamedPool::linkb`] of strm_named.
@@ -31,7 +32,7 @@ pub extern "C" fn strm_c_linkb(pool: &mut StrmPool, msg: Name, tail: Name) -> i3
 /// Makes the blocks after the first a message, and stores its name in `rest`. As [`NamedPool::unlinkb`] of strm_named. Returns
 /// `Nothing` if there are no such blocks.
 #[unsafe(no_mangle)]
-pub extern "C" fn strm_c_unlinkb(pool: &mut StrmPool, msg: Name, rest: &mut Name) -> i32
+pub extern "C" fn strm_c_unlinkb(pool: &mut StrmPool, msg: Name, rest: &mut StrmMsg) -> i32
     ensures { CallsNamed any_message any_or_nothing
         (λ v. on_name v msg (on_arena v.pool (Ok (blocks.unlinkb msg.head v.pool.arena)))) []
         pool.old.at.named pool.new.at.named result rest.old rest.new }
@@ -40,7 +41,7 @@ pub extern "C" fn strm_c_unlinkb(pool: &mut StrmPool, msg: Name, rest: &mut Name
         return Code::NotOpen.number();
     };
     let answer = named.unlinkb(msg);
-    put(coded_any(answer), rest)
+    put(coded_any(answer).map(StrmMsg::of), rest)
 }
 
 /// Makes a block a message. Stores its name in `block`, and that of the other blocks in `rest`, which is the name of no message
@@ -50,8 +51,8 @@ pub extern "C" fn strm_c_rmvb(
     pool: &mut StrmPool,
     msg: Name,
     place: u32,
-    block: &mut Name,
-    rest: &mut Name,
+    block: &mut StrmMsg,
+    rest: &mut StrmMsg,
 ) -> i32
     ensures { CallsNamed two_messages both (λ v. on_name v msg
         (on_arena v.pool (blocks.rmvb msg.head place v.pool.arena)))
@@ -62,8 +63,8 @@ pub extern "C" fn strm_c_rmvb(
     };
     match coded_both(named.rmvb(msg, place)) {
         Ok((first, others)) => {
-            *block = first;
-            *rest = others;
+            *block = StrmMsg::of(first);
+            *rest = StrmMsg::of(others);
             0
         }
         Err(code) => code.number(),

@@ -20,6 +20,7 @@ mod lending;
 mod looks;
 mod making;
 mod memory;
+mod msg;
 mod numbers;
 mod opening;
 mod parts;
@@ -46,6 +47,7 @@ pub use layout::{
     StrmWish,
 };
 pub use lending::{Lender, end, join, lend, lend_to_two, look_by_two, split, take_back};
+pub use msg::StrmMsg;
 pub use parts::Parts;
 pub use pointer::PoolPointer;
 pub use reader::StrmReader;

@@ -12,12 +12,13 @@ ghost use Rattle.strm_c.specs.InC.{flag};
 use crate::answer::{coded, coded_any, number, put};
 use crate::code::Code;
 use crate::handle::StrmPool;
+use crate::msg::StrmMsg;
 use crate::reader::StrmReader;
 use strm_named::Name;
 
 /// Makes a message for a size, and stores its name in `msg`. As [`NamedPool::allocb`] of strm_named.
 #[unsafe(no_mangle)]
-pub extern "C" fn strm_c_allocb(pool: &mut StrmPool, size: u32, msg: &mut Name) -> i32
+pub extern "C" fn strm_c_allocb(pool: &mut StrmPool, size: u32, msg: &mut StrmMsg) -> i32
     ensures { CallsNamed one_message Ok (λ v. outcome_of (on_arena v.pool (blocks.allocb size v.pool.arena))) []
         pool.old.at.named pool.new.at.named result msg.old msg.new }
 {
@@ -25,7 +26,7 @@ pub extern "C" fn strm_c_allocb(pool: &mut StrmPool, size: u32, msg: &mut Name) 
         return Code::NotOpen.number();
     };
     let answer = named.allocb(size);
-    put(coded(answer), msg)
+    put(coded(answer).map(StrmMsg::of), msg)
 }
 
 /// Stores 1 in `yes` if `allocb` would succeed now, otherwise 0. As [`Pool::testb`] of strm_pool.
@@ -44,7 +45,7 @@ pub extern "C" fn strm_c_testb(pool: &mut StrmReader, size: u32, yes: &mut u32) 
 
 /// Duplicates a message's first block, and stores the duplicate's name in `copy`. As [`NamedPool::dupb`] of strm_named.
 #[unsafe(no_mangle)]
-pub extern "C" fn strm_c_dupb(pool: &mut StrmPool, msg: Name, copy: &mut Name) -> i32
+pub extern "C" fn strm_c_dupb(pool: &mut StrmPool, msg: Name, copy: &mut StrmMsg) -> i32
     ensures { CallsNamed one_message Ok (λ v. on_name v msg (on_arena v.pool (blocks.dupb msg.head v.pool.arena))) []
         pool.old.at.named pool.new.at.named result copy.old copy.new }
 {
@@ -52,12 +53,12 @@ pub extern "C" fn strm_c_dupb(pool: &mut StrmPool, msg: Name, copy: &mut Name) -
         return Code::NotOpen.number();
     };
     let answer = named.dupb(msg);
-    put(coded(answer), copy)
+    put(coded(answer).map(StrmMsg::of), copy)
 }
 
 /// Duplicates a message, and stores the duplicate's name in `copy`. As [`NamedPool::dupmsg`] of strm_named.
 #[unsafe(no_mangle)]
-pub extern "C" fn strm_c_dupmsg(pool: &mut StrmPool, msg: Name, copy: &mut Name) -> i32
+pub extern "C" fn strm_c_dupmsg(pool: &mut StrmPool, msg: Name, copy: &mut StrmMsg) -> i32
     ensures { CallsNamed one_message Ok (λ v. on_name v msg (on_arena v.pool (blocks.dupmsg msg.head v.pool.arena))) []
         pool.old.at.named pool.new.at.named result copy.old copy.new }
 {
@@ -65,12 +66,12 @@ pub extern "C" fn strm_c_dupmsg(pool: &mut StrmPool, msg: Name, copy: &mut Name)
         return Code::NotOpen.number();
     };
     let answer = named.dupmsg(msg);
-    put(coded(answer), copy)
+    put(coded(answer).map(StrmMsg::of), copy)
 }
 
 /// Copies a message's first block, and stores the copy's name in `copy`. As [`NamedPool::copyb`] of strm_named.
 #[unsafe(no_mangle)]
-pub extern "C" fn strm_c_copyb(pool: &mut StrmPool, msg: Name, copy: &mut Name) -> i32
+pub extern "C" fn strm_c_copyb(pool: &mut StrmPool, msg: Name, copy: &mut StrmMsg) -> i32
     ensures { CallsNamed one_message Ok (λ v. on_name v msg (on_arena v.pool (blocks.copyb msg.head v.pool.arena))) []
         pool.old.at.named pool.new.at.named result copy.old copy.new }
 {
@@ -78,12 +79,12 @@ pub extern "C" fn strm_c_copyb(pool: &mut StrmPool, msg: Name, copy: &mut Name) 
         return Code::NotOpen.number();
     };
     let answer = named.copyb(msg);
-    put(coded(answer), copy)
+    put(coded(answer).map(StrmMsg::of_stored), copy)
 }
 
 /// Copies a message, and stores the copy's name in `copy`. As [`NamedPool::copymsg`] of strm_named.
 #[unsafe(no_mangle)]
-pub extern "C" fn strm_c_copymsg(pool: &mut StrmPool, msg: Name, copy: &mut Name) -> i32
+pub extern "C" fn strm_c_copymsg(pool: &mut StrmPool, msg: Name, copy: &mut StrmMsg) -> i32
     ensures { CallsNamed one_message Ok (λ v. on_name v msg (on_arena v.pool (blocks.copymsg msg.head v.pool.arena))) []
         pool.old.at.named pool.new.at.named result copy.old copy.new }
 {
@@ -91,13 +92,13 @@ pub extern "C" fn strm_c_copymsg(pool: &mut StrmPool, msg: Name, copy: &mut Name
         return Code::NotOpen.number();
     };
     let answer = named.copymsg(msg);
-    put(coded(answer), copy)
+    put(coded(answer).map(StrmMsg::of_stored), copy)
 }
 
 /// Frees the first block of a message, and stores the name of the others in `rest`. As [`NamedPool::freeb`] of strm_named.
 /// Returns `Nothing` if there are no others.
 #[unsafe(no_mangle)]
-pub extern "C" fn strm_c_freeb(pool: &mut StrmPool, msg: Name, rest: &mut Name) -> i32
+pub extern "C" fn strm_c_freeb(pool: &mut StrmPool, msg: Name, rest: &mut StrmMsg) -> i32
     ensures { CallsNamed any_message any_or_nothing
         (λ v. on_name v msg (on_arena v.pool (Ok (blocks.freeb msg.head v.pool.arena))))
         (msg.head ∷ []) pool.old.at.named pool.new.at.named result rest.old rest.new }
@@ -106,7 +107,7 @@ pub extern "C" fn strm_c_freeb(pool: &mut StrmPool, msg: Name, rest: &mut Name) 
         return Code::NotOpen.number();
     };
     let answer = named.freeb(msg);
-    put(coded_any(answer), rest)
+    put(coded_any(answer).map(StrmMsg::of), rest)
 }
 
 /// Frees a message. As [`NamedPool::freemsg`] of strm_named.

@@ -12,6 +12,7 @@ ghost use Rattle.strm_c.specs.InC.{band_of, flush_of, capped_number, head_before
 use crate::answer::{coded, coded_any, coded_refusal, number, put};
 use crate::code::Code;
 use crate::handle::StrmPool;
+use crate::msg::StrmMsg;
 use crate::numbers::{band_of, capped_number, flush_of, head_before};
 use crate::reader::StrmReader;
 use strm_named::Name;
@@ -76,7 +77,7 @@ pub extern "C" fn strm_c_insq_at(pool: &mut StrmPool, queue: u32, before: u32, m
 /// Takes the first message of a queue, and stores its name in `msg`. As [`NamedPool::getq`] of strm_named. Returns `Nothing` if
 /// the queue is empty.
 #[unsafe(no_mangle)]
-pub extern "C" fn strm_c_getq(pool: &mut StrmPool, queue: u32, msg: &mut Name) -> i32
+pub extern "C" fn strm_c_getq(pool: &mut StrmPool, queue: u32, msg: &mut StrmMsg) -> i32
     ensures { CallsNamed any_message any_or_nothing
         (λ v. outcome_of (on_queues v.pool (queues.getq (capped_number queue) (queued_blocks_of v.pool)))) []
         pool.old.at.named pool.new.at.named result msg.old msg.new }
@@ -85,12 +86,12 @@ pub extern "C" fn strm_c_getq(pool: &mut StrmPool, queue: u32, msg: &mut Name) -
         return Code::NotOpen.number();
     };
     let answer = named.getq(capped_number(queue));
-    put(coded_any(answer), msg)
+    put(coded_any(answer).map(StrmMsg::of), msg)
 }
 
 /// Takes the message at a place of a queue, and stores its name in `msg`. As [`NamedPool::rmvq`] of strm_named.
 #[unsafe(no_mangle)]
-pub extern "C" fn strm_c_rmvq(pool: &mut StrmPool, queue: u32, place: u32, msg: &mut Name) -> i32
+pub extern "C" fn strm_c_rmvq(pool: &mut StrmPool, queue: u32, place: u32, msg: &mut StrmMsg) -> i32
     ensures { CallsNamed one_message Ok (λ v. outcome_of
         (on_queues v.pool (queues.rmvq (capped_number queue) place (queued_blocks_of v.pool)))) []
         pool.old.at.named pool.new.at.named result msg.old msg.new }
@@ -99,13 +100,13 @@ pub extern "C" fn strm_c_rmvq(pool: &mut StrmPool, queue: u32, place: u32, msg: 
         return Code::NotOpen.number();
     };
     let answer = named.rmvq(capped_number(queue), place);
-    put(coded(answer), msg)
+    put(coded(answer).map(StrmMsg::of), msg)
 }
 
 /// Takes the message that begins with block `head` off its queue, and stores its name in `msg`. As [`NamedPool::rmvq_head`] of
 /// strm_named.
 #[unsafe(no_mangle)]
-pub extern "C" fn strm_c_rmvq_msg(pool: &mut StrmPool, head: u32, msg: &mut Name) -> i32
+pub extern "C" fn strm_c_rmvq_msg(pool: &mut StrmPool, head: u32, msg: &mut StrmMsg) -> i32
     ensures { CallsNamed one_message Ok
         (λ v. outcome_of (on_queues v.pool (by_head.rmvq_head head (queued_blocks_of v.pool)))) []
         pool.old.at.named pool.new.at.named result msg.old msg.new }
@@ -114,7 +115,7 @@ pub extern "C" fn strm_c_rmvq_msg(pool: &mut StrmPool, head: u32, msg: &mut Name
         return Code::NotOpen.number();
     };
     let answer = named.rmvq_head(head);
-    put(coded(answer), msg)
+    put(coded(answer).map(StrmMsg::of), msg)
 }
 
 /// Stores the number of messages on a queue in `msgs`. As [`Pool::qsize`] of strm_pool.

@@ -10,6 +10,7 @@ ghost use Rattle.strm_c.specs.Exports.{TransfersHeld, after_transfer};
 use crate::answer::{coded, put};
 use crate::code::Code;
 use crate::handle::StrmPool;
+use crate::msg::StrmMsg;
 use strm_named::{Fault, Name, NamedPool};
 
 // Makes a message anew in another pool, and frees it in its own. Returns the new message's name.
@@ -34,7 +35,7 @@ pub extern "C" fn strm_c_transfer(
     pool: &mut StrmPool,
     other: &mut StrmPool,
     msg: Name,
-    moved: &mut Name,
+    moved: &mut StrmMsg,
 ) -> i32
     ensures { TransfersHeld msg
         (λ v w. on_name v msg (on_arena w.pool (blocks.transfer v.pool.arena msg.head w.pool.arena)))
@@ -48,5 +49,5 @@ pub extern "C" fn strm_c_transfer(
         return Code::NotOpen.number();
     };
     let answer = transferred(named, target, msg);
-    put(coded(answer), moved)
+    put(coded(answer).map(StrmMsg::of), moved)
 }

@@ -17,4 +17,4 @@ served held old new v w answer number was is before after serves told stored = s
 pub returns-in-Some-serve : goal.returns-in-Some-serve
 returns-in-Some-serve c =
     served c.args.held _ _ c.in-Some.named.now c.serve.new.self (Some (c.in-Some-serve.given, c.in-Some-serve.name)) _ _ _ (search rules) (search rules) c.in-Some-serve.ensures refl
-    (λ i. (c.of.ensures i, c.in-Some-serve.name))
+    (λ i. (c.of.ensures i, c.of-in-Some-serve.ensures i))
