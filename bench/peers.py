@@ -103,8 +103,8 @@ def flags(name):
     return tuple(shlex.split(told.stdout) for told in found) if all(told.returncode == 0 for told in found) else None
 
 
-def built(name, archive, room):
-    """Compiles the program of a peer, and returns its path, or None if its package is not installed."""
+def built(name, archive, room, *more_flags):
+    """Compiles the program of a peer, with further flags, and returns its path, or None if its package is not installed."""
     found = flags(name)
     if found is None:
         return None
@@ -112,7 +112,7 @@ def built(name, archive, room):
     calls = ["-I" + os.path.join(TOP, "c"), os.path.join(SOURCES, f"{OURS}.c")]
     more = {OURS: [*calls, archive], "checked": [*calls, CHECKED], "plain": [os.path.join(SOURCES, "plain.c"), PLAIN]}
     sources = [os.path.join(SOURCES, "main.c"), *more.get(name, [os.path.join(SOURCES, f"{name}.c")])]
-    subprocess.run([os.environ.get("CC", "cc"), *COMPILED, *found[0], *sources, *found[1], "-o", program], check=True)
+    subprocess.run([os.environ.get("CC", "cc"), *COMPILED, *more_flags, *found[0], *sources, *found[1], "-o", program], check=True)
     return program
 
 
