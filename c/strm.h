@@ -42,8 +42,8 @@
  *     queue whose next is that one, and so on. It enables the first that has a service procedure
  *     (back-enabling).
  *   - enable: to append a queue to the run list, whose first queue strm_next_service takes. A queue
- *     already on the list, or without a service procedure, is not appended. strm_serve alone moves
- *     a queue to the front.
+ *     already on the list, or without a service procedure, is not appended. strm_serve alone puts
+ *     some queues at the front instead.
  *   - enabling: on in a new queue; strm_noenable switches it off, strm_enableok on.
  *   - want-to-read: a mark that a new queue has. strm_getq, strm_getq_n and strm_serve set it if
  *     they find the queue empty, and clear it if they take a message off. No other call changes it.
@@ -550,7 +550,8 @@ int strm_is_open(const struct strm_pool *pool);
  * Allocates a message of one message block over a data block of `size` bytes or more. The data
  * block is of the smallest class that fits and has a free one. Of message blocks, and of the data
  * blocks of a class, each call takes the one that was freed last. Those that were never used come
- * after these, by rising numbers. The message has no bytes, type STRM_M_DATA and band 0.
+ * after these, by rising numbers. A call that takes several begins with those for the first block
+ * of the message. The message has no bytes, type STRM_M_DATA and band 0.
  * Refused as STRM_TOO_LARGE, STRM_NO_MBLK, STRM_NO_DATA.
  * Differs from STREAMS: it has size classes, and no priority.
  */
@@ -817,9 +818,10 @@ int strm_shape(struct strm_pool *pool, struct strm_msg msg, uint32_t place, uint
 /*
  * Gives each of the first `length` blocks of a message its places, type and band, or changes none.
  * It takes two steps a block, and writes no byte: see strm_shape. Since 0.5.0.
- * Refused as STRM_BAD_ARGUMENT for a number of no type or band, STRM_NO_SUCH_BLOCK if there are
- * fewer blocks. Then by the first block that does not fit: as STRM_NO_ROOM, or else as STRM_SHARED
- * if its type would change. So it is STRM_NO_ROOM for a block with both faults.
+ * Refused as STRM_BAD_ARGUMENT for a number of no type or band, before STRM_INVALID. Refused as
+ * STRM_NO_SUCH_BLOCK if there are fewer blocks. Then by the first block that does not fit: as
+ * STRM_NO_ROOM, or else as STRM_SHARED if its type would change. So it is STRM_NO_ROOM for a block
+ * with both faults.
  * STREAMS: setting b_rptr, b_wptr, db_type and b_band.
  */
 int strm_shape_all(struct strm_pool *pool, struct strm_msg msg, const struct strm_block_shape *shapes, size_t length);
@@ -870,10 +872,11 @@ int strm_adjmsg(struct strm_pool *pool, struct strm_msg msg, int32_t count);
 /*
  * Gathers the first `count` bytes of a message in its first block, from its leading blocks of the
  * first block's type; -1 means all bytes of these blocks. If the first block has the bytes already,
- * nothing is done. Otherwise it gets a new data block, allocated as by strm_allocb, with the bytes
- * at its beginning: headroom is lost. Blocks that gave all their bytes are freed, and empty ones
- * before the last byte; empty ones after it stay. Old data blocks, and the rest of the new one,
- * keep what was there: see strm_advance.
+ * nothing is done. Otherwise it gets a new data block, allocated as by strm_allocb, of the same
+ * type, with the bytes at its beginning: headroom is lost. Its old data block is freed, if no other
+ * block refers to that. Then, front to back, blocks that gave all their bytes are freed, and empty
+ * ones before the last byte; empty ones after it stay. Old data blocks, and the rest of the new
+ * one, keep what was there: see strm_advance.
  * Refused as STRM_SHORT if `count` is below -1 or these blocks have fewer bytes, STRM_TOO_LARGE,
  * STRM_NO_DATA.
  * Differs from STREAMS: bytes are not aligned.
@@ -1038,9 +1041,9 @@ int strm_flushband(struct strm_pool *pool, uint32_t queue, uint32_t band, uint32
 
 /*
  * Takes messages off a queue that strm_flushq would free, front to back, at most `length`. Stores
- * their number in *count, 0 if refused or there are none, and their names in the array `msgs` of
- * `length` names. The rest of the array is unchanged. Then it settles the queue once. The
- * want-to-read mark stays. Since 0.5.0.
+ * their number in *count, and their names in the array `msgs` of `length` names. The rest of the
+ * array is unchanged. If there are none, *count is 0, with STRM_OK. Then it settles the queue once.
+ * The want-to-read mark stays. Since 0.5.0.
  * Not in STREAMS.
  */
 int strm_takeq(struct strm_pool *pool, uint32_t queue, uint32_t flush, struct strm_msg *msgs, size_t length, size_t *count);
@@ -1146,7 +1149,8 @@ int strm_next_service(struct strm_pool *pool, uint32_t *queue);
  * and its band is wanted where strm_bcanput looked. So the queue settles without this message: it
  * can lose wanted marks, although it has as many bytes afterwards.
  *
- * A queue that is enabled because a message was taken off becomes the first of the run list.
+ * A queue that is enabled because a message was taken off becomes the first of the run list. If it
+ * is on the list already, it keeps its place.
  *
  * The last `held` queues of the run list are not served: begin with 0, and go on with service->held
  * + 1 if only strm_hold on service->queue and looks were called since, otherwise with
