@@ -16,6 +16,9 @@
  *
  * Waiting
  *
+ * To wait is here to wait for a message, room or blocks. Each call also takes the lock, and sleeps
+ * while another thread has it, whatever its deadline.
+ *
  * A `deadline` is a time of CLOCK_MONOTONIC. With null a call waits for ever; with a time that has
  * passed, such as zeros, it never waits. If a call would have to wait longer, it returns
  * STRM_MT_TIMED_OUT. A tv_nsec below 0 or above 999,999,999 is STRM_BAD_ARGUMENT, even if the call
@@ -39,7 +42,7 @@
  * A full band has room once it is below its high water mark; the low one plays no part. Each unlock
  * costs some calls of strm.h: for each queue and band at which a call waits, for each size that one
  * waits for, and for each descriptor of strm_mt_fd. Without these it costs nothing, and a call that
- * need not wait makes no system call.
+ * need not wait makes no system call, if no other thread has the lock.
  *
  *
  * What the caller promises
