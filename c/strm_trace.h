@@ -1,5 +1,5 @@
 /*
- * strm_trace.h: names for queues and messages in the traces of libstrm_trace.so (strm-trace(1)).
+ * strm_trace.h: labels of queues and messages in the traces of libstrm_trace.so (strm-trace(1)).
  * Tested, not proved.
  */
 #ifndef STRM_TRACE_H
@@ -12,8 +12,9 @@ extern "C" {
 #endif
 
 /*
- * Names a queue, or, if `queue` is STRM_NO_QUEUE, a message, which keeps its name on queues. Traces
- * show at most 40 characters, and a `?` instead of one that is not printable ASCII. Without
+ * Labels a queue, or, if `queue` is STRM_NO_QUEUE, the message whose first block has the number
+ * `msg.head`, which keeps its label on queues. It does not check whether the name `msg` is valid.
+ * Traces show at most 40 bytes, and a `?` instead of each that is not printable ASCII. Without
  * libstrm_trace.so the macro below does nothing. Makes no call with the pool, so it needs no lock.
  */
 void strm_trace_label(const struct strm_pool *pool, uint32_t queue, struct strm_msg msg, const char *label)
