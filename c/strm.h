@@ -98,7 +98,8 @@
  * returns another code, even STRM_NOT_OPEN. If *count is below `length` with STRM_OK, the next
  * single call returns the code that ended the series.
  *
- * A call takes constant time, plus time for each block, message or byte that it goes over.
+ * A call takes constant time, plus time for each block, message or byte, as often as it goes over
+ * it.
  *
  *
  * Names
@@ -108,15 +109,15 @@
  * strm_freeb, strm_rmvb, strm_transfer, strm_putq, strm_putbq, strm_hold, strm_insq, strm_insq_at,
  * the _n calls that free or put, strm_linkb its tail, and strm_close all.
  *
- * A pool never gives a name a second time: a message that comes off a queue, or is parted from
- * another, has a new one. Only strm_name_at returns a name that was given before. So a caller that
- * frees twice, links twice, or uses a message that is on a queue gets STRM_INVALID. Any bits may be
- * passed as a name. Names may be copied, kept, and compared by strm_same_msg. STRM_NO_MSG, all
- * zeros, is the name of no message, and never valid. Its initialiser is STRM_NO_MSG_INIT.
+ * A pool gives no name a second time, until the stamps of a block start again after 2^64 names: a
+ * message that comes off a queue, or is parted from another, has a new one. Only strm_name_at
+ * returns a name that was given before. So a caller that frees twice, links twice, or uses a
+ * message that is on a queue gets STRM_INVALID. Any bits may be passed as a name. Names may be
+ * copied, kept, and compared by strm_same_msg. STRM_NO_MSG, all zeros, is the name of no message,
+ * and not valid. Its initialiser is STRM_NO_MSG_INIT.
  *
- * Stamps start again after 2^64 names with the same block. Two pools opened with the same id,
- * together or one after the other, can't tell their names apart: give different ids to pools whose
- * names can meet.
+ * Two pools opened with the same id, together or one after the other, can't tell their names apart:
+ * give different ids to pools whose names can meet.
  *
  * A message whose name is lost stays held until the pool is closed. strm_name_at finds its name.
  *
