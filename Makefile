@@ -68,7 +68,7 @@ LISTED = text=$$($(1) <"$(2)") && tools/strm-list --report "$(2)" - <<<"$$text"
 GIVEN = $(foreach name,$(.VARIABLES),$(if $(filter command,$(firstword $(origin $(name)))),$(name)))
 ALONE = env $(addprefix -u ,MAKEFLAGS MAKELEVEL MAKEOVERRIDES MFLAGS GNUMAKEFLAGS MAKE_TERMOUT MAKE_TERMERR PREFIX DESTDIR TARGET $(GIVEN))
 
-.PHONY: run help try test test-arm check gate-times cases edits lint soak soak-mt field view-test pages pictures bench bench-lines bench-library bench-batches bench-census bench-header bench-lock bench-c bench-bindings bench-forwarding bench-peers bench-mt strm install install-pages install-tools install-docs uninstall lib install-lib dist release vendor
+.PHONY: run help try test test-arm check gate-times cases edits lint soak soak-mt field view-test pages pictures bench bench-lines bench-library bench-batches bench-census bench-header bench-lock bench-c bench-bindings bench-stores bench-peers bench-mt strm install install-pages install-tools install-docs uninstall lib install-lib dist release vendor
 
 # Runs examples/first_run.strm on the proved program (default). `make` alone does this and does not list rules, so that people who type `make`
 # and then `sudo make install` do not prove the program as root.
@@ -151,8 +151,8 @@ pages:
 pictures:
 	@for picture in docs/pictures/*.svg; do tools/strm-view $$(sed -n 's:^<desc>\(.*\)</desc>$$:\1:p' $$picture) --output $$picture || exit 1; done
 
-# Runs bench-lines to bench-forwarding, and with PEERS=1 bench-peers. OPTIONS are those of all, as --write for docs/.
-bench: bench-lines bench-library bench-batches bench-census bench-header bench-lock bench-c bench-bindings bench-forwarding
+# Runs bench-lines to bench-stores, and with PEERS=1 bench-peers. OPTIONS are those of all, as --write for docs/.
+bench: bench-lines bench-library bench-batches bench-census bench-header bench-lock bench-c bench-bindings bench-stores
 
 # Prints what a line and a call of each word cost. OPTIONS are those of bench/run.py, as --instructions, or --write for docs/.
 bench-lines: $(BUILT)
@@ -192,8 +192,8 @@ bench-c: build/libstrm.a $(ROUNDS)
 bench-bindings: build/libstrm.a build/libstrm.so
 	@$(BENCH) bench/bindings.py $(OPTIONS) build/libstrm.a
 
-# Counts loads that span two stores in the works of bench-peers over strm.h. It fails if there are any. OPTIONS are those of bench/forwarding.py.
-bench-forwarding: build/libstrm.a
+# Counts loads that span two stores, in the works of bench-peers. It fails if there are any. OPTIONS are those of bench/forwarding.py.
+bench-stores: build/libstrm.a
 	@$(BENCH) bench/forwarding.py $(OPTIONS) build/libstrm.a
 
 # Prints what the same work costs over strm.h, DPDK, lwIP and GLib. A pool in C does it too. This names those whose Debian package is not
