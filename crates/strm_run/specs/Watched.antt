@@ -16,7 +16,7 @@ abbrev pub took_none : {E : Type 0} → Result ℕ E → Bool
 took_none (Ok n) = n == 0
 took_none (Err error) = true
 
--- a read gave no bytes, so it found the end
+-- a read gave no bytes, which counts as the end
 abbrev pub gave_none : {E : Type 0} → Result ℕ E → Bool
 gave_none (Ok n) = n == 0
 gave_none (Err error) = false

@@ -15,8 +15,9 @@ use strm_pool::{Pool, QueuedInfo, Token};
 /// A STREAMS module: its service procedure treats each message on its way to the next queue. It gets only messages that may go there:
 /// those of high priority, and those whose band has room.
 ///
-/// A module cannot ask for room elsewhere. [`send`](crate::send) puts a message on a queue even if its band is full there: a reply, a
-/// message for another queue than the next one, a second message, and one whose band the module changed.
+/// A module may look whether a band of another queue is full (`Pool::band_info`), but cannot make it wanted, so no call wakes it once
+/// there is room. [`send`](crate::send) asks for no room: it puts a reply, a message for another queue than the next one, a second
+/// message, and one whose band the module changed on a queue even if the band is full there.
 pub trait Module {
     // What `need` can return: the module, the pool, the queue, its first message, and what is returned.
     ghost needs: { Self → PoolValue → ℕ → QueuedInfo → NeedValue → Type 0 };

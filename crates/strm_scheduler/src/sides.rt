@@ -132,8 +132,8 @@ impl Sides {
         &self.pool
     }
 
-    /// Says whether a queue waits for the blocks that a module needs for its first message, which are not free. It rests until they
-    /// are, unless a greater message has enabled it since.
+    /// Says whether a queue waits for blocks: those that a module needed for the message that was first there at the end of a run.
+    /// They are not free. The queue rests until they are, unless a message that came since, or room on its next queue, enabled it.
     pub fn is_short(&self, queue: u8) -> bool
         ensures { result ≡ is_some (need_at self.now.waits queue) }
     {

@@ -500,7 +500,8 @@ impl Walk {
     }
 }
 
-// On lines of 2 to 8 queues no message waits that could go on, and none is lost; within a band they arrive in order.
+// On lines of 2 to 8 queues no message waits that could go on, and none is lost. Those put on one queue with one type and band arrive in
+// order.
 #[test]
 fn message_by_message(rt: HostRuntime) {
     let mut waited = 0;
