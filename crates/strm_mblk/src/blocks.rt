@@ -251,8 +251,10 @@ impl Blocks {
         }
     }
 
-    // Makes the token of a held message.
-    fn token(&self, head: u32) -> Token
+    /// Makes the token of the message that is held at a head, also if it has one. This is for callers that keep heads instead
+    /// of tokens, and for a token that was lost. Once a call spends one of two tokens, forget the other. Changes nothing.
+    #[inline(always)]
+    pub fn token(&self, head: u32) -> Token
         requires { IsTrue (is_some (held_at self.now head)) }
         ensures { result ≡ token_of self.now head }
     {

@@ -17,9 +17,10 @@ pub struct TokenValue {
 /// The right to one held message.
 ///
 /// Calls that make a message, divide one, or take one off a shelf give its token. A token must be spent: it can be
-/// neither copied nor dropped. So no message is freed twice. This needs pools with different ids, because a token
-/// carries the id of its pool, not the pool. Only `forget`, and `freemsg` of blocks that do not have the token, lose a
-/// message: it stays held. STREAMS passes a pointer to the message instead.
+/// neither copied nor dropped. So no message is freed twice, unless [`Blocks::token`](crate::Blocks::token) made it a second
+/// token. This needs pools with different ids, because a token carries the id of its pool, not the pool. Only `forget`, and
+/// `freemsg` of blocks that do not have the token, lose a token: its message stays held. STREAMS passes a pointer to the
+/// message instead.
 #[must_use]
 #[derive(Debug)]
 pub struct Token {
@@ -62,7 +63,7 @@ impl Token {
         self.value.blocks = blocks;
     }
 
-    /// Spends the token and nothing else. Its message stays held, and no call can reach it any more.
+    /// Spends the token and nothing else. Its message stays held, and only `Blocks::token` makes a token of it again.
     pub fn forget(self) {
         let Token { value: _ } = self;
     }

@@ -1,16 +1,12 @@
 -- Which names are valid after a call, by what is held before it and after it.
-use Rattle.std.proofs.Common.{◌≡◌, ℕ, ◌<◌, true, false, ◌&&◌, ◌||◌, eqb, List, [], ◌∷◌, ◌++◌, length, set, get_or, Option, None, refl, sym, ap, ◌∙◌, subst, inl, inr, arith, get_or-set_same, get_or-set_other, length-set}
+use Rattle.std.proofs.Common.{◌≡◌, ℕ, ◌<◌, Bool, true, false, ◌&&◌, ◌||◌, eqb, List, [], ◌∷◌, length, set, get_or, refl, sym, ap, ◌∙◌, subst, inl, inr, arith, get_or-set_same, get_or-set_other, length-set}
 use Rattle.std.specs.Prelude.{is_some}
-use Rattle.std.proofs.lemmas.Bool.{and_from, and_right, cases_Bool, cases_eq, eq-eqb, false≢true, ne_eqb, or_from, or_left, or_parts, or_right}
+use Rattle.std.proofs.lemmas.Bool.{and_from, and_right, cases_eq, eq-eqb, false≢true, ne_eqb, or_parts}
 use Rattle.strm_links.specs.Rows.{IsApart}
 use Rattle.strm_links.specs.Rows as rows
-use Rattle.strm_links.proofs.lists.OneList.{has-append}
-use Rattle.strm_mblk.specs.declared.token.TokenValue.{TokenValue}
 use Rattle.strm_mblk.specs.Arena.{held_at}
-use Rattle.strm_mblk.specs.Block.{Message}
-use Rattle.strm_pool.proofs.Tokens.{Moves, heads_of}
 use Rattle.strm_named.specs.NamedValue.{NamedValue, Renames, stamp_after, stamp_at, stamps_given}
-use Rattle.strm_named.proofs.Fitted.{stands_each, within_some}
+use Rattle.strm_named.proofs.Fitted.{Turns, within_some}
 
 -- ---- stamps
 
@@ -42,64 +38,26 @@ stamps_raised (k ∷ hs) stamps h within apart is =
           stamps_raised hs (set stamps k next) h inside apart.1 rest ∙ ap stamp_after (get_or-set_other stamps k h next 0 (λ e. other (sym e)))
     ]
 
-pub length-stamps_given : (hs stamps : List ℕ) → length (stamps_given hs stamps) ≡ length stamps
-length-stamps_given [] stamps = refl
-length-stamps_given (k ∷ hs) stamps =
-    let next = stamp_after (get_or stamps k 0) in
-    length-stamps_given hs (set stamps k next) ∙ length-set stamps k next
-
--- the last of those that are apart are apart
-apart_last : (hs ks : List ℕ) → IsApart (hs ++ ks) → IsApart ks
-apart_last [] ks apart = apart
-apart_last (h ∷ hs) ks apart = apart_last hs ks apart.1
-
 -- ---- names
 
--- The heads of tokens that moved are those that stay and those that are spent before, and those that stay and those that are given
--- afterwards.
-module _ (v w : NamedValue) (kept spent given : List ℕ) {before after : List TokenValue} (moves : Moves v.pool.arena w.pool.arena before after)
-    (were : heads_of before ≡ kept ++ spent) (are : heads_of after ≡ kept ++ given) (other : (h : ℕ) → rows.has h spent ≡ true → rows.has h kept ≡ false)
-    (stamps : w.stamps ≡ stamps_given given v.stamps) (long : length v.stamps ≡ length v.pool.arena.held) where
-  in_before : (h : ℕ) → rows.has h (heads_of before) ≡ (rows.has h kept || rows.has h spent)
-  in_before h = ap (rows.has h) were ∙ has-append h kept spent
-
-  in_after : (h : ℕ) → rows.has h (heads_of after) ≡ (rows.has h kept || rows.has h given)
-  in_after h = ap (rows.has h) are ∙ has-append h kept given
-
-  given_now : (h : ℕ) → rows.has h given ≡ true → is_some (held_at w.pool.arena h) ≡ true
-  given_now h is = stands_each w.pool.arena after h moves.has_now (in_after h ∙ or_right (rows.has h kept) (rows.has h given) is)
-
-  still : (h : ℕ) → rows.has h spent ≡ false → rows.has h given ≡ false → is_some (held_at w.pool.arena h) ≡ is_some (held_at v.pool.arena h)
-  still h not_spent not_given =
-      elim (cases_Bool (rows.has h kept)) [
-        | inl is ↦
-            stands_each w.pool.arena after h moves.has_now (in_after h ∙ or_left (rows.has h kept) (rows.has h given) is)
-            ∙ sym (stands_each v.pool.arena before h moves.had (in_before h ∙ or_left (rows.has h kept) (rows.has h spent) is))
-        | inr not ↦
-            ap is_some (moves.others h (in_before h ∙ or_from (rows.has h kept) (rows.has h spent) not not_spent) (in_after h ∙ or_from (rows.has h kept) (rows.has h given) not not_given))
-      ]
-
-  -- the stamp of a message that was given is another one
-  stamp_differs : (h : ℕ) → rows.has h given ≡ true → eqb (stamp_at w h) (stamp_at v h) ≡ false
-  stamp_differs h is =
-      let within : h < length v.stamps = omega (arith, within_some w.pool.arena h (given_now h is), moves.size, long) in
-      ne_eqb (stamp_at w h) (stamp_at v h)
-      (λ same. raised-other (stamp_at v h) (sym (ap (λ ss. get_or ss h 0) stamps ∙ stamps_raised given v.stamps h within (apart_last kept given (subst IsApart are moves.apart)) is) ∙ same))
-
-  pub renames : Renames spent given v w
-  renames = record {
-    others = λ n not_spent not_given.
-        let stamp : stamp_at w n.head ≡ stamp_at v n.head = ap (λ ss. get_or ss n.head 0) stamps ∙ stamps_other given v.stamps n.head not_given in
-        let id : w.pool.arena.id ≡ v.pool.arena.id = moves.id in
-        let held : is_some (held_at w.pool.arena n.head) ≡ is_some (held_at v.pool.arena n.head) = still n.head not_spent not_given in
-        λ i. eqb n.pool (id i) && (held i && eqb n.stamp (stamp i));
-    gone = λ n is not_given.
-        let none : held_at w.pool.arena n.head ≡ None =
-        moves.gone n.head (in_before n.head ∙ or_right (rows.has n.head kept) (rows.has n.head spent) is)
-        (in_after n.head ∙ or_from (rows.has n.head kept) (rows.has n.head given) (other n.head is) not_given) in
-        ap (λ (o : Option Message). eqb n.pool w.pool.arena.id && (is_some o && eqb n.stamp (stamp_at w n.head))) none ∙ and_right (eqb n.pool w.pool.arena.id) false refl;
-    fresh = λ h is.
-        and_from _ _ (eq-eqb w.pool.arena.id w.pool.arena.id refl) (and_from _ _ (given_now h is) (eq-eqb (stamp_at w h) (stamp_at w h) refl));
-    unheard = λ h is.
-        and_right (eqb w.pool.arena.id v.pool.arena.id) _ (and_right (is_some (held_at v.pool.arena h)) _ (stamp_differs h is));
-  }
+-- A call spends the names with some heads and gives messages with others, and their stamps are raised.
+pub renames : (v w : NamedValue) (spent given : List ℕ) → Turns spent given v.pool.arena w.pool.arena → w.stamps ≡ stamps_given given v.stamps → length v.stamps ≡ length v.pool.arena.held → Renames spent given v w
+renames v w spent given turned stamps long = record {
+  others = λ n not_spent not_given.
+      let stamp : stamp_at w n.head ≡ stamp_at v n.head = ap (λ ss. get_or ss n.head 0) stamps ∙ stamps_other given v.stamps n.head not_given in
+      let held : is_some (held_at w.pool.arena n.head) ≡ is_some (held_at v.pool.arena n.head) = turned.still n.head not_given not_spent in
+      λ i. eqb n.pool (turned.id i) && (held i && eqb n.stamp (stamp i));
+  gone = λ n is not_given.
+      ap (λ (b : Bool). eqb n.pool w.pool.arena.id && (b && eqb n.stamp (stamp_at w n.head))) (turned.gone n.head not_given is) ∙ and_right (eqb n.pool w.pool.arena.id) false refl;
+  fresh = λ h is.
+      and_from _ _ (eq-eqb w.pool.arena.id w.pool.arena.id refl) (and_from _ _ (turned.now h is) (eq-eqb (stamp_at w h) (stamp_at w h) refl));
+  unheard = λ h is.
+      and_right (eqb w.pool.arena.id v.pool.arena.id) _ (and_right (is_some (held_at v.pool.arena h)) _ (differs h is));
+}
+  where
+    -- the stamp of a message that was given is another one
+    differs : (h : ℕ) → rows.has h given ≡ true → eqb (stamp_at w h) (stamp_at v h) ≡ false
+    differs h is =
+        let within : h < length v.stamps = omega (arith, within_some w.pool.arena h (turned.now h is), turned.size, long) in
+        ne_eqb (stamp_at w h) (stamp_at v h)
+        (λ same. raised-other (stamp_at v h) (sym (ap (λ ss. get_or ss h 0) stamps ∙ stamps_raised given v.stamps h within turned.apart is) ∙ same))

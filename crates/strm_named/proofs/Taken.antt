@@ -1,5 +1,5 @@
 -- Messages that a call takes and a receiver names.
-use Rattle.std.proofs.Common.{◌≡◌, ℕ, ◌+◌, ◌<◌, ◌≤◌, ◌==◌, suc, Bool, true, false, Option, None, Some, List, [], ◌∷◌, arith, length, map, set, get_or, get_or-set_same, length-set, take, Result, Ok, Err, refl, sym, ap, ◌∙◌, subst, if◌then◌else◌}
+use Rattle.std.proofs.Common.{◌≡◌, ℕ, ◌+◌, ◌≤◌, ◌==◌, suc, Bool, true, false, Option, None, Some, List, [], ◌∷◌, arith, length, map, set, length-set, take, Result, Ok, Err, refl, sym, ap, ◌∙◌, subst, if◌then◌else◌}
 use Rattle.std.specs.Prelude.{filter}
 use Rattle.std.specs.List.{FoldsTo}
 use Rattle.std.proofs.lemmas.Bool.{false≢true, or_right}
@@ -23,25 +23,21 @@ use Rattle.strm_pool.proofs.Tokens.{Each, Moves, err_not_ok, has_here, heads_of,
 use Rattle.strm_named.specs.declared.fault.Fault.{Fault}
 use Rattle.strm_named.specs.declared.name.Name.{Name}
 use Rattle.strm_named.specs.declared.naming.Naming.{Naming}
-use Rattle.strm_named.specs.Fitting.{Fits, pool_with_places}
+use Rattle.strm_named.specs.declared.records.NameRecord.{NameRecord}
 use Rattle.strm_named.specs.NamedCalls.{TakesEachNamed, as_named_result, any_message, Does, names_of, outcome_of, some_messages, with_names, with_names_from}
-use Rattle.strm_named.specs.NamedValue.{NamedValue, name_of, stamp_after, stamps_given}
+use Rattle.strm_named.specs.NamedLayout.{Fits, pool_with}
+use Rattle.strm_named.specs.NamedValue.{NamedValue, name_of}
+use Rattle.strm_named.specs.Records.{name_in, record_at, with_given, with_tokens}
 use Rattle.strm_named.specs.Receiving.{NamesToken}
-use Rattle.strm_named.specs.PlacesValue.{PlacesValue, name_given, stamp_in, with_given}
-use Rattle.strm_named.proofs.Fitted.{filled, stands_had, within_some}
-use Rattle.strm_named.proofs.Renamed.{stamps_other}
+use Rattle.strm_named.proofs.Fitted.{given_other, stamp_is}
 use Rattle.strm_named.proofs.Shaped.{Called, gives_any, made, refused}
 
 -- ---- what the receiver does with tokens
 
 -- the names of these tokens, given one after another
-abbrev names_given : List TokenValue → PlacesValue → List Name
-names_given [] p = []
-names_given (t ∷ ts) p = name_given t p ∷ names_given ts (with_given t p)
-
--- the places after that
-abbrev with_all_given : List TokenValue → PlacesValue → PlacesValue
-with_all_given ts p = record { slots = filled ts p.slots; stamps = stamps_given (heads_of ts) p.stamps }
+abbrev names_given : List TokenValue → List NameRecord → List Name
+names_given [] rs = []
+names_given (t ∷ ts) rs = name_in (with_given t rs) t ∷ names_given ts (with_given t rs)
 
 with_names_from-behind : (k : ℕ) (ns : List Name) (x : Name) (xs : List Name) → with_names_from (suc k) ns (x ∷ xs) ≡ x ∷ with_names_from k ns xs
 with_names_from-behind k [] x xs = refl
@@ -53,28 +49,29 @@ with_names_from-first (n ∷ ns) [] few = absurd (omega (arith, few))
 with_names_from-first (n ∷ ns) (x ∷ xs) few = with_names_from-behind 0 ns n xs ∙ ap (λ ys. n ∷ ys) (with_names_from-first ns xs (omega (arith, few)))
 
 -- it keeps what it was lent
-pub keeps_places : (ts : List TokenValue) (old new : Naming) → FoldsTo NamesToken old ts new → new.places.ghost_name ≡ old.places.ghost_name
-keeps_places [] old new is = ap (λ (x : Naming). x.places.ghost_name) (sym is)
-keeps_places (t ∷ ts) old new is = keeps_places ts is.0 new is.2 ∙ is.1.same_places
+pub keeps_records : (ts : List TokenValue) (old new : Naming) → FoldsTo NamesToken old ts new → new.records.ghost_name ≡ old.records.ghost_name
+keeps_records [] old new is = ap (λ (x : Naming). x.records.ghost_name) (sym is)
+keeps_records (t ∷ ts) old new is = keeps_records ts is.0 new is.2 ∙ is.1.same_records
 
 pub keeps_names : (ts : List TokenValue) (old new : Naming) → FoldsTo NamesToken old ts new → new.names.ghost_name ≡ old.names.ghost_name
 keeps_names [] old new is = ap (λ (x : Naming). x.names.ghost_name) (sym is)
 keeps_names (t ∷ ts) old new is = keeps_names ts is.0 new is.2 ∙ is.1.same_names
 
--- it puts them at their places
-puts_tokens : (ts : List TokenValue) (old new : Naming) → FoldsTo NamesToken old ts new → new.places.now ≡ with_all_given ts old.places.now
-puts_tokens [] old new is = ap (λ (x : Naming). x.places.now) (sym is)
-puts_tokens (t ∷ ts) old new is = puts_tokens ts is.0 new is.2 ∙ ap (with_all_given ts) is.1.places
+-- it records them
+records_tokens : (ts : List TokenValue) (old new : Naming) → FoldsTo NamesToken old ts new → new.records.now.items ≡ with_tokens ts old.records.now.items
+records_tokens [] old new is = ap (λ (x : Naming). x.records.now.items) (sym is)
+records_tokens (t ∷ ts) old new is = records_tokens ts is.0 new is.2 ∙ ap (with_tokens ts) is.1.records
 
 -- and stores their names
 stores_names : (ts : List TokenValue) (old new : Naming) → FoldsTo NamesToken old ts new → old.count + length ts ≤ length old.names.now
-    → new.names.now ≡ with_names_from old.count (names_given ts old.places.now) old.names.now
+    → new.names.now ≡ with_names_from old.count (names_given ts old.records.now.items) old.names.now
 stores_names [] old new is few = ap (λ (x : Naming). x.names.now) (sym is)
 stores_names (t ∷ ts) old new is few =
     let mid = is.0 in
     let count : mid.count ≡ suc old.count = is.1.count (omega (arith, few)) in
-    let long : length mid.names.now ≡ length old.names.now = ap length is.1.names ∙ length-set old.names.now old.count (name_given t old.places.now) in
-    stores_names ts mid new is.2 (omega (arith, few, count, long)) ∙ (λ i. with_names_from (count i) (names_given ts (is.1.places i)) (is.1.names i))
+    let long : length mid.names.now ≡ length old.names.now = ap length is.1.names ∙ length-set old.names.now old.count (name_in mid.records.now.items t) in
+    let names : mid.names.now ≡ set old.names.now old.count (name_in (with_given t old.records.now.items) t) = is.1.names ∙ ap (λ (rs : List NameRecord). set old.names.now old.count (name_in rs t)) is.1.records in
+    stores_names ts mid new is.2 (omega (arith, few, count, long)) ∙ (λ i. with_names_from (count i) (names_given ts (is.1.records i)) (names i))
 
 -- ---- messages with these heads
 
@@ -87,15 +84,13 @@ each_had a [] had = tt
 each_had a (h ∷ hs) had = (had h (has_here h hs), each_had a hs (λ k there. had k (or_right (h == k) (rows.has k hs) there)))
 
 -- the names that are given are those that the messages have afterwards
-names_told : (a : Arena) (hs : List ℕ) (p : PlacesValue) → IsApart hs → ((h : ℕ) → rows.has h hs ≡ true → h < length p.stamps)
-    → names_given (map (token_of a) hs) p ≡ map (λ h. let n : Name = record { pool = a.id; head = h; stamp = get_or (stamps_given hs p.stamps) h 0 } in n) hs
-names_told a [] p apart within = refl
-names_told a (h ∷ hs) p apart within =
-    let raised = stamp_after (stamp_in p h) in
-    let stamp : raised ≡ get_or (stamps_given hs (set p.stamps h raised)) h 0 =
-    sym (stamps_other hs (set p.stamps h raised) h apart.0 ∙ get_or-set_same p.stamps h raised 0 (within h (has_here h hs))) in
-    let rest = names_told a hs (with_given (token_of a h) p) apart.1 (λ k there. omega (arith, within k (or_right (h == k) (rows.has k hs) there), length-set p.stamps h raised)) in
-    λ i. (let n : Name = record { pool = a.id; head = h; stamp = stamp i } in n) ∷ rest i
+names_told : (a : Arena) (hs : List ℕ) (rs : List NameRecord) → IsApart hs
+    → names_given (map (token_of a) hs) rs ≡ map (λ h. name_in (with_tokens (map (token_of a) hs) rs) (token_of a h)) hs
+names_told a [] rs apart = refl
+names_told a (h ∷ hs) rs apart =
+    let now = with_given (token_of a h) rs in
+    let stays : record_at now h ≡ record_at (with_tokens (map (token_of a) hs) now) h = sym (given_other (map (token_of a) hs) now h (ap (rows.has h) (heads-tokens a hs) ∙ apart.0)) in
+    λ i. (let n : Name = record { pool = a.id; head = h; stamp = (stays i).stamp } in n) ∷ names_told a hs now apart.1 i
 
 -- no more are taken than the call was asked for
 module _ (p : PoolValue) (n : ℕ) (hs : List ℕ) (u : PoolValue) where
@@ -124,52 +119,47 @@ moved a b old new hs is =
       new = λ h was now. is.unheld h (ap (rows.has h) (sym heads) ∙ now);
     }
 
-module _ {p r : PoolValue} {ps qs : PlacesValue} (fits : Fits p.arena ps) {old new : Naming} (before : old.places.now ≡ ps) (after : qs ≡ new.places.now) where
+module _ {p r : PoolValue} {ps qs : List NameRecord} (fits : Fits p.arena ps) {old new : Naming} (before : old.records.now.items ≡ ps) (after : qs ≡ new.records.now.items) where
   -- messages are taken and named
   pub takes_some : {g : Given PoolValue (List ℕ)} {taken : Result ℕ Refusal} {answer : Result ℕ Fault} → Hands arena NamesToken g p r old new taken → answer ≡ as_named_result taken
-      → Called some_messages (outcome_of g) [] p r ps qs answer
+      → Called some_messages (outcome_of g) [] (pool_with p ps) r qs answer
   takes_some {g} {taken} {answer} = each g
     where
-      each : (g : Given PoolValue (List ℕ)) → Hands arena NamesToken g p r old new taken → answer ≡ as_named_result taken → Called some_messages (outcome_of g) [] p r ps qs answer
+      each : (g : Given PoolValue (List ℕ)) → Hands arena NamesToken g p r old new taken → answer ≡ as_named_result taken → Called some_messages (outcome_of g) [] (pool_with p ps) r qs answer
       each (Ok (hs, u)) is told =
           let pool : u ≡ r = sym is.left in
-          let heads = heads-tokens r.arena hs in
           let ts = map (token_of r.arena) hs in
-          made p r ps qs fits some_messages hs [] [] (moved p.arena r.arena old new hs is.tokens) refl heads (λ h none. refl) (λ i. Ok (hs, pool i))
-          (after ∙ puts_tokens ts old new is.tokens.handed ∙ (λ i. let q : PlacesValue = record { slots = filled ts (before i).slots; stamps = stamps_given (heads i) (before i).stamps } in q))
-          (told ∙ ap as_named_result is.count)
+          made p r ps qs fits some_messages hs [] [] ts (moved p.arena r.arena old new hs is.tokens) refl refl (λ h none. refl) (heads-tokens r.arena hs) (each_had r.arena hs is.tokens.had) (λ i. Ok (hs, pool i))
+          (after ∙ records_tokens ts old new is.tokens.handed ∙ ap (with_tokens ts) before) (told ∙ ap as_named_result is.count)
       each (Err why) is told =
-          refused p r ps qs fits some_messages is.left (after ∙ ap (λ (x : Naming). x.places.now) (sym is.tokens.handed) ∙ before) (told ∙ ap as_named_result is.count)
+          refused p r ps qs fits some_messages is.left (after ∙ ap (λ (x : Naming). x.records.now.items) (sym is.tokens.handed) ∙ before) (told ∙ ap as_named_result is.count)
 
   -- and their names are stored in the slice that was lent, which ends as `slice`, if it has room for all
   pub stores_some : {g : Given PoolValue (List ℕ)} {taken : Result ℕ Refusal} {slice : List Name} → Hands arena NamesToken g p r old new taken → old.count ≡ 0
       → ((hs : List ℕ) (u : PoolValue) → g ≡ Ok (hs, u) → length hs ≤ length old.names.now) → (old.names.ghost_name ≡ new.names.ghost_name → slice ≡ new.names.now)
-      → slice ≡ with_names (names_of some_messages (pool_with_places r qs) (outcome_of g)) old.names.now
+      → slice ≡ with_names (names_of some_messages (pool_with r qs) (outcome_of g)) old.names.now
   stores_some {g} {taken} is first few ends = ends (sym (keeps_names _ old new is.tokens.handed)) ∙ each g is first few
     where
       each : (g : Given PoolValue (List ℕ)) → Hands arena NamesToken g p r old new taken → old.count ≡ 0 → ((hs : List ℕ) (u : PoolValue) → g ≡ Ok (hs, u) → length hs ≤ length old.names.now)
-          → new.names.now ≡ with_names (names_of some_messages (pool_with_places r qs) (outcome_of g)) old.names.now
+          → new.names.now ≡ with_names (names_of some_messages (pool_with r qs) (outcome_of g)) old.names.now
       each (Err why) is first few = ap (λ (x : Naming). x.names.now) (sym is.tokens.handed)
       each (Ok (hs, u)) is first few =
           let a = r.arena in
           let ts = map (token_of a) hs in
-          let within : (h : ℕ) → rows.has h hs ≡ true → h < length old.places.now.stamps = λ h there.
-          omega (arith, within_some a h (stands_had a (token_of a h) (is.tokens.had h there)), is.tokens.others.size, fits.stamps, ap (λ (x : PlacesValue). length x.stamps) before) in
-          let stamps : stamps_given hs old.places.now.stamps ≡ qs.stamps =
-          ap (λ ks. stamps_given ks old.places.now.stamps) (sym (heads-tokens a hs)) ∙ ap (λ (x : PlacesValue). x.stamps) (sym (after ∙ puts_tokens ts old new is.tokens.handed)) in
-          let names : names_given ts old.places.now ≡ map (λ h. name_of (pool_with_places r qs) h) hs =
-          names_told a hs old.places.now is.tokens.apart within
-          ∙ (λ i. map (λ h. let n : Name = record { pool = a.id; head = h; stamp = get_or (stamps i) h 0 } in n) hs) in
+          let names : names_given ts old.records.now.items ≡ map (λ h. name_of (pool_with r qs) h) hs =
+          names_told a hs old.records.now.items is.tokens.apart
+          ∙ (λ i. map (λ h. name_in (sym (after ∙ records_tokens ts old new is.tokens.handed) i) (token_of a h)) hs)
+          ∙ (λ i. map (λ h. let n : Name = record { pool = a.id; head = h; stamp = sym (stamp_is r qs h) i } in n) hs) in
           let enough = few hs u refl in
           stores_names ts old new is.tokens.handed (omega (arith, first, enough, length-map hs (token_of a)))
           ∙ (λ i. with_names_from (first i) (names i) old.names.now)
-          ∙ with_names_from-first (map (λ h. name_of (pool_with_places r qs) h) hs) old.names.now (omega (arith, enough, length-map hs (λ h. name_of (pool_with_places r qs) h)))
+          ∙ with_names_from-first (map (λ h. name_of (pool_with r qs) h) hs) old.names.now (omega (arith, enough, length-map hs (λ h. name_of (pool_with r qs) h)))
 
 -- ---- messages that are taken one after another
 
-length-names_given : (ts : List TokenValue) (p : PlacesValue) → length (names_given ts p) ≡ length ts
-length-names_given [] p = refl
-length-names_given (t ∷ ts) p = ap suc (length-names_given ts (with_given t p))
+length-names_given : (ts : List TokenValue) (rs : List NameRecord) → length (names_given ts rs) ≡ length ts
+length-names_given [] rs = refl
+length-names_given (t ∷ ts) rs = ap suc (length-names_given ts (with_given t rs))
 
 module _ (call : PoolValue → Given PoolValue (Option ℕ)) where
   -- one message is taken, and its token received
@@ -184,18 +174,19 @@ module _ (call : PoolValue → Given PoolValue (Option ℕ)) where
   received [] p r old new is = ap (λ (x : PoolValue × Naming). x.1) is
   received (t ∷ ts) p r old new is = (is.0.1, is.1.1, received ts is.0.0 r is.0.1 new is.2)
 
-  named : (ts : List TokenValue) (p r : PoolValue) (old new : Naming) → Fits p.arena old.places.now → FoldsTo one_received (p, old) ts (r, new)
-      → Fits r.arena new.places.now × FoldsTo one_named (pool_with_places p old.places.now) (names_given ts old.places.now) (pool_with_places r new.places.now)
-  named [] p r old new fits is = (subst (λ (x : PoolValue × Naming). Fits x.0.arena x.1.places.now) is fits, ap (λ (x : PoolValue × Naming). pool_with_places x.0 x.1.places.now) is)
+  named : (ts : List TokenValue) (p r : PoolValue) (old new : Naming) → Fits p.arena old.records.now.items → FoldsTo one_received (p, old) ts (r, new)
+      → Fits r.arena new.records.now.items × FoldsTo one_named (pool_with p old.records.now.items) (names_given ts old.records.now.items) (pool_with r new.records.now.items)
+  named [] p r old new fits is = (subst (λ (x : PoolValue × Naming). Fits x.0.arena x.1.records.now.items) is fits, ap (λ (x : PoolValue × Naming). pool_with x.0 x.1.records.now.items) is)
   named (t ∷ ts) p r old new fits is =
       let m = is.0.0 in
       let between = is.0.1 in
-      let answer : Result (Option Name) Fault = Ok (Some (name_given t old.places.now)) in
-      let one : Called any_message (outcome_of (call p)) [] p m old.places.now between.places.now answer = gives_any fits is.1.0 is.1.1.places refl in
+      let answer : Result (Option Name) Fault = Ok (Some (name_in (with_given t old.records.now.items) t)) in
+      let one : Called any_message (outcome_of (call p)) [] (pool_with p old.records.now.items) m between.records.now.items answer =
+      gives_any fits is.1.0 is.1.1.records (ap (λ (rs : List NameRecord). Ok (Some (name_in rs t))) (sym is.1.1.records)) in
       let rest = named ts m r between new one.fits is.2 in
-      (rest.0, (pool_with_places m between.places.now, (one.does, is.1.0.unheld), subst (λ q. FoldsTo one_named (pool_with_places m between.places.now) (names_given ts q) (pool_with_places r new.places.now)) is.1.1.places rest.1))
+      (rest.0, (pool_with m between.records.now.items, (one.does, is.1.0.unheld), subst (λ q. FoldsTo one_named (pool_with m between.records.now.items) (names_given ts q) (pool_with r new.records.now.items)) is.1.1.records rest.1))
 
-module _ (call : PoolValue → Given PoolValue (Option ℕ)) {p r : PoolValue} {qs : PlacesValue} {old new : Naming} (fits : Fits p.arena old.places.now) (after : qs ≡ new.places.now)
+module _ (call : PoolValue → Given PoolValue (Option ℕ)) {p r : PoolValue} {qs : List NameRecord} {old new : Naming} (fits : Fits p.arena old.records.now.items) (after : qs ≡ new.records.now.items)
     {most taken : ℕ} (takes : TakesEach arena NamesToken call most p r old new taken) where
   abbrev ts : List TokenValue
   ts = takes.tokens
@@ -203,21 +194,21 @@ module _ (call : PoolValue → Given PoolValue (Option ℕ)) {p r : PoolValue} {
   handed : FoldsTo NamesToken old ts new
   handed = received call ts p r old new takes.each
 
-  pub each_keeps_places : new.places.ghost_name ≡ old.places.ghost_name
-  each_keeps_places = keeps_places ts old new handed
+  pub each_keeps_records : new.records.ghost_name ≡ old.records.ghost_name
+  each_keeps_records = keeps_records ts old new handed
 
   pub each_fits : Fits r.arena qs
   each_fits = subst (Fits r.arena) (sym after) (named call ts p r old new fits takes.each).0
 
   -- their names are stored in the slice that was lent, which ends as `slice`
-  pub each_named : {slice : List Name} {v : NamedValue} {result : ℕ} → pool_with_places p old.places.now ≡ v → result ≡ old.count + taken → old.count + most ≤ length old.names.now
-      → (old.names.ghost_name ≡ new.names.ghost_name → slice ≡ new.names.now) → TakesEachNamed (λ w. outcome_of (call w.pool)) old.count v (pool_with_places r qs) old.names.now slice result
-  each_named {slice} {v} {result} view is room ends = subst (λ w. TakesEachNamed (λ x. outcome_of (call x.pool)) old.count w (pool_with_places r qs) old.names.now slice result) view (record {
-    names = names_given ts old.places.now;
+  pub each_named : {slice : List Name} {v : NamedValue} {result : ℕ} → pool_with p old.records.now.items ≡ v → result ≡ old.count + taken → old.count + most ≤ length old.names.now
+      → (old.names.ghost_name ≡ new.names.ghost_name → slice ≡ new.names.now) → TakesEachNamed (λ w. outcome_of (call w.pool)) old.count v (pool_with r qs) old.names.now slice result
+  each_named {slice} {v} {result} view is room ends = subst (λ w. TakesEachNamed (λ x. outcome_of (call x.pool)) old.count w (pool_with r qs) old.names.now slice result) view (record {
+    names = names_given ts old.records.now.items;
     each =
-        subst (λ q. FoldsTo (one_named call) (pool_with_places p old.places.now) (names_given ts old.places.now) (pool_with_places r q)) (sym after)
+        subst (λ q. FoldsTo (one_named call) (pool_with p old.records.now.items) (names_given ts old.records.now.items) (pool_with r q)) (sym after)
         (named call ts p r old new fits takes.each).1;
     stored = ends (sym (keeps_names ts old new handed)) ∙ stores_names ts old new handed (omega (arith, room, takes.count, takes.few));
-    count = omega (arith, is, takes.count, length-names_given ts old.places.now);
+    count = omega (arith, is, takes.count, length-names_given ts old.records.now.items);
     within = omega (arith, is, room, takes.few);
   })

@@ -1,7 +1,5 @@
 pub mod NamedValue
 pub mod NamedCalls
-pub mod PlacesValue
-pub mod PlacesLayout
-pub mod Fitting
+pub mod Records
 pub mod NamedLayout
 pub mod Receiving

@@ -1,4 +1,6 @@
 //! Why a call on a named pool was refused: the name was not valid, or the pool refused.
+ghost use Rattle.std.specs.Prelude.{◌≡◌};
+ghost use Rattle.strm_named.specs.NamedCalls.{as_named_result};
 
 use strm_pool::Refusal;
 use thiserror::Error;
@@ -12,4 +14,14 @@ pub enum Fault {
     /// The pool refused the call.
     #[error("{0}")]
     Refused(Refusal),
+}
+
+// The pool's result as a result of the named pool.
+pub(crate) fn answered<T>(answer: Result<T, Refusal>) -> Result<T, Fault>
+    ensures { result ≡ as_named_result answer }
+{
+    match answer {
+        Ok(value) => Ok(value),
+        Err(why) => Err(Fault::Refused(why)),
+    }
 }

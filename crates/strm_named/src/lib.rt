@@ -5,8 +5,7 @@ mod fault;
 mod name;
 mod named_pool;
 mod naming;
-mod places;
-mod tokens;
+mod records;
 
 pub use fault::Fault;
 pub use name::Name;

@@ -1,9 +1,10 @@
 //! The pool with names: what it is made of, and what it says of names, queues and blocks.
-ghost use Rattle.std.specs.Prelude.{◌≡◌, ◌&&◌, IfOk, Ok, length, not, ◌==◌};
+ghost use Rattle.std.specs.Prelude.{◌≡◌, ◌&&◌, IfOk, IsTrue, Ok, length, not, ◌==◌};
 ghost use Rattle.strm_mblk.specs.Arena.{with_least_reset};
 ghost use Rattle.strm_mblk.specs.Given.{given_nothing};
 ghost use Rattle.strm_named.specs.NamedCalls.{LeavesNames};
 ghost use Rattle.strm_named.specs.NamedValue.{HasNoNames, OpensNamed, is_valid, name_at};
+ghost use Rattle.strm_named.specs.Records.{IsTokenOf};
 ghost use Rattle.strm_pool.specs.Lawful.{IsLawful};
 ghost use Rattle.strm_pool.specs.PoolValue.{on_arena};
 
@@ -14,21 +15,22 @@ mod queues;
 mod wishes;
 
 use crate::name::Name;
-use crate::places::Places;
+use crate::records::{NO_KEY, NameRecord};
 use std::alloc::Global;
 use std::marker::Model;
-use strm_pool::{Config, NewFault, Pool};
+use strm_pool::{Config, NewFault, Pool, Token};
 
 /// A pool in which each held message has a name.
 ///
-/// It keeps the tokens of all held messages. Calls take and return names instead, and require nothing of them. A name that is
-/// not valid is refused as `Fault::Invalid`, and nothing changes then; `linkb` of a message to itself is refused so too.
-/// Otherwise a call does what the call of `Pool` does. Only `new` allocates: what `Pool::new` does, and 24 bytes for each
-/// message block.
+/// Calls take and return names instead of tokens, and require nothing of them. A name that is not valid is refused as
+/// `Fault::Invalid`, and nothing changes then; `linkb` of a message to itself is refused so too. Otherwise a call makes the
+/// token of the message, and does what the call of `Pool` does. Only `new` allocates: what `Pool::new` does, and 16 bytes for
+/// each message block.
 #[derive(Drop)]
 pub struct NamedPool {
     pool: Pool,
-    places: Places,
+    // The record of each message block, by its number.
+    records: Vec<NameRecord>,
 }
 
 impl Model for NamedPool {
@@ -52,8 +54,8 @@ impl NamedPool {
     {
         let mblks = config.mblks;
         let pool = Pool::new(alloc, config)?;
-        match Places::new(alloc, mblks) {
-            Ok(places) => Ok(NamedPool { pool, places }),
+        match vec![in alloc; NameRecord::new(); mblks as usize] {
+            Ok(records) => Ok(NamedPool { pool, records }),
             Err(_) => Err(NewFault::Memory),
         }
     }
@@ -87,7 +89,10 @@ impl NamedPool {
     pub fn has(&self, name: Name) -> bool
         ensures { result ≡ is_valid self.now name }
     {
-        self.places.has(name)
+        match self.records.get(name.head as usize) {
+            Some(record) => record.is_of(name),
+            None => false,
+        }
     }
 
     /// Returns the name of the message that is held at a head, or none if no message is held there; a queued message is not
@@ -96,7 +101,15 @@ impl NamedPool {
     pub fn name_at(&self, head: u32) -> Option<Name>
         ensures { result ≡ name_at self.now head }
     {
-        self.places.name_at(head)
+        let record = self.records.get(head as usize)?;
+        if record.key == NO_KEY {
+            return None;
+        }
+        Some(Name {
+            pool: record.pool(),
+            head,
+            stamp: record.stamp,
+        })
     }
 
     // Whether two names are valid, and of different messages.
@@ -104,5 +117,14 @@ impl NamedPool {
         ensures { result ≡ (is_valid self.now first && (is_valid self.now second && not (first.head == second.head))) }
     {
         self.has(first) && self.has(second) && first.head != second.head
+    }
+
+    // Makes the token of the message of a valid name.
+    #[inline(always)]
+    fn token(&self, name: Name) -> Token
+        requires { IsTrue (is_valid self.now name) }
+        ensures { IsTokenOf name self.now.pool.arena result }
+    {
+        self.pool.blocks().token(name.head)
     }
 }

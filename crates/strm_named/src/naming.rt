@@ -1,25 +1,25 @@
-//! Where a call that takes several messages puts their tokens, and the names of these messages.
+//! What a call that takes several messages does with their tokens.
 ghost use Rattle.std.specs.Prelude.{◌≡◌};
 ghost use Rattle.strm_named.specs.Receiving.{NamesToken};
 
 use crate::name::Name;
-use crate::places::Places;
+use crate::records::{NameRecord, give};
 use strm_pool::{Receiver, Token};
 
-// Puts each token that it gets at its place, and the name of its message at the next place of a slice, if there is one.
+// Gives the message of each token that it gets a name, and puts the name at the next place of a slice, if there is one.
 pub(crate) struct Naming<'p, 'n> {
-    pub(crate) places: &'p mut Places,
+    pub(crate) records: &'p mut Vec<NameRecord>,
     pub(crate) names: &'n mut [Name],
     pub(crate) count: usize,
 }
 
 impl<'p, 'n> Drop for Naming<'p, 'n> {
     fn drop(self)
-        ensures places { self.exit.0.now ≡ self.entry.places.now }
+        ensures records { self.exit.0.now.items ≡ self.entry.records.now.items }
         ensures names { self.exit.1.0.now ≡ self.entry.names.now }
     {
         let Self {
-            places: _,
+            records: _,
             names: _,
             count: _,
         } = self;
@@ -30,7 +30,7 @@ impl<'p, 'n> Receiver for Naming<'p, 'n> {
     ghost receives = { NamesToken };
 
     fn receive(&mut self, token: Token) {
-        let name = self.places.give(token);
+        let name = give(self.records, token);
         let at = self.count;
         if at < self.names.len() {
             self.names[at] = name;

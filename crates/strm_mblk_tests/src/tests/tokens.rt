@@ -1,6 +1,7 @@
 use super::CLASSES;
 use super::bench::Bench;
 use super::forged::forged;
+use super::purse::assert_token;
 use super::rows::Row::{
     Allocb, Census, Class, Dupb, Fits, FreeData, Freemsg, Has, Heads, References, Says, Supply,
     Told,
@@ -211,4 +212,22 @@ fn spends_a_strange_token(rt: HostRuntime) {
     two.free_last(&rt, b);
     one.end(&rt);
     two.end(&rt);
+}
+
+// A message whose token was lost gets one anew, by its head. Of two tokens of a message, the second is had no more once the first is
+// spent.
+#[test]
+fn makes_a_token_anew(rt: HostRuntime) {
+    let mut bench = Bench::opened(&rt, rt.alloc(), 7);
+    let message = bench.allocated(&rt, 1);
+    bench.purse.taken(&rt, &bench.blocks, message).forget();
+    let first = bench.blocks.token(message.head);
+    let second = bench.blocks.token(message.head);
+    assert_token(&rt, &bench.blocks, &first, message);
+    assert_token(&rt, &bench.blocks, &second, message);
+    bench.blocks.freemsg(first);
+    assert!(rt; !bench.blocks.has(&second));
+    second.forget();
+    bench.assert_census(&rt, 8, 0, 0);
+    bench.end(&rt);
 }

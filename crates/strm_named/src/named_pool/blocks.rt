@@ -10,9 +10,9 @@ ghost use Rattle.strm_pool.specs.PoolValue.{on_arena, with_arena};
 ghost use Rattle.strm_queue.specs.QueueLooks.{info_of_message};
 
 use super::NamedPool;
-use crate::fault::Fault;
+use crate::fault::{Fault, answered};
 use crate::name::Name;
-use crate::tokens::{answered, lent, taken, taken_both};
+use crate::records::{give_any, part, take_away};
 use strm_pool::{BlockInfo, MsgType, QueuedInfo};
 
 impl NamedPool {
@@ -25,8 +25,10 @@ impl NamedPool {
         if !self.has(name) {
             return Err(Fault::Invalid);
         }
-        let token = lent(&self.pool, &self.places, name);
-        answered(self.pool.write(token, place, bytes))
+        let token = self.token(name);
+        let answer = self.pool.write(&token, place, bytes);
+        token.forget();
+        answered(answer)
     }
 
     /// Gives the data block of a message's block `place`, counted from 0, a type. Refused as `Invalid`, `NoSuchBlock`, then
@@ -38,8 +40,10 @@ impl NamedPool {
         if !self.has(name) {
             return Err(Fault::Invalid);
         }
-        let token = lent(&self.pool, &self.places, name);
-        answered(self.pool.settype(token, place, kind))
+        let token = self.token(name);
+        let answer = self.pool.settype(&token, place, kind);
+        token.forget();
+        answered(answer)
     }
 
     /// Gives a message's first block a band. Refused as `Invalid`. As [`Blocks::setband`] of strm_mblk.
@@ -51,8 +55,9 @@ impl NamedPool {
         if !self.has(name) {
             return Err(Fault::Invalid);
         }
-        let token = lent(&self.pool, &self.places, name);
-        self.pool.setband(token, band);
+        let token = self.token(name);
+        self.pool.setband(&token, band);
+        token.forget();
         Ok(())
     }
 
@@ -66,9 +71,11 @@ impl NamedPool {
         if !self.has_both(name, tail) {
             return Err(Fault::Invalid);
         }
-        let (mut token, behind) = taken_both(&self.pool, &mut self.places, name, tail);
+        let mut token = self.token(name);
+        let behind = self.token(tail);
         self.pool.linkb(&mut token, behind);
-        self.places.hold(token);
+        token.forget();
+        take_away(&mut self.records, tail.head);
         Ok(())
     }
 
@@ -81,10 +88,10 @@ impl NamedPool {
         if !self.has(name) {
             return Err(Fault::Invalid);
         }
-        let mut token = taken(&self.pool, &mut self.places, name);
+        let mut token = self.token(name);
         let rest = self.pool.unlinkb(&mut token);
-        self.places.hold(token);
-        Ok(self.places.give_any(rest))
+        token.forget();
+        Ok(give_any(&mut self.records, rest))
     }
 
     /// Makes block `place` of a message, counted from 0, a message. Returns its name and that of the other blocks, if any; the
@@ -96,9 +103,9 @@ impl NamedPool {
         if !self.has(name) {
             return Err(Fault::Invalid);
         }
-        let token = taken(&self.pool, &mut self.places, name);
+        let token = self.token(name);
         let parted = self.pool.rmvb(token, place);
-        self.places.part(parted)
+        part(&mut self.records, name.head, parted)
     }
 
     /// Removes `count` bytes at the head of a message or, if `count` is below 0, -`count` bytes at its tail, from blocks of one
@@ -110,8 +117,10 @@ impl NamedPool {
         if !self.has(name) {
             return Err(Fault::Invalid);
         }
-        let token = lent(&self.pool, &self.places, name);
-        answered(self.pool.adjmsg(token, count))
+        let token = self.token(name);
+        let answer = self.pool.adjmsg(&token, count);
+        token.forget();
+        answered(answer)
     }
 
     /// Brings the first `count` bytes of a message into its first block; -1 means all bytes of its leading blocks of one type.
@@ -123,9 +132,9 @@ impl NamedPool {
         if !self.has(name) {
             return Err(Fault::Invalid);
         }
-        let mut token = taken(&self.pool, &mut self.places, name);
+        let mut token = self.token(name);
         let pulled = self.pool.pullupmsg(&mut token, count);
-        self.places.hold(token);
+        token.forget();
         answered(pulled)
     }
 
@@ -137,7 +146,10 @@ impl NamedPool {
         if !self.has(name) {
             return Err(Fault::Invalid);
         }
-        Ok(self.pool.msgdsize(lent(&self.pool, &self.places, name)))
+        let token = self.token(name);
+        let bytes = self.pool.msgdsize(&token);
+        token.forget();
+        Ok(bytes)
     }
 
     /// Counts the bytes of a message. Refused as `Invalid`. As [`Blocks::size`] of strm_mblk.
@@ -147,7 +159,10 @@ impl NamedPool {
         if !self.has(name) {
             return Err(Fault::Invalid);
         }
-        Ok(self.pool.size(lent(&self.pool, &self.places, name)))
+        let token = self.token(name);
+        let bytes = self.pool.size(&token);
+        token.forget();
+        Ok(bytes)
     }
 
     /// Copies the bytes of a message from place `at` on into `into`, and returns how many. Refused as `Invalid`; then `into`
@@ -163,10 +178,10 @@ impl NamedPool {
         if !self.has(name) {
             return Err(Fault::Invalid);
         }
-        Ok(
-            self.pool
-                .read(lent(&self.pool, &self.places, name), at, into),
-        )
+        let token = self.token(name);
+        let count = self.pool.read(&token, at, into);
+        token.forget();
+        Ok(count)
     }
 
     /// Returns what a message's block `place`, counted from 0, is like. Refused as `Invalid`, then `NoSuchBlock`. As
@@ -178,7 +193,10 @@ impl NamedPool {
         if !self.has(name) {
             return Err(Fault::Invalid);
         }
-        answered(self.pool.block(lent(&self.pool, &self.places, name), place))
+        let token = self.token(name);
+        let answer = self.pool.block(&token, place);
+        token.forget();
+        answered(answer)
     }
 
     /// Returns what a message is like: type and band of its first block, and its numbers of bytes and blocks. Refused as
@@ -191,16 +209,19 @@ impl NamedPool {
             return Err(Fault::Invalid);
         }
         self.pool.lawful();
-        let token = lent(&self.pool, &self.places, name);
-        let Ok(first) = self.pool.block(token, 0) else {
+        let token = self.token(name);
+        let Ok(first) = self.pool.block(&token, 0) else {
             unreachable!()
         };
+        let size = self.pool.size(&token);
+        let blocks = token.blocks();
+        token.forget();
         Ok(QueuedInfo {
             head: name.head,
             kind: first.kind,
             band: first.band,
-            size: self.pool.size(token),
-            blocks: token.blocks(),
+            size,
+            blocks,
         })
     }
 }

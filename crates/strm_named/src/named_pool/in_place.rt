@@ -8,9 +8,8 @@ ghost use Rattle.strm_named.specs.NamedCalls.{Does, LendsNamed, asked, if_valid,
 ghost use Rattle.strm_pool.specs.PoolValue.{on_arena};
 
 use super::NamedPool;
-use crate::fault::Fault;
+use crate::fault::{Fault, answered};
 use crate::name::Name;
-use crate::tokens::{answered, lent};
 use strm_mblk::Shaped;
 use strm_pool::{BlockInfo, BlockPlace};
 
@@ -24,7 +23,10 @@ impl NamedPool {
         if !self.has(name) {
             return Err(Fault::Invalid);
         }
-        answered(self.pool.bytes(lent(&self.pool, &self.places, name), place))
+        let token = self.token(name);
+        let answer = self.pool.bytes(&token, place);
+        token.forget();
+        answered(answer)
     }
 
     /// Returns the data block of a message's block `place`, counted from 0, and where its bytes are. Refused as `Invalid`, then
@@ -35,7 +37,10 @@ impl NamedPool {
         if !self.has(name) {
             return Err(Fault::Invalid);
         }
-        answered(self.pool.place(lent(&self.pool, &self.places, name), place))
+        let token = self.token(name);
+        let answer = self.pool.place(&token, place);
+        token.forget();
+        answered(answer)
     }
 
     /// Returns the number of a message's block `place`, counted from 0. Refused as `Invalid`, then `NoSuchBlock`. As
@@ -46,10 +51,10 @@ impl NamedPool {
         if !self.has(name) {
             return Err(Fault::Invalid);
         }
-        answered(
-            self.pool
-                .number(lent(&self.pool, &self.places, name), place),
-        )
+        let token = self.token(name);
+        let answer = self.pool.number(&token, place);
+        token.forget();
+        answered(answer)
     }
 
     /// Writes what `block` returns of a message's blocks, from block `from` on, into `into`, and returns their number. Refused
@@ -64,10 +69,10 @@ impl NamedPool {
         if !self.has(name) {
             return Err(Fault::Invalid);
         }
-        Ok(
-            self.pool
-                .walk(lent(&self.pool, &self.places, name), from, into),
-        )
+        let token = self.token(name);
+        let count = self.pool.walk(&token, from, into);
+        token.forget();
+        Ok(count)
     }
 
     /// Lends the bytes of a message's block `place`, counted from 0, to `change`, which may change them, and returns what
@@ -88,8 +93,10 @@ impl NamedPool {
         if !self.has(name) {
             return Err(Fault::Invalid);
         }
-        let token = lent(&self.pool, &self.places, name);
-        answered(self.pool.edit(token, place, change))
+        let token = self.token(name);
+        let answer = self.pool.edit(&token, place, change);
+        token.forget();
+        answered(answer)
     }
 
     /// Lends the room after the write place of a message's block `place`, counted from 0, to `write`, and moves the write
@@ -111,8 +118,10 @@ impl NamedPool {
         if !self.has(name) {
             return Err(Fault::Invalid);
         }
-        let token = lent(&self.pool, &self.places, name);
-        answered(self.pool.fill(token, place, write))
+        let token = self.token(name);
+        let answer = self.pool.fill(&token, place, write);
+        token.forget();
+        answered(answer)
     }
 
     /// Lends all bytes of the data block of a message's block `place`, counted from 0, to `change`, which may change them, and
@@ -133,8 +142,10 @@ impl NamedPool {
         if !self.has(name) {
             return Err(Fault::Invalid);
         }
-        let token = lent(&self.pool, &self.places, name);
-        answered(self.pool.window(token, place, change))
+        let token = self.token(name);
+        let answer = self.pool.window(&token, place, change);
+        token.forget();
+        answered(answer)
     }
 
     /// Moves the write place of a message's block `place`, counted from 0, over `count` bytes behind it. Refused as `Invalid`,
@@ -146,8 +157,10 @@ impl NamedPool {
         if !self.has(name) {
             return Err(Fault::Invalid);
         }
-        let token = lent(&self.pool, &self.places, name);
-        answered(self.pool.advance(token, place, count))
+        let token = self.token(name);
+        let answer = self.pool.advance(&token, place, count);
+        token.forget();
+        answered(answer)
     }
 
     /// Leaves room for `count` bytes before the bytes to come of a message's empty block `place`, counted from 0. Refused as
@@ -159,8 +172,10 @@ impl NamedPool {
         if !self.has(name) {
             return Err(Fault::Invalid);
         }
-        let token = lent(&self.pool, &self.places, name);
-        answered(self.pool.reserve(token, place, count))
+        let token = self.token(name);
+        let answer = self.pool.reserve(&token, place, count);
+        token.forget();
+        answered(answer)
     }
 
     /// Gives a message's block `place`, counted from 0, the `len` bytes of its data block from byte `at` on, also where other
@@ -172,8 +187,10 @@ impl NamedPool {
         if !self.has(name) {
             return Err(Fault::Invalid);
         }
-        let token = lent(&self.pool, &self.places, name);
-        answered(self.pool.shape(token, place, at, len))
+        let token = self.token(name);
+        let answer = self.pool.shape(&token, place, at, len);
+        token.forget();
+        answered(answer)
     }
 
     /// Gives the first blocks of a message these shapes, to all or none. Refused as `Invalid`, `NoSuchBlock`, then as the first
@@ -185,8 +202,10 @@ impl NamedPool {
         if !self.has(name) {
             return Err(Fault::Invalid);
         }
-        let token = lent(&self.pool, &self.places, name);
-        answered(self.pool.shape_all(token, shapes))
+        let token = self.token(name);
+        let answer = self.pool.shape_all(&token, shapes);
+        token.forget();
+        answered(answer)
     }
 
     /// Puts bytes before those of a message's first block. Refused as `Invalid`, `Shared`, then `NoRoom`. As
@@ -198,8 +217,10 @@ impl NamedPool {
         if !self.has(name) {
             return Err(Fault::Invalid);
         }
-        let token = lent(&self.pool, &self.places, name);
-        answered(self.pool.prepend(token, bytes))
+        let token = self.token(name);
+        let answer = self.pool.prepend(&token, bytes);
+        token.forget();
+        answered(answer)
     }
 
     /// Writes `bytes` over those of a message, from byte `at` on, across its blocks. Refused as `Invalid`, `Short`, then
@@ -211,7 +232,9 @@ impl NamedPool {
         if !self.has(name) {
             return Err(Fault::Invalid);
         }
-        let token = lent(&self.pool, &self.places, name);
-        answered(self.pool.overwrite(token, at, bytes))
+        let token = self.token(name);
+        let answer = self.pool.overwrite(&token, at, bytes);
+        token.forget();
+        answered(answer)
     }
 }

@@ -10,8 +10,8 @@ ghost use Rattle.strm_pool.specs.PoolValue.{on_arena, with_arena};
 use super::NamedPool;
 use crate::fault::Fault;
 use crate::name::Name;
-use crate::tokens::{lent, taken};
-use strm_pool::{Rejected, Supply};
+use crate::records::{answer, give, give_any, refused, take_away};
+use strm_pool::Supply;
 
 impl NamedPool {
     /// Makes a message of one block for `size` bytes, and returns its name. Refused as `TooLarge`, `NoMblk`, then `NoData`. As
@@ -38,7 +38,7 @@ impl NamedPool {
         ensures supply { IsSupplied size self.new.pool.arena (record supply { count = supply.count - 1 }) }
     {
         let token = self.pool.allocb_from(size, supply);
-        self.places.give_there(token)
+        give(&mut self.records, token)
     }
 
     /// Makes a message of one block that references the data of this message's first block, and returns its name. Refused as
@@ -50,8 +50,10 @@ impl NamedPool {
         if !self.has(name) {
             return Err(Fault::Invalid);
         }
-        let given = self.pool.dupb(lent(&self.pool, &self.places, name));
-        self.places.answer(given)
+        let token = self.token(name);
+        let given = self.pool.dupb(&token);
+        token.forget();
+        answer(&mut self.records, given)
     }
 
     /// Makes a message whose blocks reference the data of this message's blocks, and returns its name. Refused as `Invalid`,
@@ -63,8 +65,10 @@ impl NamedPool {
         if !self.has(name) {
             return Err(Fault::Invalid);
         }
-        let given = self.pool.dupmsg(lent(&self.pool, &self.places, name));
-        self.places.answer(given)
+        let token = self.token(name);
+        let given = self.pool.dupmsg(&token);
+        token.forget();
+        answer(&mut self.records, given)
     }
 
     /// Makes a message of one block over a copy of the data of this message's first block, and returns its name. Refused as
@@ -76,8 +80,10 @@ impl NamedPool {
         if !self.has(name) {
             return Err(Fault::Invalid);
         }
-        let given = self.pool.copyb(lent(&self.pool, &self.places, name));
-        self.places.answer(given)
+        let token = self.token(name);
+        let given = self.pool.copyb(&token);
+        token.forget();
+        answer(&mut self.records, given)
     }
 
     /// Makes a message of blocks over copies of the data of this message's blocks, and returns its name. Refused as `Invalid`,
@@ -89,8 +95,10 @@ impl NamedPool {
         if !self.has(name) {
             return Err(Fault::Invalid);
         }
-        let given = self.pool.copymsg(lent(&self.pool, &self.places, name));
-        self.places.answer(given)
+        let token = self.token(name);
+        let given = self.pool.copymsg(&token);
+        token.forget();
+        answer(&mut self.records, given)
     }
 
     /// Frees the first block of a message, and returns a new name for the others, if any; the old name is spent. Refused as
@@ -102,9 +110,10 @@ impl NamedPool {
         if !self.has(name) {
             return Err(Fault::Invalid);
         }
-        let token = taken(&self.pool, &mut self.places, name);
+        let token = self.token(name);
         let rest = self.pool.freeb(token);
-        Ok(self.places.give_any(rest))
+        take_away(&mut self.records, name.head);
+        Ok(give_any(&mut self.records, rest))
     }
 
     /// Frees a message, and spends its name. Refused as `Invalid`. As [`Blocks::freemsg`] of strm_mblk.
@@ -117,8 +126,9 @@ impl NamedPool {
         if !self.has(name) {
             return Err(Fault::Invalid);
         }
-        let token = taken(&self.pool, &mut self.places, name);
+        let token = self.token(name);
         self.pool.free_held(token);
+        take_away(&mut self.records, name.head);
         Ok(())
     }
 
@@ -134,13 +144,13 @@ impl NamedPool {
         if !self.has(name) {
             return Err(Fault::Invalid);
         }
-        let token = taken(&self.pool, &mut self.places, name);
+        let token = self.token(name);
         match self.pool.transfer(&mut other.pool, token) {
-            Ok(made) => Ok(other.places.give(made)),
-            Err(Rejected { why, token }) => {
-                self.places.hold(token);
-                Err(Fault::Refused(why))
+            Ok(made) => {
+                take_away(&mut self.records, name.head);
+                Ok(give(&mut other.records, made))
             }
+            Err(rejected) => Err(refused(rejected)),
         }
     }
 }

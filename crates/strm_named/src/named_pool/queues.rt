@@ -9,10 +9,10 @@ ghost use Rattle.strm_queue.specs.QueueCalls.{IsBurstPlace};
 ghost use Rattle.strm_scheduler.specs.Laws.{AreKeptAwake, hold};
 
 use super::NamedPool;
-use crate::fault::Fault;
+use crate::fault::{Fault, answered};
 use crate::name::Name;
 use crate::naming::Naming;
-use crate::tokens::{answered, taken};
+use crate::records::{answer, answer_any, give, spend};
 use strm_pool::{BurstPlace, Flush, Refusal};
 use strm_scheduler::{Service, hold, serve};
 
@@ -30,9 +30,9 @@ impl NamedPool {
         if !self.has(name) {
             return Err(Fault::Invalid);
         }
-        let token = taken(&self.pool, &mut self.places, name);
+        let token = self.token(name);
         let put = self.pool.putq(queue, token);
-        self.places.spend(put)
+        spend(&mut self.records, name.head, put)
     }
 
     /// Puts the next message of a burst on a queue as `putq` does, by the place of the last one, and spends its name. Refused as
@@ -52,9 +52,9 @@ impl NamedPool {
         if !self.has(name) {
             return Err(Fault::Invalid);
         }
-        let token = taken(&self.pool, &mut self.places, name);
+        let token = self.token(name);
         let put = self.pool.putq_in_burst(queue, place, token);
-        self.places.spend(put)
+        spend(&mut self.records, name.head, put)
     }
 
     /// Puts a message on a queue, before the first message whose rank is at most its own, and spends its name. Refused as
@@ -67,9 +67,9 @@ impl NamedPool {
         if !self.has(name) {
             return Err(Fault::Invalid);
         }
-        let token = taken(&self.pool, &mut self.places, name);
+        let token = self.token(name);
         let put = self.pool.putbq(queue, token);
-        self.places.spend(put)
+        spend(&mut self.records, name.head, put)
     }
 
     /// Puts a message on a queue at `place`, counted from 0, and spends its name. Refused as `Invalid`, `NoSuchQueue`,
@@ -82,9 +82,9 @@ impl NamedPool {
         if !self.has(name) {
             return Err(Fault::Invalid);
         }
-        let token = taken(&self.pool, &mut self.places, name);
+        let token = self.token(name);
         let put = self.pool.insq(queue, place, token);
-        self.places.spend(put)
+        spend(&mut self.records, name.head, put)
     }
 
     /// Puts a message on a queue before the queued one with this head, or last if none is given, and spends its name. Refused
@@ -97,9 +97,9 @@ impl NamedPool {
         if !self.has(name) {
             return Err(Fault::Invalid);
         }
-        let token = taken(&self.pool, &mut self.places, name);
+        let token = self.token(name);
         let put = self.pool.insq_before(queue, before, token);
-        self.places.spend(put)
+        spend(&mut self.records, name.head, put)
     }
 
     /// Removes the first message of a queue, if any, and returns its new name. Refused as `NoSuchQueue`. As [`Queues::getq`] of
@@ -111,7 +111,7 @@ impl NamedPool {
             [] self.old self.new result }
     {
         let given = self.pool.getq(queue);
-        self.places.answer_any(given)
+        answer_any(&mut self.records, given)
     }
 
     /// Removes the first messages of a queue, each as [`NamedPool::getq`] does, at most as many as `into` has room for from place
@@ -129,7 +129,7 @@ impl NamedPool {
     {
         let most = (into.len() - from).min(MOST_TAKEN) as u32;
         let mut naming = Naming {
-            places: &mut self.places,
+            records: &mut self.records,
             names: into,
             count: from,
         };
@@ -144,7 +144,7 @@ impl NamedPool {
             (queues.rmvq queue place (queued_blocks_of self.old.pool)))) [] self.old self.new result }
     {
         let given = self.pool.rmvq(queue, place);
-        self.places.answer(given)
+        answer(&mut self.records, given)
     }
 
     /// Removes the queued message with this head from its queue, and returns its new name. Refused as `NoSuchPlace`. As
@@ -154,7 +154,7 @@ impl NamedPool {
             (by_head.rmvq_head head (queued_blocks_of self.old.pool)))) [] self.old self.new result }
     {
         let given = self.pool.rmvq_head(head);
-        self.places.answer(given)
+        answer(&mut self.records, given)
     }
 
     /// Removes messages from a queue, front to back: those that [`NamedPool::flushq`] would free, as many as `into` has room
@@ -168,7 +168,7 @@ impl NamedPool {
     {
         let most = into.len().min(MOST_TAKEN) as u32;
         let mut naming = Naming {
-            places: &mut self.places,
+            records: &mut self.records,
             names: into,
             count: 0,
         };
@@ -193,7 +193,7 @@ impl NamedPool {
     {
         let most = into.len().min(MOST_TAKEN) as u32;
         let mut naming = Naming {
-            places: &mut self.places,
+            records: &mut self.records,
             names: into,
             count: 0,
         };
@@ -210,7 +210,7 @@ impl NamedPool {
         ensures { ServesNamed held self.old self.new result }
     {
         match serve(&mut self.pool, held) {
-            Some((service, token)) => Some((service, self.places.give(token))),
+            Some((service, token)) => Some((service, give(&mut self.records, token))),
             None => None,
         }
     }
@@ -226,9 +226,9 @@ impl NamedPool {
         if !self.has(name) {
             return Err(Fault::Invalid);
         }
-        let token = taken(&self.pool, &mut self.places, name);
+        let token = self.token(name);
         let held = hold(&mut self.pool, queue, token);
-        self.places.spend(held)
+        spend(&mut self.records, name.head, held)
     }
 }
 

@@ -43,8 +43,8 @@ impl Queues {
     /// Takes messages of one band off a queue, front to back, at most `most`: those that [`Queues::flushband`] would free.
     /// Otherwise it does what [`Queues::take_flushed`] does.
     ///
-    /// Refused as `NoSuchQueue`; then nothing changes. Takes a step for each message of the band up to the last one taken if
-    /// that makes `most`, otherwise for each message of the band, one for each block that is taken, and those to settle.
+    /// Refused as `NoSuchQueue`; then nothing changes. Takes a step for each message of the band, one for each block that is
+    /// taken, and those to settle. If it takes `most` messages, it looks at none behind the last one taken.
     pub fn take_flushed_band<R: Receiver>(
         &mut self,
         blocks: &mut Blocks,

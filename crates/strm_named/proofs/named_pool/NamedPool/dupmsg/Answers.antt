@@ -1,16 +1,11 @@
-use Rattle.std.proofs.Common.{[], sym, ◌∙◌}
+use Rattle.std.proofs.Common.{sym, ◌∙◌}
 use Rattle.strm_mblk.specs.BlockCalls as blocks
 use Rattle.strm_pool.specs.PoolValue.{on_arena}
-use Rattle.strm_named.specs.NamedCalls.{one_message, outcome_of}
-use Rattle.strm_named.proofs.Shaped.{Called, gives_beside, on_valid}
-use Rattle.strm_named.proofs.named_pool.NamedPool.dupmsg.Goals.{After-answer}
+use Rattle.strm_named.proofs.Shaped.{gives_beside, here}
 use Rattle.strm_named.proofs.named_pool.NamedPool.dupmsg.Goals as goal
 
-called : (c : After-answer) → Called one_message (outcome_of (on_arena c.self.inside.pool (blocks.dupmsg c.args.name.head c.self.inside.pool.arena))) [] c.self.inside.pool c.dupmsg-given.new.self c.self.inside.places c.answer.new.self c.answer.result
-called c = gives_beside c.self.invariant c.lent.ensures (λ h. on_arena c.self.inside.pool (blocks.dupmsg h c.self.inside.pool.arena)) c.dupmsg-given.ensures c.answer.ensures.places c.answer.ensures.name
-
 pub invariant_of-self : goal.invariant_of-self
-invariant_of-self c = (called (goal.at.invariant_of-self c).After-answer).fits
+invariant_of-self c = (gives_beside c.self.invariant c.self.view_is (sym c.has.ensures ∙ c.if-not-has.false) (here c.self.view_is c.token-token.ensures) (λ h v. on_arena v.pool (blocks.dupmsg h v.pool.arena)) c.dupmsg-given.ensures c.answer.ensures.records c.answer.ensures.name).fits
 
 pub returns : goal.returns
-returns c = on_valid (λ v. on_arena v.pool (blocks.dupmsg c.args.name.head v.pool.arena)) c.self.view_is (sym c.has.ensures ∙ c.if-not-has.false) (called (goal.at.returns c).After-answer).does
+returns c = (gives_beside c.self.invariant c.self.view_is (sym c.has.ensures ∙ c.if-not-has.false) (here c.self.view_is c.token-token.ensures) (λ h v. on_arena v.pool (blocks.dupmsg h v.pool.arena)) c.dupmsg-given.ensures c.answer.ensures.records c.answer.ensures.name).does

@@ -1,20 +1,13 @@
-use Rattle.std.proofs.Common.{[], ◌∷◌, Ok, sym, ap, ◌∙◌, Option}
+use Rattle.std.proofs.Common.{Ok, Option, sym, ap, ◌∙◌}
 use Rattle.strm_mblk.specs.BlockCalls as blocks
 use Rattle.strm_pool.specs.PoolValue.{on_arena}
 use Rattle.strm_named.specs.declared.name.Name.{Name}
-use Rattle.strm_named.specs.NamedCalls.{any_message, outcome_of}
-use Rattle.strm_named.specs.PlacesValue.{any_given, with_any}
-use Rattle.strm_named.proofs.Shaped.{Called, leaves_rest, on_valid}
-use Rattle.strm_named.proofs.named_pool.NamedPool.freeb.Goals.{After-give_any}
+use Rattle.strm_named.specs.Records.{tokens_in, with_tokens}
+use Rattle.strm_named.proofs.Shaped.{here, leaves_rest}
 use Rattle.strm_named.proofs.named_pool.NamedPool.freeb.Goals as goal
 
-called : (c : After-give_any) → Called any_message (outcome_of (on_arena c.self.inside.pool (Ok (blocks.freeb c.args.name.head c.self.inside.pool.arena)))) (c.args.name.head ∷ []) c.self.inside.pool c.freeb-rest.new.self c.self.inside.places c.give_any.new.self (Ok c.give_any.result)
-called c =
-    leaves_rest c.self.invariant c.taken-token.ensures.of (λ h. blocks.freeb h c.self.inside.pool.arena) c.freeb-rest.ensures (c.give_any.ensures.places ∙ ap (with_any c.freeb-rest.result) c.taken-token.ensures.places)
-    (ap (λ (o : Option Name). Ok o) (c.give_any.ensures.name ∙ ap (any_given c.freeb-rest.result) c.taken-token.ensures.places))
-
 pub invariant_of-self : goal.invariant_of-self
-invariant_of-self c = (called (goal.at.invariant_of-self c).After-give_any).fits
+invariant_of-self c = (leaves_rest c.self.invariant c.self.view_is (sym c.has.ensures ∙ c.if-not-has.false) (here c.self.view_is c.token-token.ensures) (λ h v. on_arena v.pool (Ok (blocks.freeb h v.pool.arena))) c.freeb-rest.ensures (c.give_any.ensures.records ∙ ap (with_tokens (tokens_in c.freeb-rest.result)) c.take_away.ensures) (ap (λ (o : Option Name). Ok o) c.give_any.ensures.name)).fits
 
 pub returns : goal.returns
-returns c = on_valid (λ v. on_arena v.pool (Ok (blocks.freeb c.args.name.head v.pool.arena))) c.self.view_is (sym c.has.ensures ∙ c.if-not-has.false) (called (goal.at.returns c).After-give_any).does
+returns c = (leaves_rest c.self.invariant c.self.view_is (sym c.has.ensures ∙ c.if-not-has.false) (here c.self.view_is c.token-token.ensures) (λ h v. on_arena v.pool (Ok (blocks.freeb h v.pool.arena))) c.freeb-rest.ensures (c.give_any.ensures.records ∙ ap (with_tokens (tokens_in c.freeb-rest.result)) c.take_away.ensures) (ap (λ (o : Option Name). Ok o) c.give_any.ensures.name)).does

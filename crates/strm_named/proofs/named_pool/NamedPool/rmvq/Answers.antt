@@ -1,17 +1,10 @@
-use Rattle.std.proofs.Common.{[]}
 use Rattle.strm_queue.specs.QueueCalls as queues
 use Rattle.strm_pool.specs.PoolValue.{on_queues, queued_blocks_of}
-use Rattle.strm_named.specs.NamedCalls.{one_message, outcome_of}
-use Rattle.strm_named.proofs.Shaped.{Called, gives_one, on_any}
-use Rattle.strm_named.proofs.named_pool.NamedPool.rmvq.Goals.{After-answer}
+use Rattle.strm_named.proofs.Shaped.{gives_one, seen}
 use Rattle.strm_named.proofs.named_pool.NamedPool.rmvq.Goals as goal
 
-called : (c : After-answer) → Called one_message (outcome_of (on_queues c.self.inside.pool (queues.rmvq c.args.queue c.args.place (queued_blocks_of c.self.inside.pool)))) [] c.self.inside.pool c.rmvq-given.new.self c.self.inside.places c.answer.new.self (c.answer.result)
-called c =
-    gives_one c.self.invariant c.rmvq-given.ensures c.answer.ensures.places c.answer.ensures.name
-
 pub invariant_of-self : goal.invariant_of-self
-invariant_of-self c = (called (goal.at.invariant_of-self c).After-answer).fits
+invariant_of-self c = (seen (λ v. on_queues v.pool (queues.rmvq c.args.queue c.args.place (queued_blocks_of v.pool))) c.self.view_is (gives_one c.self.invariant c.rmvq-given.ensures c.answer.ensures.records c.answer.ensures.name)).fits
 
 pub returns : goal.returns
-returns c = on_any (λ v. on_queues v.pool (queues.rmvq c.args.queue c.args.place (queued_blocks_of v.pool))) c.self.view_is (called (goal.at.returns c).After-answer).does
+returns c = (seen (λ v. on_queues v.pool (queues.rmvq c.args.queue c.args.place (queued_blocks_of v.pool))) c.self.view_is (gives_one c.self.invariant c.rmvq-given.ensures c.answer.ensures.records c.answer.ensures.name)).does
