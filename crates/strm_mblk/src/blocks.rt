@@ -49,9 +49,9 @@ pub struct Supply {
     pub count: u32,
 }
 
-/// Message blocks over data blocks. Each message block is free or in one message. A message is held or on a shelf. A held
-/// message has a token, unless that was lost. The number of its first block, its head, identifies it. Calls with a token,
-/// except `has` and `freemsg`, need one that these blocks have. Only `new` takes memory.
+/// Message blocks over data blocks. Each message block is free or in one message. A message is held or on a shelf. The number of
+/// its first block, its head, identifies it. The call that gives a message to hold makes its token, and `token` makes another.
+/// Calls with a token, except `has` and `freemsg`, need one that these blocks have. Only `new` takes memory.
 ///
 /// Message blocks and data blocks are those of UNIX System V Release 4 STREAMS (`msgb`, `datab`). A call with the name of a
 /// routine in its Programmer's Guide: STREAMS does what that routine does, with tokens instead of pointers. docs/MODEL.md marks
@@ -251,8 +251,8 @@ impl Blocks {
         }
     }
 
-    /// Makes the token of the message that is held at a head, also if it has one. This is for callers that keep heads instead
-    /// of tokens, and for a token that was lost. Once a call spends one of two tokens, forget the other. Changes nothing.
+    /// Makes a token of the message that is held at a head, also if it has one. This is for callers that keep heads instead of
+    /// tokens, and for a token that was lost. Use only one of two tokens, and forget the other. Changes nothing.
     #[inline(always)]
     pub fn token(&self, head: u32) -> Token
         requires { IsTrue (is_some (held_at self.now head)) }

@@ -17,10 +17,10 @@ pub struct TokenValue {
 /// The right to one held message.
 ///
 /// Calls that make a message, divide one, or take one off a shelf give its token. A token must be spent: it can be
-/// neither copied nor dropped. So no message is freed twice, unless [`Blocks::token`](crate::Blocks::token) made it a second
-/// token. This needs pools with different ids, because a token carries the id of its pool, not the pool. Only `forget`, and
-/// `freemsg` of blocks that do not have the token, lose a token: its message stays held. STREAMS passes a pointer to the
-/// message instead.
+/// neither copied nor dropped. So a message is freed only by its own token, unless [`Blocks::token`](crate::Blocks::token) made a
+/// second one of an earlier message. This needs pools with different ids, because a token carries the id of its pool, not the
+/// pool. Only `forget`, and `freemsg` of blocks that do not have the token, lose a token: its message stays held. STREAMS passes
+/// a pointer to the message instead.
 #[must_use]
 #[derive(Debug)]
 pub struct Token {
@@ -39,7 +39,7 @@ impl Model for Token {
 }
 
 impl Token {
-    // Makes a token of this value. Only calls that give a message use it.
+    // Makes a token of this value. Only calls that give a message, and `Blocks::token`, use it.
     pub(crate) fn of(value: TokenValue) -> Token
         requires { 0 < value.blocks }
         ensures { result ≡ value }

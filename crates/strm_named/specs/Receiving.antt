@@ -1,5 +1,5 @@
 -- What a receiver that names messages does with a token. No public clause cites this module.
-use Rattle.std.specs.Prelude.{◌≡◌, ◌<◌, suc, length, slice_set}
+use Rattle.std.specs.Prelude.{◌≡◌, ◌<◌, ◌≤◌, suc, length, slice_set}
 use Rattle.strm_mblk.specs.declared.token.TokenValue.{TokenValue}
 use Rattle.strm_named.specs.declared.naming.Naming.{Naming}
 use Rattle.strm_named.specs.Records.{name_in, with_given}
@@ -11,3 +11,4 @@ pub record NamesToken (old : Naming) (t : TokenValue) (new : Naming) : Type 0 wh
   pub records : new.records.now.items ≡ with_given t old.records.now.items
   pub names : new.names.now ≡ slice_set old.names.now old.count (name_in new.records.now.items t)
   pub count : old.count < length old.names.now → new.count ≡ suc old.count
+  pub full : length old.names.now ≤ old.count → new.count ≡ old.count
