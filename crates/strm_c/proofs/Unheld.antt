@@ -26,7 +26,7 @@ not_held a parted n elsewhere =
     elim (held_at a n) as (λ o. held_at a n ≡ o → o ≡ None) [
       | None ↦ λ _. refl
       | Some m ↦ λ is.
-          let begins : (0 < length m) × (head_of m ≡ n) = subst (λ o. IfSome o (λ x. (0 < length x) × (head_of x ≡ n))) is (parted.heads n) in
+          let begins : (0 < length m) × (head_of m ≡ n) = subst (λ o. IfSome o (λ x. (0 < length x) × (head_of x ≡ n))) is (parted.chains.heads n) in
           absurd (omega (
             arith,
             elsewhere,
@@ -35,7 +35,7 @@ not_held a parted n elsewhere =
             ap (λ o. count_by (number_is n) (blocks_of o)) is,
             blocks_in_adds (count_adds (number_is n)) a,
             times-all n a,
-            parted.blocks n,
+            parted.chains.once n,
             one_most (nat_lt n (length a.held)),
           ))
     ] refl

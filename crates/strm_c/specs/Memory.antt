@@ -13,7 +13,7 @@ bytes_of_class c = 44 + c.count * (c.size + 8)
 
 -- the bytes for a pool: for itself, each message block, each queue, and its size classes
 abbrev pub bytes_of : Config → ℕ
-bytes_of c = 892 + 60 * c.mblks + 5288 * length c.queues + sum_by bytes_of_class c.classes
+bytes_of c = 844 + 56 * c.mblks + 5288 * length c.queues + sum_by bytes_of_class c.classes
 
 -- the same, or the configuration's first fault
 abbrev pub bytes_or_fault : Config → Option Which → Answer ℕ

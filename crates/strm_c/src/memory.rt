@@ -13,9 +13,9 @@ use crate::opening::config_of;
 use strm_pool::{ClassSpec, Config};
 
 // The bytes for a pool itself, and for each message block, queue, size class and, beside its own bytes, data block.
-const POOL: usize = 892;
+const POOL: usize = 844;
 
-const MESSAGE_BLOCK: usize = 60;
+const MESSAGE_BLOCK: usize = 56;
 
 const QUEUE: usize = 5288;
 

@@ -178,7 +178,7 @@ module _ (size n d : ℕ) (ns : List ℕ) (v : PoolValue) (law : IsLawful v) (is
   capacity = ap (λ (b : DataBlock). length b.bytes) (get_or-set_same a.store.blocks d (record (data_block_at a.store d) { kind = MData }) no_data_block within)
 
   below : n < length a.held
-  below = in_range n (length a.held) (omega (arith, law.parted.blocks n, times_at n (a.free ++ numbers_of (blocks_in a)) 0 (ap (λ ms. slice_get (ms ++ numbers_of (blocks_in a)) 0) is.free)))
+  below = in_range n (length a.held) (omega (arith, law.parted.chains.once n, times_at n (a.free ++ numbers_of (blocks_in a)) 0 (ap (λ ms. slice_get (ms ++ numbers_of (blocks_in a)) 0) is.free)))
 
   held_now : held_at new n ≡ Some (new_block n d ∷ [])
   held_now = get_or-set_same a.held n (Some (new_block n d ∷ [])) None below

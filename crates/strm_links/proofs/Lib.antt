@@ -1,4 +1,4 @@
 pub mod lists
 mod linking
 mod Stacked
-mod chaining
+mod chains

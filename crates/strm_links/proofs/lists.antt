@@ -3,3 +3,4 @@ pub mod OneList
 pub mod AllLists
 pub mod Counting
 pub mod ListLinks
+pub mod Positions

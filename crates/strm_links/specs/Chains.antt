@@ -1,6 +1,7 @@
 -- Chains of items of any kind, each stored at the number of its first item.
-use Rattle.std.specs.Prelude.{ℕ, ◌+◌, List, [], ◌∷◌, ◌++◌, take, drop, Option, None, Some, unwrap_or, slice_get, slice_index_or, slice_set}
-use Rattle.std.specs.List.{flat_map}
+use Rattle.std.specs.Prelude.{◌≡◌, ℕ, ◌+◌, ◌<◌, ◌==◌, nat_lt, not, length, IfSome, List, [], ◌∷◌, ◌++◌, filter, take, drop, Option, None, Some, unwrap_or, slice_get, slice_index_or, slice_set, if◌then◌else◌}
+use Rattle.std.specs.List.{All, flat_map}
+use Rattle.strm_links.specs.Counting.{times}
 
 -- the items of a chain, or none if there is no chain
 abbrev pub items_of : {X : Type 0} → Option (List X) → List X
@@ -24,15 +25,39 @@ chain_divided number h [] chains = chains
 chain_divided number h (x ∷ []) chains = chains
 chain_divided number h (x ∷ y ∷ rest) chains = slice_set (slice_set chains h (Some (x ∷ []))) (number y) (Some (y ∷ rest))
 
--- the item, if any, becomes a chain of its own; the others stay the chain at h
-abbrev pub set_apart : {X : Type 0} → (X → ℕ) → ℕ → List X → Option X → List (Option (List X)) → List (Option (List X))
-set_apart number h rest None chains = chains
-set_apart number h rest (Some x) chains = slice_set (slice_set chains h (Some rest)) (number x) (Some (x ∷ []))
-
 -- the list without place k
 abbrev pub without_place : {X : Type 0} → ℕ → List X → List X
 without_place k xs = take k xs ++ drop (k + 1) xs
 
--- of these items of the chain at h, item k, if any, becomes a chain of its own
-abbrev pub item_taken_out : {X : Type 0} → (X → ℕ) → ℕ → ℕ → List X → List (Option (List X)) → List (Option (List X))
-item_taken_out number h k xs chains = set_apart number h (without_place k xs) (slice_get xs k) chains
+-- ---- chains on shelves, if `head` gives the number that a chain begins with
+
+-- the chains on a shelf, front to back
+abbrev pub shelf_in : {X : Type 0} → List (List (List X)) → ℕ → List (List X)
+shelf_in shelves s = slice_index_or shelves s []
+
+-- all items of the chains on these shelves
+abbrev pub items_on : {X : Type 0} → List (List (List X)) → List X
+items_on shelves = flat_map (flat_map (λ m. m)) shelves
+
+-- the chains after m joined them just before the one that begins with `at`, or last if there is no such chain
+abbrev pub put_before_head : {M : Type 0} → (M → ℕ) → Option ℕ → M → List M → List M
+put_before_head head None m ms = ms ++ m ∷ []
+put_before_head head (Some at) m [] = m ∷ []
+put_before_head head (Some at) m (x ∷ xs) = if head x == at then m ∷ x ∷ xs else x ∷ put_before_head head (Some at) m xs
+
+-- the chains after the one that begins with h has left
+abbrev pub without_head : {M : Type 0} → (M → ℕ) → ℕ → List M → List M
+without_head head h ms = filter (λ m. not (head m == h)) ms
+
+-- the chain that begins with h, if any
+abbrev pub with_head : {M : Type 0} → (M → ℕ) → ℕ → List M → Option M
+with_head head h ms = slice_get (filter (λ m. head m == h) ms) 0
+
+-- ---- each item in one place
+
+-- items have numbers, and a chain is at the number that `head` gives: each number is once among free ones, chains on shelves and held
+-- chains, each held chain is at its head, and no chain is empty
+pub record AreParted {X : Type 0} (numbers : List X → List ℕ) (head : List X → ℕ) (free : List ℕ) (shelves : List (List (List X))) (held : List (Option (List X))) : Type 0 where
+  pub once : (n : ℕ) → times n (free ++ numbers (items_on shelves ++ items_in held)) ≡ (if nat_lt n (length held) then 1 else 0)
+  pub heads : (h : ℕ) → IfSome (chain_in held h) (λ m. (0 < length m) × (head m ≡ h))
+  pub shelved : (s : ℕ) → All (λ m. 0 < length m) (shelf_in shelves s)

@@ -2,16 +2,17 @@
 //!
 //! - `Links`: doubly linked lists, which read alike both ways. Each node is in one list at most.
 //! - `Stacks`: stacks, which change at the front only.
-//! - `Strands`: chains linked one way. Each node is free or in one chain.
+//! - `Chained`: chains whose nodes carry loads, free, held or on shelves.
 //! - `Slot`: a number or none, in one word.
 #![tactic(auto)]
 
+mod chained;
 mod links;
 mod slot;
 mod stacks;
-mod strands;
+mod table;
 
+pub use chained::Chained;
 pub use links::Links;
 pub use slot::Slot;
 pub use stacks::Stacks;
-pub use strands::Strands;

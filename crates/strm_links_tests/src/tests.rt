@@ -2,10 +2,10 @@ ghost use Rattle.std.specs.Prelude.{◌<◌};
 
 use std::process::Abort;
 
+mod chained;
 mod links;
 mod plain;
 mod stacks;
-mod strands;
 
 // Asserts that reading has come to this node, one of `nodes`.
 fn assert_at(rt: &impl Abort, at: Option<u32>, node: u32, nodes: u32)

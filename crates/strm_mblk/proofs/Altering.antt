@@ -16,7 +16,7 @@ use Rattle.strm_mblk.specs.Arena.{Arena, message_at, with_message, held_at, refe
 use Rattle.strm_mblk.specs.Block.{Block, Message, uses_data, kind_of, size_of}
 use Rattle.strm_mblk.specs.BlockCalls.{block_found, own_block, with_bytes, with_block}
 use Rattle.strm_mblk.specs.BlocksLayout.{Suits, IsFilled, IsPlaced, arena_of, block_at, block_of, no_fields, fields_at, fields_shaped, message_of, with_shapes}
-use Rattle.strm_mblk.specs.NodeLists.{NodeLists, nodes_at}
+use Rattle.strm_links.specs.ChainLists.{ChainLists, nodes_at}
 use Rattle.strm_mblk.specs.Calls.{Alters, itself}
 use Rattle.strm_mblk.specs.InPlace.{bytes_within, overwrite, store_overwritten, touches_shared, blocks_shaped, shape_fits, shapes_fit, store_retyped}
 use Rattle.strm_mblk.specs.Messages.{blocks_of, held_in}
@@ -79,7 +79,7 @@ module _ (a : Arena) (h k : ℕ) (x : Block) (own : own_block h k a ≡ Ok x) wh
 
 -- ==== a block of a held message gets other fields
 
-module _ (id : ℕ) (s : CountedStore) (fields : List Fields) (v : NodeLists) (filled : IsFilled s fields v (arena_of id s.store fields v)) (a : Arena) (is : arena_of id s.store fields v ≡ a)
+module _ (id : ℕ) (s : CountedStore) (fields : List Fields) (v : ChainLists) (filled : IsFilled s fields v (arena_of id s.store fields v)) (a : Arena) (is : arena_of id s.store fields v ≡ a)
     (n h k : ℕ) (b : Block) (found : slice_get (message_at a h) k ≡ Some b) (number : b.number ≡ n) where
   is_at : IsAt s fields v a h k n (nodes_at v h)
   is_at = subst (λ m. IsAt s fields v a h k m (nodes_at v h)) number (block_given id s fields v filled a is h k b found)
@@ -473,7 +473,7 @@ module _ (a : Arena) (t : TokenValue) (had : has a t ≡ true) (xs : List Shape)
       (length-blocks_shaped xs (message_at a t.head) ∙ ap (λ o. length (blocks_of o)) its.1.held) refl
 
 -- and as the code stores it
-module _ (id : ℕ) (s : CountedStore) (fields : List Fields) (v : NodeLists) (filled : IsFilled s fields v (arena_of id s.store fields v)) (a : Arena) (a_is : arena_of id s.store fields v ≡ a)
+module _ (id : ℕ) (s : CountedStore) (fields : List Fields) (v : ChainLists) (filled : IsFilled s fields v (arena_of id s.store fields v)) (a : Arena) (a_is : arena_of id s.store fields v ≡ a)
     (t : TokenValue) (had : has a t ≡ true) (xs : List Shape) where
   abbrev nodes : List ℕ
   nodes = nodes_at v t.head

@@ -14,7 +14,7 @@ use Rattle.strm_mblk.specs.Block.{Message, uses_data}
 use Rattle.strm_mblk.specs.BlocksLayout.{block_at, fields_at, message_of, data_used_by, with_references_dropped, IsFilled, arena_of}
 use Rattle.strm_mblk.specs.Freeing.{with_block_freed, with_blocks_freed, freemsg}
 use Rattle.strm_mblk.specs.Messages.{blocks_held, blocks_on, blocks_of, held_in}
-use Rattle.strm_mblk.specs.NodeLists.{IsNodesParted, NodeLists, nodes_at}
+use Rattle.strm_links.specs.ChainLists.{IsLawful, ChainLists, nodes_at}
 use Rattle.strm_mblk.proofs.Lists.{count_by-map, drop_from, count_adds}
 use Rattle.strm_mblk.proofs.layout.Rooms.{HasRooms, count_of-set, rooms-both, placed-over}
 use Rattle.strm_mblk.proofs.arena.Counts.{held_moves, held_within}
@@ -128,12 +128,12 @@ module _ (id : ℕ) (fields : List Fields) (held : List (Option Message)) (shelv
 -- ==== blocks of a held message are free, and their references are dropped: all of them, as `freemsg` does, or some
 
 -- a is what was there, and the lists are what is there once blocks of a message were freed, which b says
-pub record IsFreed (a b : Arena) (t : CountedStore) (fields : List Fields) (w : NodeLists) (id : ℕ) : Type 0 where
+pub record IsFreed (a b : Arena) (t : CountedStore) (fields : List Fields) (w : ChainLists) (id : ℕ) : Type 0 where
   pub filled : IsFilled t fields w (arena_of id t.store fields w)
   pub shelved : shelved_blocks (arena_of id t.store fields w) ≡ shelved_blocks a
   pub after : arena_of id t.store fields w ≡ b
 
-module _ (id : ℕ) (s : CountedStore) (fields : List Fields) (v : NodeLists) (filled : IsFilled s fields v (arena_of id s.store fields v)) (h : ℕ) (held : held_in v.held h ≡ Some (nodes_at v h)) where
+module _ (id : ℕ) (s : CountedStore) (fields : List Fields) (v : ChainLists) (filled : IsFilled s fields v (arena_of id s.store fields v)) (h : ℕ) (held : held_in v.held h ≡ Some (nodes_at v h)) where
   abbrev old : Arena
   old = arena_of id s.store fields v
 
@@ -162,7 +162,7 @@ module _ (id : ℕ) (s : CountedStore) (fields : List Fields) (v : NodeLists) (f
           parts d,
         )
 
-    module _ (t : CountedStore) (w : NodeLists) (t_is : t ≡ with_references_dropped (data_used_by fields out) s) (kept : IsKept t) (w_is : w ≡ record v { free = reverse out ++ v.free; held = set v.held h o }) (parted : IsNodesParted w) where
+    module _ (t : CountedStore) (w : ChainLists) (t_is : t ≡ with_references_dropped (data_used_by fields out) s) (kept : IsKept t) (w_is : w ≡ record v { free = reverse out ++ v.free; held = set v.held h o }) (parted : IsLawful w) where
       shows : arena_of id t.store fields w ≡ record left { store = t.store; free = reverse out ++ v.free }
       shows = grind (arith, common_steps, map-set)
 
@@ -189,7 +189,7 @@ module _ (id : ℕ) (s : CountedStore) (fields : List Fields) (v : NodeLists) (f
       }
         where
           many : length w.held ≡ length v.held
-          many = ap (λ (l : NodeLists). length l.held) w_is ∙ length-set v.held h o
+          many = ap (λ (l : ChainLists). length l.held) w_is ∙ length-set v.held h o
 
   -- ---- all of them are
 
@@ -199,7 +199,7 @@ module _ (id : ℕ) (s : CountedStore) (fields : List Fields) (v : NodeLists) (f
   pub enough : (d : ℕ) → times d (data_used_by fields (nodes_at v h)) ≤ count_of s d
   enough d = omega (arith, loose None (nodes_at v h) none_stay d)
 
-  pub frees : (t : CountedStore) (w : NodeLists) → t ≡ with_references_dropped (data_used_by fields (nodes_at v h)) s → IsKept t → w ≡ record v { free = reverse (nodes_at v h) ++ v.free; held = set v.held h None } → IsNodesParted w
+  pub frees : (t : CountedStore) (w : ChainLists) → t ≡ with_references_dropped (data_used_by fields (nodes_at v h)) s → IsKept t → w ≡ record v { free = reverse (nodes_at v h) ++ v.free; held = set v.held h None } → IsLawful w
       → IsFreed old (freemsg h old) t fields w id
   frees t w t_is kept w_is parted =
       subst (λ m. IsFreed old (with_blocks_freed m (without_held h old)) t fields w id) (sym (message_at-seen id s.store fields v h))

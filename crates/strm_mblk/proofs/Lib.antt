@@ -1,6 +1,6 @@
 mod Constants
 pub mod Lists
-mod chaining
+mod Nodes
 pub mod arena
 mod layout
 mod Altering

@@ -11,13 +11,12 @@ use Rattle.strm_data.specs.DataStore.{DataStore, data_block_at}
 use Rattle.strm_data.specs.declared.msg_type.MsgType.TheVariants.{MData}
 use Rattle.strm_data.specs.MsgType.{same_kind}
 use Rattle.strm_data.specs.Limits.{most_data_block_bytes}
-use Rattle.strm_links.specs.StrandLists.{StrandLists, strand_at}
+use Rattle.strm_links.specs.ChainLists.{ChainLists, chain_of, nodes_at}
 use Rattle.strm_mblk.specs.declared.blocks.Fields.{Fields}
 use Rattle.strm_mblk.specs.declared.token.TokenValue.{TokenValue}
 use Rattle.strm_mblk.specs.Arena.{Arena, has, message_at}
 use Rattle.strm_mblk.specs.Block.{Block, Message, bytes_of, bytes_of_block, size_of, kind_of, len_counted}
 use Rattle.strm_mblk.specs.BlocksLayout.{IsFilled, IsPlaced, arena_of, block_at, block_of, fields_at, message_of, no_fields, IsSummable}
-use Rattle.strm_mblk.specs.NodeLists.{NodeLists, nodes_at}
 use Rattle.strm_mblk.specs.Messages.{blocks_of}
 use Rattle.strm_mblk.specs.Limits.{most_message_blocks}
 use Rattle.strm_mblk.proofs.Altering.{from_block}
@@ -105,7 +104,7 @@ read_one s b at count old now counted is =
       bytes = is ∙ ap (λ bs. take count (drop at bs) ++ drop count old) (sym (append-nil (bytes_of_block s b)));
     }
 
-module _ (id : ℕ) (s : CountedStore) (fields : List Fields) (v : NodeLists) (filled : IsFilled s fields v (arena_of id s.store fields v)) (a : Arena) (is : arena_of id s.store fields v ≡ a) (t : TokenValue) (had : has a t ≡ true) where
+module _ (id : ℕ) (s : CountedStore) (fields : List Fields) (v : ChainLists) (filled : IsFilled s fields v (arena_of id s.store fields v)) (a : Arena) (is : arena_of id s.store fields v ≡ a) (t : TokenValue) (had : has a t ≡ true) where
   -- each block of a held message has as many bytes as it says
   bytes_each : (k : ℕ) (b : Block) → slice_get (message_at a t.head) k ≡ Some b → length (bytes_of_block a.store b) ≡ b.len
   bytes_each k b at =
@@ -156,7 +155,7 @@ all_counted s (b ∷ m) =
     one false = refl
 
 -- the most bytes that a held message has
-pub message_small : (id : ℕ) (s : CountedStore) (fields : List Fields) (v : NodeLists) → IsFilled s fields v (arena_of id s.store fields v) → (t : TokenValue) → has (arena_of id s.store fields v) t ≡ true
+pub message_small : (id : ℕ) (s : CountedStore) (fields : List Fields) (v : ChainLists) → IsFilled s fields v (arena_of id s.store fields v) → (t : TokenValue) → has (arena_of id s.store fields v) t ≡ true
     → size_of (message_at (arena_of id s.store fields v) t.head) ≤ most_message_blocks * most_data_block_bytes
 message_small id s fields v filled t is =
     let a = arena_of id s.store fields v in
@@ -177,11 +176,10 @@ message_small id s fields v filled t is =
     )
 
 -- and so they are counted in 32 bits
-pub nodes_small : (id : ℕ) (s : CountedStore) (fields : List Fields) (v : NodeLists) → IsFilled s fields v (arena_of id s.store fields v) → (a : Arena) → arena_of id s.store fields v ≡ a → (t : TokenValue) → has a t ≡ true
+pub nodes_small : (id : ℕ) (s : CountedStore) (fields : List Fields) (v : ChainLists) → IsFilled s fields v (arena_of id s.store fields v) → (a : Arena) → arena_of id s.store fields v ≡ a → (t : TokenValue) → has a t ≡ true
     → size_of (message_of fields (nodes_at v t.head)) < 2 ^ 32
 nodes_small id s fields v filled a is t had = grind (arith, common_steps, message_small, message_at-seen)
 
--- the lengths of a message can be summed up along its strand
-pub summable : (id : ℕ) (s : CountedStore) (fields : List Fields) (v : NodeLists) → IsFilled s fields v (arena_of id s.store fields v) → (strands : StrandLists) → length strands.chains ≡ length v.held
-    → (h : ℕ) (ns : List ℕ) → strand_at strands h ≡ ns → slice_get ns 0 ≡ Some h → size_of (message_of fields ns) < 2 ^ 32 → IsSummable strands fields s.store h
-summable id s fields v filled strands many h ns is begins small = grind (arith, common_steps)
+-- the lengths of a message can be summed up along its chain
+pub summable : (id : ℕ) (s : CountedStore) (fields : List Fields) (v : ChainLists) → IsFilled s fields v (arena_of id s.store fields v) → (h : ℕ) (ns : List ℕ) → chain_of v h ≡ ns → slice_get ns 0 ≡ Some h → h < length v.held → size_of (message_of fields ns) < 2 ^ 32 → IsSummable v fields s.store h
+summable id s fields v filled h ns is begins there small = grind (arith, common_steps)

@@ -8,7 +8,7 @@ use Rattle.std.specs.List.{All, flat_map}
 use Rattle.std.proofs.lemmas.Bool.{cases_eq, cond-true, cond-false, eq-eqb, ne_eqb, false≢true}
 use Rattle.std.proofs.lemmas.List.{length-map, map-append, map-set}
 use Rattle.strm_links.specs.Rows.{has}
-use Rattle.strm_mblk.proofs.chaining.Parted.{position_same}
+use Rattle.strm_links.proofs.lists.Positions.{position_same}
 use Rattle.strm_links.proofs.lists.OneList.{has_cases, has_head, has_tail}
 use Rattle.strm_data.specs.CountedStore.{CountedStore}
 use Rattle.strm_data.specs.DataStore.{DataStore}
@@ -17,7 +17,7 @@ use Rattle.strm_mblk.specs.Arena.{Arena, held_at, message_at, shelf_at, shelved_
 use Rattle.strm_mblk.specs.Block.{Block, Message, head_of, size_of}
 use Rattle.strm_mblk.specs.BlocksLayout.{IsFilled, IsPlaced, arena_of, block_at, fields_at, message_of}
 use Rattle.strm_mblk.specs.Messages.{blocks_of, put_before_head, shelf_in, with_head, without_head, blocks_on}
-use Rattle.strm_mblk.specs.NodeLists.{IsNodesParted, NodeLists, head_node, heads_on, nodes_at, shelf_with, shelved_nodes}
+use Rattle.strm_links.specs.ChainLists.{IsLawful, ChainLists, head_node, heads_on, nodes_at, shelf_with, shelved_nodes}
 use Rattle.strm_mblk.specs.Shelves.{head_block, heads_at, shelf_of, shelve, shelved_message, unshelve}
 use Rattle.strm_mblk.proofs.Lists.{IsAdditive, count_adds, flat_map-set_adds, length_adds}
 use Rattle.strm_mblk.proofs.arena.Counts.{blocks_in_adds, head_counts, held_within, not_held, number_is, once, within}
@@ -66,11 +66,11 @@ module _ (fields : List Fields) where
   with-seen h ms = sym (slice_get-map (message_of fields) (filter (λ m. head_node m == h) ms) 0) ∙ ap (λ l. slice_get l 0) (picked-seen (λ k. k == h) ms)
 
 -- the heads on a shelf
-pub heads_at-seen : (id : ℕ) (s : DataStore) (fields : List Fields) (v : NodeLists) (q : ℕ) → heads_at (arena_of id s fields v) q ≡ heads_on v q
+pub heads_at-seen : (id : ℕ) (s : DataStore) (fields : List Fields) (v : ChainLists) (q : ℕ) → heads_at (arena_of id s fields v) q ≡ heads_on v q
 heads_at-seen id s fields v q = ap (map head_of) (shelf_at-seen id s fields v q) ∙ heads-seen fields (shelf_in v.shelves q)
 
 -- whether some shelf has a head
-pub shelf_of-seen : (id : ℕ) (s : DataStore) (fields : List Fields) (v : NodeLists) (h : ℕ) → shelf_of (arena_of id s fields v) h ≡ shelf_with v h
+pub shelf_of-seen : (id : ℕ) (s : DataStore) (fields : List Fields) (v : ChainLists) (h : ℕ) → shelf_of (arena_of id s fields v) h ≡ shelf_with v h
 shelf_of-seen id s fields v h =
     position_same (λ ms. has h (map head_of ms)) (λ ns. has h (map head_node ns)) (map (message_of fields)) [] v.shelves (λ k within. ap (has h) (heads-seen fields (get_or v.shelves k [])))
 
@@ -149,7 +149,7 @@ on_shelf h (x ∷ xs) some there once =
 
 -- ---- a held message goes on a shelf
 
-module _ (id : ℕ) (s : CountedStore) (fields : List Fields) (v : NodeLists) (filled : IsFilled s fields v (arena_of id s.store fields v)) (h : ℕ) (m : Message) (held : held_at (arena_of id s.store fields v) h ≡ Some m) where
+module _ (id : ℕ) (s : CountedStore) (fields : List Fields) (v : ChainLists) (filled : IsFilled s fields v (arena_of id s.store fields v)) (h : ℕ) (m : Message) (held : held_at (arena_of id s.store fields v) h ≡ Some m) where
   abbrev old : Arena
   old = arena_of id s.store fields v
 
@@ -166,8 +166,8 @@ module _ (id : ℕ) (s : CountedStore) (fields : List Fields) (v : NodeLists) (f
         length-map (nodes_at v h) (block_at fields),
       )
 
-  module _ (q : ℕ) (before : Option ℕ) (w : NodeLists) (inside : q < length old.shelves)
-      (w_is : w ≡ record v { held = set v.held h None; shelves = set v.shelves q (put_before_head head_node before (nodes_at v h) (shelf_in v.shelves q)) }) (parted : IsNodesParted w) where
+  module _ (q : ℕ) (before : Option ℕ) (w : ChainLists) (inside : q < length old.shelves)
+      (w_is : w ≡ record v { held = set v.held h None; shelves = set v.shelves q (put_before_head head_node before (nodes_at v h) (shelf_in v.shelves q)) }) (parted : IsLawful w) where
     pub shelve_shows : arena_of id s.store fields w ≡ shelve q before h old
     shelve_shows =
         let held_is = map-set (option_map (message_of fields)) v.held h None in
@@ -179,7 +179,7 @@ module _ (id : ℕ) (s : CountedStore) (fields : List Fields) (v : NodeLists) (f
 
     pub shelve_filled : IsFilled s fields w (arena_of id s.store fields w)
     shelve_filled =
-        moved_filled id s fields v w filled (ap (λ (l : NodeLists). l.free) w_is) (ap (λ (l : NodeLists). length l.held) w_is ∙ length-set v.held h None) parted
+        moved_filled id s fields v w filled (ap (λ (l : ChainLists). l.free) w_is) (ap (λ (l : ChainLists). length l.held) w_is ∙ length-set v.held h None) parted
 
     pub shelve_queued : length (shelved_blocks (arena_of id s.store fields w)) ≡ length (shelved_blocks old) + length (nodes_at v h)
     shelve_queued =
@@ -195,7 +195,7 @@ module _ (id : ℕ) (s : CountedStore) (fields : List Fields) (v : NodeLists) (f
 -- ---- a message leaves a shelf
 
 -- a is what was there, and the other lists what is there once the message with head h has left shelf q
-pub record IsUnshelved (a : Arena) (s : CountedStore) (fields : List Fields) (w : NodeLists) (id q h : ℕ) : Type 0 where
+pub record IsUnshelved (a : Arena) (s : CountedStore) (fields : List Fields) (w : ChainLists) (id q h : ℕ) : Type 0 where
   pub message : Message
   pub filled : IsFilled s fields w (arena_of id s.store fields w)
   pub held : held_at (arena_of id s.store fields w) h ≡ Some message
@@ -204,7 +204,7 @@ pub record IsUnshelved (a : Arena) (s : CountedStore) (fields : List Fields) (w 
   pub unheld : held_at a h ≡ None
   pub after : arena_of id s.store fields w ≡ unshelve q h a
 
-module _ (id : ℕ) (s : CountedStore) (fields : List Fields) (v : NodeLists) (filled : IsFilled s fields v (arena_of id s.store fields v)) (q h : ℕ)
+module _ (id : ℕ) (s : CountedStore) (fields : List Fields) (v : ChainLists) (filled : IsFilled s fields v (arena_of id s.store fields v)) (q h : ℕ)
     (inside : q < length (arena_of id s.store fields v).shelves) (there : has h (heads_at (arena_of id s.store fields v) q) ≡ true) where
   abbrev was : Arena
   was = arena_of id s.store fields v
@@ -216,7 +216,7 @@ module _ (id : ℕ) (s : CountedStore) (fields : List Fields) (v : NodeLists) (f
   -- the message
   found : (m : Message) × IsOnShelf (shelf_at was q) h m
   found =
-      on_shelf h (shelf_at was q) ((law_parted id s fields v filled).shelved q) there
+      on_shelf h (shelf_at was q) ((law_parted id s fields v filled).chains.shelved q) there
       (omega (arith, on_one (number_is h), once was s (counted id s fields v filled) h, blocks_in_adds (count_adds (number_is h)) was))
 
   -- its blocks are on the shelf
@@ -236,8 +236,8 @@ module _ (id : ℕ) (s : CountedStore) (fields : List Fields) (v : NodeLists) (f
   found_is : with_head head_of h (shelf_at was q) ≡ Some found.0
   found_is = ap (λ ms. slice_get ms 0) found.1.alone
 
-  module _ (w : NodeLists)
-      (w_is : w ≡ record v { held = set v.held h (with_head head_node h (shelf_in v.shelves q)); shelves = set v.shelves q (without_head head_node h (shelf_in v.shelves q)) }) (parted : IsNodesParted w) where
+  module _ (w : ChainLists)
+      (w_is : w ≡ record v { held = set v.held h (with_head head_node h (shelf_in v.shelves q)); shelves = set v.shelves q (without_head head_node h (shelf_in v.shelves q)) }) (parted : IsLawful w) where
     abbrev now : Arena
     now = arena_of id s.store fields w
 
@@ -271,7 +271,7 @@ module _ (id : ℕ) (s : CountedStore) (fields : List Fields) (v : NodeLists) (f
     pub unshelves : IsUnshelved was s fields w id q h
     unshelves = record {
       message = found.0;
-      filled = moved_filled id s fields v w filled (ap (λ (l : NodeLists). l.free) w_is) (ap (λ (l : NodeLists). length l.held) w_is ∙ length-set v.held h _) parted;
+      filled = moved_filled id s fields v w filled (ap (λ (l : ChainLists). l.free) w_is) (ap (λ (l : ChainLists). length l.held) w_is ∙ length-set v.held h _) parted;
       held = unshelve_held;
       many = unshelve_len;
       queued = unshelve_queued;
@@ -383,7 +383,7 @@ rows-seen fields [] = refl
 rows-seen fields (ms ∷ shelves) = ap (λ xs. map (message_of fields) ms ++ xs) (rows-seen fields shelves) ∙ sym (map-append (message_of fields) ms (flat_map (λ x. x) shelves))
 
 -- the blocks of the message with head h on some shelf of a
-pub record IsHead (s : CountedStore) (fields : List Fields) (v : NodeLists) (a : Arena) (h : ℕ) : Type 0 where
+pub record IsHead (s : CountedStore) (fields : List Fields) (v : ChainLists) (a : Arena) (h : ℕ) : Type 0 where
   pub nodes : List ℕ
   pub shelf : ℕ
   pub place : ℕ
@@ -399,13 +399,13 @@ some_is : (o : Option ℕ) → is_some o ≡ true → (x : ℕ) × (o ≡ Some x
 some_is None some = absurd (false≢true some)
 some_is (Some x) some = (x, refl)
 
-module _ (id : ℕ) (s : CountedStore) (fields : List Fields) (v : NodeLists) (filled : IsFilled s fields v (arena_of id s.store fields v)) where
+module _ (id : ℕ) (s : CountedStore) (fields : List Fields) (v : ChainLists) (filled : IsFilled s fields v (arena_of id s.store fields v)) where
   heads_there : (h : ℕ) → is_some (shelf_of (arena_of id s.store fields v) h) ≡ true → IsHead s fields v (arena_of id s.store fields v) h
   heads_there h some =
       let a = arena_of id s.store fields v in
       let shelf = some_is (shelf_of a h) some in
       let on = position-Some (λ ms. has h (map head_of ms)) a.shelves shelf.0 [] shelf.1 in
-      let is = on_some h v.shelves shelf.0 filled.parted.shelved (ap (has h) (sym (heads_at-seen id s.store fields v shelf.0)) ∙ on.1) in
+      let is = on_some h v.shelves shelf.0 filled.parted.parts.shelved (ap (has h) (sym (heads_at-seen id s.store fields v shelf.0)) ∙ on.1) in
       let message : shelved_message a h ≡ message_of fields is.nodes =
       ap (λ ms. blocks_of (with_head head_of h ms)) (rows-seen fields v.shelves)
       ∙ ap blocks_of (sym (with-seen fields h (flat_map (λ ms. ms) v.shelves)) ∙ ap (option_map (message_of fields)) is.first) in
@@ -437,7 +437,7 @@ among_rows [] q k = omega arith
 among_rows (ms ∷ shelves) zero k = omega (arith, among_row ms k, length-append (flat_map (λ m. m) ms) (blocks_on shelves))
 among_rows (ms ∷ shelves) (suc q) k = omega (arith, among_rows shelves q k, length-append (flat_map (λ m. m) ms) (blocks_on shelves))
 
-module _ (id : ℕ) (s : CountedStore) (fields : List Fields) (v : NodeLists) (filled : IsFilled s fields v (arena_of id s.store fields v)) (a : Arena) (is : arena_of id s.store fields v ≡ a) (h : ℕ) (some : is_some (shelf_of a h) ≡ true) where
+module _ (id : ℕ) (s : CountedStore) (fields : List Fields) (v : ChainLists) (filled : IsFilled s fields v (arena_of id s.store fields v)) (a : Arena) (is : arena_of id s.store fields v ≡ a) (h : ℕ) (some : is_some (shelf_of a h) ≡ true) where
   head : IsHead s fields v a h
   head = is_head id s fields v filled a is h some
 

@@ -26,7 +26,7 @@ use Rattle.strm_mblk.specs.declared.token.TokenValue.{TokenValue}
 use Rattle.strm_mblk.specs.Arena.{Arena, has, held_at, shelved_blocks}
 use Rattle.strm_mblk.specs.Given.{answer_map}
 use Rattle.strm_mblk.specs.Messages.{blocks_of, held_in}
-use Rattle.strm_mblk.specs.NodeLists.{NodeLists, nodes_at}
+use Rattle.strm_links.specs.ChainLists.{ChainLists, nodes_at}
 use Rattle.strm_mblk.proofs.Lists.{drop_from}
 use Rattle.strm_mblk.proofs.Freeing.{reverse_onto}
 use Rattle.strm_mblk.proofs.layout.Shown.{alike_off, message-alike, message_at-seen}
@@ -330,17 +330,17 @@ cut_run true s fields ns r run n enough =
     sym (cut_ahead (length ns - r.blocks) (r.size - n) ns fields) ∙ ap (λ k. with_bytes_cut true k ns fields) all
 
 -- places lie in a data block, and so they are small
-pub ends_small : (id : ℕ) (s : CountedStore) (fields : List Fields) (v : NodeLists) → IsFilled s fields v (arena_of id s.store fields v) → (n : ℕ) → n < length fields → (fields_at fields n).offset + (fields_at fields n).len < 2 ^ 32
+pub ends_small : (id : ℕ) (s : CountedStore) (fields : List Fields) (v : ChainLists) → IsFilled s fields v (arena_of id s.store fields v) → (n : ℕ) → n < length fields → (fields_at fields n).offset + (fields_at fields n).len < 2 ^ 32
 ends_small id s fields v filled n within = grind (arith, common_steps, capacity_range)
 
 -- what is there once the bytes are cut: `a` is what was there
-pub record IsAdjusted (a : Arena) (s : CountedStore) (fields : List Fields) (v : NodeLists) (id : ℕ) (z : ℤ) (t : TokenValue) : Type 0 where
+pub record IsAdjusted (a : Arena) (s : CountedStore) (fields : List Fields) (v : ChainLists) (id : ℕ) (z : ℤ) (t : TokenValue) : Type 0 where
   pub filled : IsFilled s fields v (arena_of id s.store fields v)
   pub done : adjmsg t.head z a ≡ Ok (tt, arena_of id s.store fields v)
   pub shelved : shelved_blocks (arena_of id s.store fields v) ≡ shelved_blocks a
   pub had : has (arena_of id s.store fields v) t ≡ true
 
-module _ (id : ℕ) (s : CountedStore) (fields : List Fields) (v : NodeLists) (filled : IsFilled s fields v (arena_of id s.store fields v)) (t : TokenValue) (has : has (arena_of id s.store fields v) t ≡ true) where
+module _ (id : ℕ) (s : CountedStore) (fields : List Fields) (v : ChainLists) (filled : IsFilled s fields v (arena_of id s.store fields v)) (t : TokenValue) (has : has (arena_of id s.store fields v) t ≡ true) where
   abbrev old : Arena
   old = arena_of id s.store fields v
 

@@ -8,6 +8,7 @@ use Rattle.strm_data.specs.Limits.{most_references}
 use Rattle.strm_mblk.specs.declared.census.Census.{Census}
 use Rattle.strm_mblk.specs.declared.token.TokenValue.{TokenValue}
 use Rattle.strm_mblk.specs.Block.{Block, Message, head_of, uses_data, numbers_of}
+use Rattle.strm_links.specs.Chains.{AreParted}
 use Rattle.strm_mblk.specs.Messages.{blocks_of, held_in, shelf_in, blocks_on, blocks_held}
 
 -- the pool's id and data blocks, and the free message blocks, the next to be taken first. For each block number the held message that
@@ -120,9 +121,7 @@ is_free_in a c d = nat_lt d (length a.store.blocks) && (class_of a.store d == c 
 -- data block either has no references, and is once in its class's free list, or has 1 to most_references references, and is
 -- in no free list.
 pub record IsParted (a : Arena) : Type 0 where
-  pub blocks : (n : ℕ) → times n (a.free ++ numbers_of (blocks_in a)) ≡ (if nat_lt n (length a.held) then 1 else 0)
-  pub heads : (h : ℕ) → IfSome (held_at a h) (λ m. (0 < length m) × (head_of m ≡ h))
-  pub shelved : (s : ℕ) → All (λ m. 0 < length m) (shelf_at a s)
+  pub chains : AreParted numbers_of head_of a.free a.shelves a.held
   pub free_data : (c d : ℕ) → times d (free_of a.store c) ≡ (if is_free_in a c d then 1 else 0)
   pub named : (d : ℕ) → 0 < references_to a d → d < length a.store.blocks
   pub few_references : (d : ℕ) → references_to a d ≤ most_references

@@ -3,7 +3,7 @@ use Rattle.std.specs.Prelude.{◌≡◌, ℕ, ◌+◌, ◌^◌, ◌<◌, ◌≤�
 use Rattle.strm_data.specs.CountedStore.{CountedStore, IsKept, count_of, without_reference, with_reference}
 use Rattle.strm_data.specs.DataStore.{DataStore, capacity_of, times}
 use Rattle.std.specs.List.{list_any}
-use Rattle.strm_links.specs.StrandLists.{StrandLists, strand_at}
+use Rattle.strm_links.specs.ChainLists.{ChainLists, IsLawful, chain_of, nodes_at}
 use Rattle.strm_data.specs.Limits.{most_data_block_bytes, most_references}
 use Rattle.strm_mblk.specs.declared.block_place.Shape.{Shape}
 use Rattle.strm_mblk.specs.declared.blocks.Blocks.TheInside.{Inside}
@@ -12,7 +12,6 @@ use Rattle.strm_mblk.specs.declared.blocks.finding.Found.{Found}
 use Rattle.strm_mblk.specs.declared.blocks.finding.Start.{Start}
 use Rattle.strm_mblk.specs.Arena.{Arena, message_at, references_to, shelved_blocks}
 use Rattle.strm_mblk.specs.Block as model
-use Rattle.strm_mblk.specs.NodeLists.{NodeLists, IsNodesParted}
 use Rattle.strm_mblk.specs.Limits.{most_message_blocks}
 
 -- the result of a read past the message blocks
@@ -76,7 +75,7 @@ abbrev pub with_references_dropped : List ℕ → CountedStore → CountedStore
 with_references_dropped [] s = s
 with_references_dropped (d ∷ ds) s = with_references_dropped ds (without_reference d s)
 
-abbrev pub arena_of : ℕ → DataStore → List Fields → NodeLists → Arena
+abbrev pub arena_of : ℕ → DataStore → List Fields → ChainLists → Arena
 arena_of id store fields lists = record {
   id = id;
   store = store;
@@ -87,7 +86,7 @@ arena_of id store fields lists = record {
 }
 
 abbrev pub arena_in : Inside → Arena
-arena_in a = arena_of a.id a.data.store a.blocks.items a.chains
+arena_in a = arena_of a.id a.data.store a.chains.loads a.chains.lists
 
 -- the data block exists, the places are inside it, and the band is below 256
 pub record IsPlaced (s : DataStore) (f : Fields) : Type 0 where
@@ -103,6 +102,11 @@ pub record IsFoundIn (s : DataStore) (f : Found) : Type 0 where
   pub small : f.capacity ≤ most_data_block_bytes
   pub banded : f.fields.band < 2 ^ 8
 
+-- a walk along the message held at h has reached n, its block i, or has passed its end
+pub record IsReached (v : ChainLists) (h i n : ℕ) : Type 0 where
+  pub here : i < length (nodes_at v h) → slice_get (nodes_at v h) i ≡ Some n
+  pub in_range : i < length (nodes_at v h) → n < length v.held
+
 -- message block n is in a held message, and these can become its fields: they have its data block, and places inside it
 pub record Suits (a : Arena) (n : ℕ) (f : Fields) : Type 0 where
   pub head : ℕ
@@ -115,35 +119,36 @@ pub record Suits (a : Arena) (n : ℕ) (f : Fields) : Type 0 where
   pub banded : f.band < 2 ^ 8
 
 -- every message block has an existing data block, and the bytes of the message that begins with `head` number less than 2^32
-pub record IsSummable (strands : StrandLists) (fields : List Fields) (s : DataStore) (head : ℕ) : Type 0 where
-  pub begins : slice_get (strand_at strands head) 0 ≡ Some head
-  pub listed : length fields ≡ length strands.chains
+pub record IsSummable (lists : ChainLists) (fields : List Fields) (s : DataStore) (head : ℕ) : Type 0 where
+  pub begins : slice_get (chain_of lists head) 0 ≡ Some head
+  pub there : head < length lists.held
+  pub listed : length fields ≡ length lists.held
   pub named : (n : ℕ) → n < length fields → (fields_at fields n).data_number < length s.blocks
-  pub small : model.size_of (message_of fields (strand_at strands head)) < 2 ^ 32
+  pub small : model.size_of (message_of fields (chain_of lists head)) < 2 ^ 32
 
 -- every message block has its places inside a data block, and a message begins with `head`
-pub record IsReadable (strands : StrandLists) (fields : List Fields) (s : CountedStore) (head : ℕ) : Type 0 where
-  pub begins : slice_get (strand_at strands head) 0 ≡ Some head
-  pub there : head < length strands.chains
-  pub listed : length fields ≡ length strands.chains
+pub record IsReadable (lists : ChainLists) (fields : List Fields) (s : CountedStore) (head : ℕ) : Type 0 where
+  pub begins : slice_get (chain_of lists head) 0 ≡ Some head
+  pub there : head < length lists.held
+  pub listed : length fields ≡ length lists.held
   pub placed : (n : ℕ) → n < length fields → IsPlaced s.store (fields_at fields n)
   pub kept : IsKept s
 
 -- byte `at` of the message that begins with `head` is byte `r.at` of its blocks from block `r.block` on, whose number is `r.node`
-pub record IsStart (strands : StrandLists) (fields : List Fields) (head at : ℕ) (r : Start) : Type 0 where
-  pub begins : slice_get (strand_at strands head) r.block ≡ Some r.node
-  pub there : r.node < length strands.chains
-  pub before : model.size_of (take r.block (message_of fields (strand_at strands head))) + r.at ≡ at
+pub record IsStart (lists : ChainLists) (fields : List Fields) (head at : ℕ) (r : Start) : Type 0 where
+  pub begins : slice_get (chain_of lists head) r.block ≡ Some r.node
+  pub there : r.node < length lists.held
+  pub before : model.size_of (take r.block (message_of fields (chain_of lists head))) + r.at ≡ at
 
 -- every message block, free ones too, has its places inside a data block, and the stored counts are the numbers of references
-pub record IsFilled (s : CountedStore) (fields : List Fields) (lists : NodeLists) (arena : Arena) : Type 0 where
+pub record IsFilled (s : CountedStore) (fields : List Fields) (lists : ChainLists) (arena : Arena) : Type 0 where
   pub kept : IsKept s
-  pub parted : IsNodesParted lists
+  pub parted : IsLawful lists
   pub few : length lists.held ≤ most_message_blocks
   pub listed : length fields ≡ length lists.held
   pub placed : (n : ℕ) → n < length fields → IsPlaced s.store (fields_at fields n)
   pub counts : (d : ℕ) → count_of s d ≡ references_to arena d
 
 pub record IsSound (a : Inside) : Type 0 where
-  pub filled : IsFilled a.data a.blocks.items a.chains (arena_in a)
+  pub filled : IsFilled a.data a.chains.loads a.chains.lists (arena_in a)
   pub queued : a.queued ≡ length (shelved_blocks (arena_in a))

@@ -7,7 +7,7 @@ use Rattle.strm_mblk.specs.declared.blocks.Fields.{Fields}
 use Rattle.strm_mblk.specs.declared.blocks.trimming.Run.{Run}
 use Rattle.strm_mblk.specs.Block.{size_of}
 use Rattle.strm_mblk.specs.BlocksLayout.{fields_at, message_of}
-use Rattle.strm_mblk.specs.NodeLists.{NodeLists, nodes_at}
+use Rattle.strm_links.specs.ChainLists.{ChainLists, nodes_at}
 use Rattle.strm_mblk.specs.Trimming.{from_end, run_of}
 
 -- the run with one more block, the first of the message's last `blocks` ones; a block of another type begins a new run
@@ -25,7 +25,7 @@ pub record IsRun (from_tail : Bool) (s : DataStore) (fields : List Fields) (ns :
       ≡ size_of (message_of fields ns)
 
 -- some message has block `first`, and `count` blocks from it on
-pub record IsTail (v : NodeLists) (first count : ℕ) : Type 0 where
+pub record IsTail (v : ChainLists) (first count : ℕ) : Type 0 where
   pub head : ℕ
   pub place : ℕ
   pub at : slice_get (nodes_at v head) place ≡ Some first

@@ -11,8 +11,6 @@ pub mod InPlace
 pub mod Trimming
 pub mod Pulling
 pub mod Shelves
-pub mod NodeLists
-pub mod ChainLayout
 pub mod BlocksLayout
 pub mod Copying
 pub mod Cutting

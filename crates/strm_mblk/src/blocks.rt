@@ -1,15 +1,17 @@
 //! Message blocks by number, the messages that they make, and the calls on them.
-ghost use Rattle.std.specs.Prelude.{◌≡◌, ◌+◌, ◌-◌, ◌^◌, ◌<◌, ◌≤◌, IfErr, IfOk, IfSome, IsTrue, Err, Ok, Some, None, is_some, length, option_copied, slice_get};
+ghost use Rattle.std.specs.Prelude.{◌≡◌, ℕ, ◌+◌, ◌-◌, ◌^◌, ◌<◌, ◌≤◌, IfErr, IfOk, IfSome, IsSome, IsTrue, Err, Ok, Some, None, is_some, length, option_copied, slice_get};
 ghost use Rattle.std.specs.List.{All};
 ghost use Rattle.strm_data.specs.Classes.{are_lawful, fits_a_class};
 ghost use Rattle.strm_data.specs.DataStore.{class_infos, class_region};
 ghost use Rattle.strm_data.specs.CountedStore.{IsKept};
 ghost use Rattle.strm_mblk.specs.Arena.{IsLeastFree, IsParted, IsWithin, blocks_in, census_of, counted_in, has, held_at, message_at, opening_arena, token_of, with_least_reset};
 ghost use Rattle.strm_mblk.specs.BlockCalls.{IsSupplied, calls_supplied};
+ghost use Rattle.strm_mblk.specs.BlocksLayout.{IsReached, fields_at};
 ghost use Rattle.strm_mblk.specs.Calls.{Gives, itself};
-ghost use Rattle.strm_mblk.specs.NodeLists.{nodes_at};
+ghost use Rattle.strm_links.specs.ChainLists.{nodes_at};
 ghost use Rattle.strm_mblk.specs.Given.{answer_of};
 ghost use Rattle.strm_mblk.specs.Limits.{most_message_blocks};
+ghost use Rattle.strm_mblk.specs.Messages.{held_in};
 
 mod alteration;
 mod copying;
@@ -29,13 +31,14 @@ mod trimming;
 
 use crate::block_info::BlockInfo;
 use crate::census::Census;
-use crate::chains::Chains;
 use crate::token::{Token, TokenValue};
 use finding::Found;
+use looking::node_of;
 use std::alloc::{AllocError, Global};
 use std::marker::Model;
 use std::mem::size_of;
 use strm_data::{ClassInfo, ClassSpec, Data, Refusal};
+use strm_links::Chained;
 
 /// The number of a message block. Message blocks are numbered from 0 on.
 pub type BlockNo = u32;
@@ -61,9 +64,8 @@ pub struct Supply {
 pub struct Blocks {
     id: u32,
     data: Data,
-    // The fields of each message block, by its number.
-    blocks: Vec<Fields>,
-    chains: Chains,
+    // The message blocks, by number: free, or in a message, which is held or on a shelf. Each carries its fields.
+    chains: Chained<Fields>,
     // The number of message blocks in messages on shelves.
     queued: u32,
 }
@@ -78,7 +80,7 @@ struct Fields {
     band: u8,
 }
 
-const _: () = prove!(size_of::<Fields>() == 16 && size_of::<Blocks>() == 248);
+const _: () = prove!(size_of::<Fields>() == 16 && size_of::<Blocks>() == 200);
 
 impl Fields {
     // A message block over this data block: both places and the band are 0.
@@ -106,17 +108,44 @@ impl Model for Blocks {
     ghost invariant = { IsSound };
 }
 
-// The number of a message's block `place`, if any. Places count from 0. Takes at most `place` steps.
-fn node_at(chains: &Chains, head: u32, place: u32) -> Option<u32>
-    requires { slice_get (nodes_at chains.now head) 0 ≡ Some head }
-    ensures value { result ≡ slice_get (nodes_at chains.now head) place }
-    ensures in_range { IfSome result (λ node. node < length chains.now.held) }
+// The number of a held message's block `place`, if any. Places count from 0. Takes at most `place` steps.
+#[inline(always)]
+fn node_at(chains: &Chained<Fields>, head: u32, place: u32) -> Option<u32>
+    requires { slice_get (nodes_at chains.now.lists head) 0 ≡ Some head }
+    ensures value { result ≡ slice_get (nodes_at chains.now.lists head) place }
+    ensures in_range { IfSome result (λ node. node < length chains.now.lists.held) }
 {
-    let mut at = Some(head);
-    for _step in 0..place {
-        at = chains.next(at?);
-    }
-    at
+    node_of(chains, head, place)
+}
+
+// The fields of a message block.
+#[inline(always)]
+fn fields_at(chains: &Chained<Fields>, node: u32) -> Fields
+    requires { node < length chains.now.loads }
+    ensures { result ≡ fields_at chains.now.loads node }
+{
+    *chains.load(node)
+}
+
+// The number of blocks of a held message, one at least.
+#[inline(always)]
+fn len(chains: &Chained<Fields>, head: u32) -> u32
+    requires { IsSome (held_in chains.now.lists.held head) }
+    ensures number { result ≡ length (nodes_at chains.now.lists head) }
+    ensures some { 0 < result }
+{
+    chains.parts_nodes();
+    chains.len(head)
+}
+
+// The message block after this one in its message. For the last block this is `u32::MAX`, which callers must not use; that
+// saves a branch.
+#[inline(always)]
+fn onward(chains: &Chained<Fields>, node: u32) -> u32
+    requires { node < length chains.now.lists.held }
+    ensures { (h i : ℕ) → IsReached chains.now.lists h i node → IsReached chains.now.lists h (i + 1) result }
+{
+    chains.next(node).unwrap_or(u32::MAX)
 }
 
 impl Blocks {
@@ -141,8 +170,7 @@ impl Blocks {
         Ok(Blocks {
             id,
             data: Data::new(alloc, classes)?,
-            blocks: vec![in alloc; Fields::over(0); mblks as usize]?,
-            chains: Chains::new(alloc, mblks, u32::from(shelves))?,
+            chains: Chained::new(alloc, mblks, u32::from(shelves), Fields::over(0))?,
             queued: 0,
         })
     }
@@ -181,7 +209,7 @@ impl Blocks {
         token.lawful();
         let head = token.head();
         token.pool() == self.id
-            && (head as usize) < self.blocks.len()
+            && (head as usize) < self.chains.node_count()
             && self.chains.holds(head, token.blocks())
     }
 
@@ -247,7 +275,7 @@ impl Blocks {
         Census {
             free,
             queued: self.queued,
-            held: self.blocks.len() as u32 - free - self.queued,
+            held: self.chains.node_count() as u32 - free - self.queued,
         }
     }
 
@@ -258,7 +286,7 @@ impl Blocks {
         requires { IsTrue (is_some (held_at self.now head)) }
         ensures { result ≡ token_of self.now head }
     {
-        self.token_of(head, self.chains.len(head))
+        self.token_of(head, len(&self.chains, head))
     }
 
     // Makes the token of a held message with this number of blocks.
@@ -323,7 +351,7 @@ impl Blocks {
     {
         let data_number = self.data.take_from(supply.class, size);
         let head = self.chains.begin_all(1);
-        self.blocks[head as usize] = Fields::over(data_number);
+        self.chains.set_load(head, Fields::over(data_number));
         self.token_of(head, 1)
     }
 

@@ -5,7 +5,6 @@ mod block_info;
 mod block_place;
 mod blocks;
 mod census;
-mod chains;
 mod limits;
 mod rejected;
 mod token;

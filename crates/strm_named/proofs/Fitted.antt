@@ -329,4 +329,4 @@ module _ (a : Arena) (t : TokenValue) (had : has a t ≡ true) (parted : IsParte
   pub is_told : IsTold
   is_told =
       let m = had_message a t had in
-      each m.0 m.1.held m.1.blocks (subst (λ o. IfSome o (λ x. (0 < length x) × (head_of x ≡ t.head))) m.1.held (parted.heads t.head))
+      each m.0 m.1.held m.1.blocks (subst (λ o. IfSome o (λ x. (0 < length x) × (head_of x ≡ t.head))) m.1.held (parted.chains.heads t.head))

@@ -270,7 +270,7 @@ none_told h n (suc desks) =
 
 -- where no block is in a held message, no message is held
 none_held : (a : Arena) → IsParted a → (census_of a).held ≡ 0 → (h : ℕ) → held_at a h ≡ None
-none_held a parted empty h = at (held_at a h) refl (parted.heads h)
+none_held a parted empty h = at (held_at a h) refl (parted.chains.heads h)
   where
     at : (o : Option Message) → held_at a h ≡ o → IfSome o (λ m. (0 < length m) × (head_of m ≡ h)) → held_at a h ≡ None
     at None is some = is

@@ -72,9 +72,7 @@ module _ (v : PoolValue) (bs : List DataBlock) (differ : DifferInBytes v.arena.s
   parted =
       let was = law.parted in
       record {
-        blocks = was.blocks;
-        heads = was.heads;
-        shelved = was.shelved;
+        chains = was.chains;
         free_data = λ c d. was.free_data c d ∙ (λ i. if nat_lt d (sym many i) && (sym (class d) i == c && references_to a d == 0) then 1 else 0);
         named = λ d some. omega (arith, was.named d some, many);
         few_references = was.few_references;

@@ -323,7 +323,7 @@ two_on h (ms ∷ shelves) (suc p) (suc q) other =
 
 module _ (a : Arena) (parted : IsParted a) where
   once_on : (h : ℕ) → times_on h a.shelves ≤ 1
-  once_on h = omega (arith, blocks_in_adds (count_adds (number_is h)) a, parted.blocks h, times-all h a, one_most (nat_lt h (length a.held)))
+  once_on h = omega (arith, blocks_in_adds (count_adds (number_is h)) a, parted.chains.once h, times-all h a, one_most (nat_lt h (length a.held)))
 
   module _ (q : ℕ) (pre post : List Message) (m : Message) (is : shelf_at a q ≡ pre ++ m ∷ post) where
     pub apart_here : IsApart (heads (pre ++ m ∷ post))
@@ -331,7 +331,7 @@ module _ (a : Arena) (parted : IsParted a) where
 
     -- a message of a shelf has a block
     pub some_here : 0 < length m
-    some_here = at pre post (subst (All (λ x. 0 < length x)) is (parted.shelved q))
+    some_here = at pre post (subst (All (λ x. 0 < length x)) is (parted.chains.shelved q))
       where
         at : (pre post : List Message) → All (λ x. 0 < length x) (pre ++ m ∷ post) → 0 < length m
         at [] post some = some 0 m (omega arith)
@@ -341,7 +341,7 @@ module _ (a : Arena) (parted : IsParted a) where
     pub shelved_message_at : shelved_message a (head_of m) ≡ m
     shelved_message_at =
         ap (λ ms. blocks_of (slice_get ms 0))
-        (across (head_of m) a.shelves q m parted.shelved (once_on (head_of m)) (ap (begun (head_of m)) is ∙ with-at pre post m apart_here) some_here refl)
+        (across (head_of m) a.shelves q m parted.chains.shelved (once_on (head_of m)) (ap (begun (head_of m)) is ∙ with-at pre post m apart_here) some_here refl)
 
 -- a list at one of its places
 pub split_there : {X : Type 0} (xs : List X) (k : ℕ) (x : X) → slice_get xs k ≡ Some x → xs ≡ take k xs ++ x ∷ drop (k + 1) xs

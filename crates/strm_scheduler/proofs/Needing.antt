@@ -58,7 +58,7 @@ module _ (q n : ℕ) (v x : PoolValue) (t : TokenValue) (taken : IsTaken q n t v
 
 module _ {M : Type 0} (needs : Needs M) (m : M) (q n : ℕ) (v x : PoolValue) (t : TokenValue) (taken : IsTaken q n t v x) (law : IsLawful v) (there : has_queue v q ≡ true) where
   some_blocks : 0 < length taken.message
-  some_blocks = subst (λ ms. All (λ (k : Message). 0 < length k) ms) taken.first (law.parted.shelved q) 0 taken.message (omega arith)
+  some_blocks = subst (λ ms. All (λ (k : Message). 0 < length k) ms) taken.first (law.parted.chains.shelved q) 0 taken.message (omega arith)
 
   queued : queued_at q 0 (queued_blocks_of v) ≡ info_of_message v.arena.store taken.message
   queued = λ i. queued_from (there i) (taken.first i)

@@ -1,32 +1,47 @@
 -- How the nodes and the ends stay sound when a node joins or leaves a list, and when one list joins another.
 use Rattle.std.proofs.Common.{◌≡◌, ◌≢◌, ℕ, zero, suc, ◌<◌, true, false, List, [], ◌∷◌, length, get_or, set, Option, Some, None, if◌then◌else◌, refl, sym, ap, ◌∙◌, subst, arith, get_or-set_same, get_or-set_other, length-set, ◌+◌, ◌-◌, ◌++◌, is_none, inl, inr}
 use Rattle.std.proofs.lemmas.Bool.Decides.{nat_tests}
-use Rattle.std.proofs.lemmas.List.{get_or_read, append_assoc, append-nil, length-append}
+use Rattle.std.proofs.Math.ListN.{get_or-map}
+use Rattle.std.proofs.Math.Seq.{map-set_same}
+use Rattle.std.proofs.lemmas.List.{append_assoc, append-nil, length-append}
 use Rattle.std.proofs.lemmas.Bool.{cases_eq, cases_Bool, cond-true, cond-false, ne_eqb, or_from, false≢true}
 use Rattle.std.proofs.lemmas.Option.{none-some}
-use Rattle.strm_links.specs.declared.links.Node.{Node}
+use Rattle.strm_links.specs.declared.table.Place.{Place}
 use Rattle.strm_links.specs.Rows.{has, Rows, IsApart, is_some_of, first, last, list_at}
-use Rattle.strm_links.specs.Layout.{no_node, node_at, owner_at, previous_at, next_at, walk, no_ends, ends_at, LeadsBack, IsLinked, IsSound}
-use Rattle.strm_links.specs.declared.links.Ends.{Ends}
+use Rattle.strm_links.specs.Layout.{no_place, place_at, owner_at, previous_at, next_at, with_next, with_previous, walk, no_ends, ends_at, LeadsBack, IsLinked, IsSound}
+use Rattle.strm_links.specs.declared.table.Ends.{Ends}
 use Rattle.strm_links.proofs.lists.OneList.{has_head, has_tail, has_right, has-append, has-around, differ, absent_parts, absent_both, absent_around, ApartParts, IsApart-parts, IsApart-append, IsApart-insert, IsApart-remove, first_joined, first_off, last_joined, last_off, last_or-append, last_some, some_of}
 use Rattle.strm_links.proofs.lists.ListLinks.{LeadsOn-kept, LeadsBack-kept, LeadsOn-parts, LeadsBack-parts, LeadsBack-append, LeadsOn-join, LeadsBack-join}
 
 -- ---- the walk that gives nodes another owner
 
 -- the walk has given all of `xs` but `rest` to `list`; no link has changed
-pub record Gives (old now : List Node) (list : Option ℕ) (xs rest : List ℕ) : Type 0 where
+pub record Gives (old now : List Place) (list : Option ℕ) (xs rest : List ℕ) : Type 0 where
   pub owners : (k : ℕ) → (if has k rest then list else owner_at now k) ≡ (if has k xs then list else owner_at old k)
   pub nexts : (k : ℕ) → next_at now k ≡ next_at old k
   pub previous : (k : ℕ) → previous_at now k ≡ previous_at old k
   pub within : (k : ℕ) → has k rest ≡ true → k < length now
   pub len : length now ≡ length old
 
+-- at first it has given none
+pub Gives-start : (places : List Place) (list : Option ℕ) (n : ℕ) (at : Option ℕ) → ((k : ℕ) → has k (walk (next_at places) n at) ≡ true → k < length places) → Gives places places list (walk (next_at places) n at) (walk (next_at places) (n - 0) at)
+Gives-start places list n at within =
+    let all : n - 0 ≡ n = omega arith in
+    rw all
+    (record {
+      owners = λ k. refl;
+      nexts = λ k. refl;
+      previous = λ k. refl;
+      within = within;
+      len = refl;
+    })
+
 -- the walk gives away one more node
-pub Gives-more : (old now : List Node) (list : Option ℕ) (xs rest : List ℕ) (n : ℕ) (x : Node) → Gives old now list xs (n ∷ rest)
+pub Gives-more : (old now : List Place) (list : Option ℕ) (xs rest : List ℕ) (n : ℕ) (x : Place) → Gives old now list xs (n ∷ rest)
     → x.list ≡ list → x.next ≡ next_at now n → x.previous ≡ previous_at now n → Gives old (set now n x) list xs rest
 Gives-more old now list xs rest n x gives owner next previous =
-    let here : node_at (set now n x) n ≡ x = get_or-set_same now n x no_node (gives.within n (has_head n n rest refl)) in
-    let away : (k : ℕ) → k ≢ n → node_at (set now n x) k ≡ node_at now k = λ k. get_or-set_other now n k x no_node in
+    let here : place_at (set now n x) n ≡ x = get_or-set_same now n x no_place (gives.within n (has_head n n rest refl)) in
+    let away : (k : ℕ) → k ≢ n → place_at (set now n x) k ≡ place_at now k = λ k. get_or-set_other now n k x no_place in
     record {
       owners = λ k. grind (arith, nat_tests, here, away k, owner, gives.owners k);
       nexts = λ k. grind (arith, nat_tests, here, away k, next, gives.nexts k);
@@ -41,18 +56,18 @@ walk_none next zero = refl
 walk_none next (suc m) = refl
 
 -- the loop's step where the walk is at a node
-pub Gives-some : (old now later : List Node) (list : Option ℕ) (xs : List ℕ) (left m n : ℕ) (at onward : Option ℕ) (x : Node) → Gives old now list xs (walk (next_at old) left at)
-    → left ≡ suc m → at ≡ Some n → x ≡ get_or now n x → later ≡ set now n (record x { list = list }) → onward ≡ x.next
+pub Gives-some : (old now later : List Place) (list : Option ℕ) (xs : List ℕ) (left m n : ℕ) (at onward : Option ℕ) (x : Place) → Gives old now list xs (walk (next_at old) left at)
+    → left ≡ suc m → at ≡ Some n → (n < length now → x ≡ place_at now n) → later ≡ set now n (record x { list = list }) → onward ≡ x.next
     → Gives old later list xs (walk (next_at old) m onward)
 Gives-some old now later list xs left m n at onward x gives count is read write on =
     let here : Gives old now list xs (n ∷ walk (next_at old) m (next_at old n)) = rw (count, is) at gives in
-    let known : x ≡ node_at now n = get_or_read now n x (here.within n (has_head n n _ refl)) read no_node in
-    let next : x.next ≡ next_at now n = ap (λ (y : Node). y.next) known in
+    let known : x ≡ place_at now n = read (here.within n (has_head n n _ refl)) in
+    let next : x.next ≡ next_at now n = ap (λ (y : Place). y.next) known in
     subst (λ o. Gives old later list xs (walk (next_at old) m o)) (sym (on ∙ next ∙ gives.nexts n))
-    (rw write (Gives-more old now list xs (walk (next_at old) m (next_at old n)) n (record x { list = list }) here refl next (ap (λ (y : Node). y.previous) known)))
+    (rw write (Gives-more old now list xs (walk (next_at old) m (next_at old n)) n (record x { list = list }) here refl next (ap (λ (y : Place). y.previous) known)))
 
 -- the loop's step where the walk is over
-pub Gives-none : (old now later : List Node) (list : Option ℕ) (xs : List ℕ) (left m : ℕ) (at onward : Option ℕ) → Gives old now list xs (walk (next_at old) left at)
+pub Gives-none : (old now later : List Place) (list : Option ℕ) (xs : List ℕ) (left m : ℕ) (at onward : Option ℕ) → Gives old now list xs (walk (next_at old) left at)
     → at ≡ None → later ≡ now → onward ≡ at → Gives old later list xs (walk (next_at old) m onward)
 Gives-none old now later list xs left m at onward gives is same on =
     let nothing : walk (next_at old) left at ≡ walk (next_at old) m onward = ap (walk (next_at old) left) is ∙ walk_none (next_at old) left ∙ sym (ap (walk (next_at old) m) (on ∙ is) ∙ walk_none (next_at old) m) in
@@ -61,12 +76,12 @@ Gives-none old now later list xs left m at onward gives is same on =
 -- ---- what the writes make of the nodes
 
 -- only node n has changed, and is x
-pub record Puts (nodes mid : List Node) (n : ℕ) (x : Node) : Type 0 where
-  pub here : node_at mid n ≡ x
-  pub others : (k : ℕ) → n ≢ k → node_at mid k ≡ node_at nodes k
+pub record Puts (nodes mid : List Place) (n : ℕ) (x : Place) : Type 0 where
+  pub here : place_at mid n ≡ x
+  pub others : (k : ℕ) → n ≢ k → place_at mid k ≡ place_at nodes k
 
 -- `ahead` leads on to `on`, and `behind` leads back to `back`; where one is none, that end of the list changes; the rest is as before
-pub record Rewires (mid new : List Node) (e e' : Ends) (ahead behind on back : Option ℕ) : Type 0 where
+pub record Rewires (mid new : List Place) (e e' : Ends) (ahead behind on back : Option ℕ) : Type 0 where
   pub nexts : (k : ℕ) → next_at new k ≡ (if is_some_of k ahead then on else next_at mid k)
   pub previous : (k : ℕ) → previous_at new k ≡ (if is_some_of k behind then back else previous_at mid k)
   pub owners : (k : ℕ) → owner_at new k ≡ owner_at mid k
@@ -75,44 +90,83 @@ pub record Rewires (mid new : List Node) (e e' : Ends) (ahead behind on back : O
   pub back_end : e'.back ≡ (if is_none behind then back else e.back)
 
 -- the same writes, named by equal values
-pub Rewires-same : {mid new : List Node} {e f e' : Ends} {ahead behind on back ahead' behind' on' back' : Option ℕ} → Rewires mid new e e' ahead behind on back
+pub Rewires-same : {mid new : List Place} {e f e' : Ends} {ahead behind on back ahead' behind' on' back' : Option ℕ} → Rewires mid new e e' ahead behind on back
     → e ≡ f → ahead ≡ ahead' → behind ≡ behind' → on ≡ on' → back ≡ back' → Rewires mid new f e' ahead' behind' on' back'
 Rewires-same {mid} {new} {e} {f} {e'} rewires ends first last onto to =
     subst (λ (t : Ends × Option ℕ × Option ℕ × Option ℕ × Option ℕ). Rewires mid new t.0 e' t.1 t.2 t.3 t.4) (λ i. (ends i, first i, last i, onto i, to i)) rewires
 
 -- a write of one node changes only that node
-pub Puts-set : (nodes : List Node) (n : ℕ) (x : Node) → n < length nodes → Puts nodes (set nodes n x) n x
+pub Puts-set : (nodes : List Place) (n : ℕ) (x : Place) → n < length nodes → Puts nodes (set nodes n x) n x
 Puts-set nodes n x within = record {
-  here = get_or-set_same nodes n x no_node within;
-  others = λ k other. get_or-set_other nodes n k x no_node (λ same. other (sym same));
+  here = get_or-set_same nodes n x no_place within;
+  others = λ k other. get_or-set_other nodes n k x no_place (λ same. other (sym same));
 }
 
+module _ (places : List Place) (at to : Option ℕ) (k : ℕ) (within : (j : ℕ) → at ≡ Some j → j < length places) where
+  -- where the writes of `set_next` and `set_previous` lead
+  next-with_next : next_at (with_next at to places) k ≡ (if is_some_of k at then to else next_at places k)
+  next-with_next = in_place at within
+    where
+      in_place : (o : Option ℕ) → ((j : ℕ) → o ≡ Some j → j < length places) → next_at (with_next o to places) k ≡ (if is_some_of k o then to else next_at places k)
+      in_place None low = refl
+      in_place (Some j) low = grind (arith, nat_tests, low j refl, get_or-set_same places j (record (place_at places j) { next = to }) no_place, get_or-set_other places j k (record (place_at places j) { next = to }) no_place)
+
+  previous-with_previous : previous_at (with_previous at to places) k ≡ (if is_some_of k at then to else previous_at places k)
+  previous-with_previous = in_place at within
+    where
+      in_place : (o : Option ℕ) → ((j : ℕ) → o ≡ Some j → j < length places) → previous_at (with_previous o to places) k ≡ (if is_some_of k o then to else previous_at places k)
+      in_place None low = refl
+      in_place (Some j) low =
+          grind (arith, nat_tests, low j refl, get_or-set_same places j (record (place_at places j) { previous = to }) no_place, get_or-set_other places j k (record (place_at places j) { previous = to }) no_place)
+
+-- a write that a function of the place does not tell leaves it
+untold : {X : Type 0} (f : Place → X) (places : List Place) (j : ℕ) (x : Place) (k : ℕ) → f x ≡ f (place_at places j) → f (place_at (set places j x) k) ≡ f (place_at places k)
+untold f places j x k same = sym (get_or-map f (set places j x) k no_place) ∙ ap (λ ys. get_or ys k (f no_place)) (map-set_same f places j x no_place same) ∙ get_or-map f places k no_place
+
+length-with_next : (at to : Option ℕ) (places : List Place) → length (with_next at to places) ≡ length places
+length-with_next None to places = refl
+length-with_next (Some j) to places = length-set places j (record (place_at places j) { next = to })
+
+-- these writes leave as many places
+pub length-written : (places : List Place) (ahead behind on back : Option ℕ) → length (with_previous behind back (with_next ahead on places)) ≡ length places
+length-written places ahead None on back = length-with_next ahead on places
+length-written places ahead (Some j) on back = length-set (with_next ahead on places) j (record (place_at (with_next ahead on places) j) { previous = back }) ∙ length-with_next ahead on places
+
 -- `set_next`, then `set_previous`
-pub Rewires-both : (mid one new : List Node) (e e1 e2 : Ends) (ahead behind on back : Option ℕ)
-    → ((k : ℕ) → next_at one k ≡ (if is_some_of k ahead then on else next_at mid k))
-    → ((k : ℕ) → previous_at one k ≡ previous_at mid k)
-    → ((k : ℕ) → owner_at one k ≡ owner_at mid k)
-    → e1 ≡ record e { front = (if is_none ahead then on else e.front) }
-    → ((k : ℕ) → previous_at new k ≡ (if is_some_of k behind then back else previous_at one k))
-    → ((k : ℕ) → next_at new k ≡ next_at one k)
-    → ((k : ℕ) → owner_at new k ≡ owner_at one k)
-    → e2 ≡ record e1 { back = (if is_none behind then back else e1.back) }
-    → Rewires mid new e e2 ahead behind on back
-Rewires-both mid one new e e1 e2 ahead behind on back nexts same_previous same_owners ends previous same_nexts kept_owners ends2 = record {
-  nexts = λ k. same_nexts k ∙ nexts k;
-  previous = λ k. previous k ∙ ap (λ o. if is_some_of k behind then back else o) (same_previous k);
-  owners = λ k. kept_owners k ∙ same_owners k;
+pub Rewires-both : (mid : List Place) (e e1 e2 : Ends) (ahead behind on back : Option ℕ) → ((k : ℕ) → ahead ≡ Some k → k < length mid) → ((k : ℕ) → behind ≡ Some k → k < length mid)
+    → e1 ≡ record e { front = (if is_none ahead then on else e.front) } → e2 ≡ record e1 { back = (if is_none behind then back else e1.back) }
+    → Rewires mid (with_previous behind back (with_next ahead on mid)) e e2 ahead behind on back
+Rewires-both mid e e1 e2 ahead behind on back low_ahead low_behind ends ends2 = record {
+  nexts = λ k. same_next behind (with_next ahead on mid) k ∙ next-with_next mid ahead on k low_ahead;
+  previous = λ k. previous-with_previous (with_next ahead on mid) behind back k (λ j is. omega (arith, low_behind j is, length-with_next ahead on mid)) ∙ ap (λ o. if is_some_of k behind then back else o) (same_previous ahead mid k);
+  owners = λ k. same_owner behind (with_next ahead on mid) k ∙ owner-with_next ahead mid k;
   len = ap (λ (x : Ends). x.len) ends2 ∙ ap (λ (x : Ends). x.len) ends;
   front = ap (λ (x : Ends). x.front) ends2 ∙ ap (λ (x : Ends). x.front) ends;
   back_end = ap (λ (x : Ends). x.back) ends2 ∙ ap (λ (x : Ends). if is_none behind then back else x.back) ends;
 }
+  where
+    same_next : (at : Option ℕ) (places : List Place) (k : ℕ) → next_at (with_previous at back places) k ≡ next_at places k
+    same_next None places k = refl
+    same_next (Some j) places k = untold (λ p. p.next) places j (record (place_at places j) { previous = back }) k refl
+
+    same_owner : (at : Option ℕ) (places : List Place) (k : ℕ) → owner_at (with_previous at back places) k ≡ owner_at places k
+    same_owner None places k = refl
+    same_owner (Some j) places k = untold (λ p. p.list) places j (record (place_at places j) { previous = back }) k refl
+
+    same_previous : (at : Option ℕ) (places : List Place) (k : ℕ) → previous_at (with_next at on places) k ≡ previous_at places k
+    same_previous None places k = refl
+    same_previous (Some j) places k = untold (λ p. p.previous) places j (record (place_at places j) { next = on }) k refl
+
+    owner-with_next : (at : Option ℕ) (places : List Place) (k : ℕ) → owner_at (with_next at on places) k ≡ owner_at places k
+    owner-with_next None places k = refl
+    owner-with_next (Some j) places k = untold (λ p. p.list) places j (record (place_at places j) { next = on }) k refl
 
 -- these nodes and ends link the list l
-abbrev Linked : List Node → Ends → ℕ → List ℕ → Type 0
+abbrev Linked : List Place → Ends → ℕ → List ℕ → Type 0
 Linked nodes e l xs = IsLinked (owner_at nodes) (previous_at nodes) (next_at nodes) e l xs
 
 -- a list stays linked if its nodes keep their links and it neither gains nor loses a node
-Linked-kept : (nodes new : List Node) (e : Ends) (m : ℕ) (xs : List ℕ) → Linked nodes e m xs
+Linked-kept : (nodes new : List Place) (e : Ends) (m : ℕ) (xs : List ℕ) → Linked nodes e m xs
     → ((k : ℕ) → has k xs ≡ true → next_at new k ≡ next_at nodes k)
     → ((k : ℕ) → has k xs ≡ true → previous_at new k ≡ previous_at nodes k)
     → ((k : ℕ) → is_some_of m (owner_at new k) ≡ is_some_of m (owner_at nodes k))
@@ -128,7 +182,7 @@ Linked-kept nodes new e m xs was nexts previous owners = record {
 }
 
 -- the stored ends and the list at m, once list l is `ys`
-Linked-set : (new : List Node) (ends : List Ends) (lists : List (List ℕ)) (l m : ℕ) (e : Ends) (ys : List ℕ) → m < length ends → m < length lists → Linked new e l ys → (m ≢ l → Linked new (ends_at ends m) m (get_or lists m [])) → Linked new (ends_at (set ends l e) m) m (get_or (set lists l ys) m [])
+Linked-set : (new : List Place) (ends : List Ends) (lists : List (List ℕ)) (l m : ℕ) (e : Ends) (ys : List ℕ) → m < length ends → m < length lists → Linked new e l ys → (m ≢ l → Linked new (ends_at ends m) m (get_or lists m [])) → Linked new (ends_at (set ends l e) m) m (get_or (set lists l ys) m [])
 Linked-set new ends lists l m e ys in_ends in_lists here others =
     elim (cases_eq l m) [
       | inl same ↦
@@ -141,7 +195,7 @@ Linked-set new ends lists l m e ys in_ends in_lists here others =
 
 -- ---- a node joins a list
 
-module _ (nodes mid new : List Node) (n l : ℕ) (pre post : List ℕ) (e e' : Ends) where
+module _ (nodes mid new : List Place) (n l : ℕ) (pre post : List ℕ) (e e' : Ends) where
   -- a node between two parts that name it is in the list
   Linked-insert : Puts nodes mid n (record { list = Some l; previous = last pre; next = first post })
       → Rewires mid new e e' (last pre) (first post) (Some n) (Some n)
@@ -153,8 +207,8 @@ module _ (nodes mid new : List Node) (n l : ℕ) (pre post : List ℕ) (e e' : E
       let apart = IsApart-insert pre post n was.apart absent in
       let on = LeadsOn-parts (next_at nodes) pre post None was.leads_on in
       let back = LeadsBack-parts (previous_at nodes) None pre post was.leads_back in
-      let next : (k : ℕ) → n ≢ k → next_at mid k ≡ next_at nodes k = λ k other. ap (λ (m : Node). m.next) (puts.others k other) in
-      let previous : (k : ℕ) → n ≢ k → previous_at mid k ≡ previous_at nodes k = λ k other. ap (λ (m : Node). m.previous) (puts.others k other) in
+      let next : (k : ℕ) → n ≢ k → next_at mid k ≡ next_at nodes k = λ k other. ap (λ (m : Place). m.next) (puts.others k other) in
+      let previous : (k : ℕ) → n ≢ k → previous_at mid k ≡ previous_at nodes k = λ k other. ap (λ (m : Place). m.previous) (puts.others k other) in
       let joined : (pre ++ n ∷ []) ++ post ≡ pre ++ n ∷ post = append_assoc pre (n ∷ []) post in
       record {
         len = omega (arith, rewires.len, was.len, length-append pre post, length-append pre (n ∷ post));
@@ -166,14 +220,14 @@ module _ (nodes mid new : List Node) (n l : ℕ) (pre post : List ℕ) (e e' : E
             ∙ ap last joined;
         leads_on = LeadsOn-join (next_at mid) (next_at new) pre (n ∷ post) (first post)
             (LeadsOn-kept (next_at nodes) (next_at mid) pre (first post) (λ k there. next k (differ n k pre off.0 there)) on.0)
-            (ap (λ (m : Node). m.next) puts.here, LeadsOn-kept (next_at nodes) (next_at mid) post None (λ k there. next k (differ n k post off.1 there)) on.1)
+            (ap (λ (m : Place). m.next) puts.here, LeadsOn-kept (next_at nodes) (next_at mid) post None (λ k there. next k (differ n k post off.1 there)) on.1)
             (IsApart-parts pre (n ∷ post) apart)
             rewires.nexts;
         leads_back = subst (LeadsBack (previous_at new) None) joined
             (LeadsBack-join (previous_at mid) (previous_at new) None (last pre) (pre ++ n ∷ []) post
             (LeadsBack-append (previous_at mid) None pre (n ∷ [])
             (LeadsBack-kept (previous_at nodes) (previous_at mid) None pre (λ k there. previous k (differ n k pre off.0 there)) back.0)
-            (ap (λ (m : Node). m.previous) puts.here, tt))
+            (ap (λ (m : Place). m.previous) puts.here, tt))
             (LeadsBack-kept (previous_at nodes) (previous_at mid) (last pre) post (λ k there. previous k (differ n k post off.1 there)) back.1)
             (IsApart-parts (pre ++ n ∷ []) post (subst IsApart (sym joined) apart))
             (λ k. rewires.previous k ∙ ap (λ o. if is_some_of k (first post) then o else previous_at mid k) (sym (last_or-append None pre (n ∷ [])))));
@@ -184,7 +238,7 @@ module _ (nodes mid new : List Node) (n l : ℕ) (pre post : List ℕ) (e e' : E
   -- ---- a node leaves a list
 
   -- once the two parts around a node name each other, they are the list
-  Linked-remove : Puts nodes mid n no_node → Rewires mid new e e' (last pre) (first post) (first post) (last pre)
+  Linked-remove : Puts nodes mid n no_place → Rewires mid new e e' (last pre) (first post) (first post) (last pre)
       → Linked nodes e l (pre ++ n ∷ post)
       → Linked new (record e' { len = e'.len - 1 }) l (pre ++ post)
   Linked-remove puts rewires was =
@@ -193,8 +247,8 @@ module _ (nodes mid new : List Node) (n l : ℕ) (pre post : List ℕ) (e e' : E
       let apart = IsApart-remove pre post n was.apart in
       let on = LeadsOn-parts (next_at nodes) pre (n ∷ post) None was.leads_on in
       let back = LeadsBack-parts (previous_at nodes) None pre (n ∷ post) was.leads_back in
-      let next : (k : ℕ) → n ≢ k → next_at mid k ≡ next_at nodes k = λ k other. ap (λ (m : Node). m.next) (puts.others k other) in
-      let previous : (k : ℕ) → n ≢ k → previous_at mid k ≡ previous_at nodes k = λ k other. ap (λ (m : Node). m.previous) (puts.others k other) in
+      let next : (k : ℕ) → n ≢ k → next_at mid k ≡ next_at nodes k = λ k other. ap (λ (m : Place). m.next) (puts.others k other) in
+      let previous : (k : ℕ) → n ≢ k → previous_at mid k ≡ previous_at nodes k = λ k other. ap (λ (m : Place). m.previous) (puts.others k other) in
       record {
         len = omega (arith, rewires.len, was.len, length-append pre post, length-append pre (n ∷ post));
         front = rewires.front ∙ ap (λ o. if is_none (last pre) then first post else o) was.front ∙ sym (first_joined pre (n ∷ post) post);
@@ -213,20 +267,20 @@ module _ (nodes mid new : List Node) (n l : ℕ) (pre post : List ℕ) (e e' : E
             rewires.previous;
         apart = apart;
         owned = λ k. elim (cases_eq n k) [
-          | inl same ↦ ap (λ j. has j (pre ++ post)) (sym same) ∙ absent ∙ ap (is_some_of l) (sym (rewires.owners k ∙ ap (λ j. owner_at mid j) (sym same) ∙ ap (λ (m : Node). m.list) puts.here))
-          | inr other ↦ sym (has-around k n pre post other) ∙ was.owned k ∙ ap (is_some_of l) (sym (rewires.owners k ∙ ap (λ (m : Node). m.list) (puts.others k other)))
+          | inl same ↦ ap (λ j. has j (pre ++ post)) (sym same) ∙ absent ∙ ap (is_some_of l) (sym (rewires.owners k ∙ ap (λ j. owner_at mid j) (sym same) ∙ ap (λ (m : Place). m.list) puts.here))
+          | inr other ↦ sym (has-around k n pre post other) ∙ was.owned k ∙ ap (is_some_of l) (sym (rewires.owners k ∙ ap (λ (m : Place). m.list) (puts.others k other)))
         ];
       }
 
 -- ---- the other lists, and the free nodes
 
-module _ (nodes mid new : List Node) (ends : List Ends) (rows : Rows) (l n : ℕ) (x : Node) (pre post : List ℕ) (e e' : Ends) (on back : Option ℕ) (sound : IsSound nodes ends rows) (within : l < length rows.lists) (puts : Puts nodes mid n x) (rewires : Rewires mid new e e' (last pre) (first post) on back) (off : (has n pre ≡ false) × (has n post ≡ false)) (parts : (k : ℕ) → has k (list_at l rows) ≡ false → (has k pre ≡ false) × (has k post ≡ false)) (was : (m : ℕ) → m ≢ l → is_some_of m (owner_at nodes n) ≡ false) (is : (m : ℕ) → m ≢ l → is_some_of m x.list ≡ false) (free : x.list ≡ None → (x.next ≡ None) × (x.previous ≡ None)) where
+module _ (nodes mid new : List Place) (ends : List Ends) (rows : Rows) (l n : ℕ) (x : Place) (pre post : List ℕ) (e e' : Ends) (on back : Option ℕ) (sound : IsSound nodes ends rows) (within : l < length rows.lists) (puts : Puts nodes mid n x) (rewires : Rewires mid new e e' (last pre) (first post) on back) (off : (has n pre ≡ false) × (has n post ≡ false)) (parts : (k : ℕ) → has k (list_at l rows) ≡ false → (has k pre ≡ false) × (has k post ≡ false)) (was : (m : ℕ) → m ≢ l → is_some_of m (owner_at nodes n) ≡ false) (is : (m : ℕ) → m ≢ l → is_some_of m x.list ≡ false) (free : x.list ≡ None → (x.next ≡ None) × (x.previous ≡ None)) where
   -- the owners after the change
   new_owner : (k : ℕ) → n ≢ k → owner_at new k ≡ owner_at nodes k
-  new_owner k other = rewires.owners k ∙ ap (λ (m : Node). m.list) (puts.others k other)
+  new_owner k other = rewires.owners k ∙ ap (λ (m : Place). m.list) (puts.others k other)
 
   new_owner_here : owner_at new n ≡ x.list
-  new_owner_here = rewires.owners n ∙ ap (λ (m : Node). m.list) puts.here
+  new_owner_here = rewires.owners n ∙ ap (λ (m : Place). m.list) puts.here
 
   -- a node that is not in the list keeps its next node
   new_next : (k : ℕ) → has k pre ≡ false → next_at new k ≡ next_at mid k
@@ -247,8 +301,8 @@ module _ (nodes mid new : List Node) (ends : List Ends) (rows : Rows) (l n : ℕ
         (sound.linked l within).owned k ∙ ap (is_some_of l) (some_of m (owner_at nodes k) owner) ∙ ne_eqb m l other,
       ) in
       Linked-kept nodes new (ends_at ends m) m (list_at m rows) list
-      (λ k there. let away = apart k there in new_next k (parts k away.1).0 ∙ ap (λ (x : Node). x.next) (puts.others k away.0))
-      (λ k there. let away = apart k there in new_previous k (parts k away.1).1 ∙ ap (λ (x : Node). x.previous) (puts.others k away.0))
+      (λ k there. let away = apart k there in new_next k (parts k away.1).0 ∙ ap (λ (x : Place). x.next) (puts.others k away.0))
+      (λ k there. let away = apart k there in new_previous k (parts k away.1).1 ∙ ap (λ (x : Place). x.previous) (puts.others k away.0))
       (λ k. grind (arith, nat_tests, new_owner_here, is m other, was m other, new_owner k))
 
   -- a node without an owner had none before, and is not in the list
@@ -274,7 +328,7 @@ module _ (nodes mid new : List Node) (ends : List Ends) (rows : Rows) (l n : ℕ
         Linked-set new ends rows.lists l m e'' ys (omega (arith, low, sound.list_count)) low here (λ other. others_linked m low other);
   }
 
-module _ (nodes mid new : List Node) (ends : List Ends) (rows : Rows) (l n : ℕ) (pre post : List ℕ) (e' : Ends) (sound : IsSound nodes ends rows) (within : l < length rows.lists) (long : length new ≡ length nodes) where
+module _ (nodes mid new : List Place) (ends : List Ends) (rows : Rows) (l n : ℕ) (pre post : List ℕ) (e' : Ends) (sound : IsSound nodes ends rows) (within : l < length rows.lists) (long : length new ≡ length nodes) where
   -- all is sound after a free node joins
   pub IsSound-insert : owner_at nodes n ≡ None → list_at l rows ≡ pre ++ post
       → Puts nodes mid n (record { list = Some l; previous = last pre; next = first post })
@@ -292,13 +346,13 @@ module _ (nodes mid new : List Node) (ends : List Ends) (rows : Rows) (l n : ℕ
       (Linked-insert nodes mid new n l pre post (ends_at ends l) e' puts rewires list free)
 
   -- all is sound after a node leaves
-  pub IsSound-remove : list_at l rows ≡ pre ++ n ∷ post → Puts nodes mid n no_node
+  pub IsSound-remove : list_at l rows ≡ pre ++ n ∷ post → Puts nodes mid n no_place
       → Rewires mid new (ends_at ends l) e' (last pre) (first post) (first post) (last pre)
       → IsSound new (set ends l (record e' { len = e'.len - 1 })) (record rows { lists = set rows.lists l (pre ++ post) })
   IsSound-remove split puts rewires =
       let list : Linked nodes (ends_at ends l) l (pre ++ n ∷ post) = subst (Linked nodes (ends_at ends l) l) split (sound.linked l within) in
       let owner : owner_at nodes n ≡ Some l = some_of l (owner_at nodes n) (sym (list.owned n) ∙ has_right n pre (n ∷ post) (has_head n n post refl)) in
-      IsSound-node nodes mid new ends rows l n no_node pre post (ends_at ends l) e' (first post) (last pre) sound within puts rewires
+      IsSound-node nodes mid new ends rows l n no_place pre post (ends_at ends l) e' (first post) (last pre) sound within puts rewires
       (absent_around pre post n list.apart)
       (λ k absent. let both = absent_both k pre (n ∷ post) (ap (has k) (sym split) ∙ absent) in (both.0, (absent_parts n k post both.1).1))
       (λ m other. ap (is_some_of m) owner ∙ ne_eqb l m (λ same. other (sym same)))
@@ -314,7 +368,7 @@ last-append : (xs ys : List ℕ) → (if is_none (last ys) then last xs else las
 last-append xs [] = ap last (sym (append-nil xs))
 last-append xs (y ∷ ys) = cond-false _ _ _ (last_some y ys) ∙ sym (last_or-append None xs (y ∷ ys))
 
-module _ (nodes mid new : List Node) (ends : List Ends) (rows : Rows) (to from : ℕ) (e' : Ends) (back : Option ℕ) (sound : IsSound nodes ends rows) (to_within : to < length rows.lists) (from_within : from < length rows.lists) (other : to ≢ from) (gives : Gives nodes mid (Some to) (list_at from rows) []) (rewires : Rewires mid new (ends_at ends to) e' (last (list_at to rows)) (first (list_at from rows)) (first (list_at from rows)) (last (list_at to rows))) where
+module _ (nodes mid new : List Place) (ends : List Ends) (rows : Rows) (to from : ℕ) (e' : Ends) (back : Option ℕ) (sound : IsSound nodes ends rows) (to_within : to < length rows.lists) (from_within : from < length rows.lists) (other : to ≢ from) (gives : Gives nodes mid (Some to) (list_at from rows) []) (rewires : Rewires mid new (ends_at ends to) e' (last (list_at to rows)) (first (list_at from rows)) (first (list_at from rows)) (last (list_at to rows))) where
   -- the owners after the change
   moved_owner : (k : ℕ) → has k (list_at from rows) ≡ true → owner_at new k ≡ Some to
   moved_owner k there = rewires.owners k ∙ gives.owners k ∙ cond-true _ _ _ there

@@ -1,18 +1,21 @@
 -- A node joins a list before a given one, or leaves its list: the place, and what the writes leave.
-use Rattle.std.proofs.Common.{◌≡◌, ◌≢◌, ℕ, ◌+◌, ◌-◌, ◌<◌, ◌≤◌, true, ◌||◌, ◌==◌, List, [], ◌∷◌, ◌++◌, map, length, get_or, set, Option, Some, None, IsSome, is_none, if◌then◌else◌, refl, sym, ap, ◌∙◌, subst, inl, inr, arith}
+use Rattle.std.proofs.Common.{◌≡◌, ◌≢◌, ℕ, ◌+◌, ◌-◌, ◌<◌, ◌≤◌, true, ◌||◌, ◌==◌, List, [], ◌∷◌, ◌++◌, map, length, get_or, set, Option, Some, None, IsSome, is_none, if◌then◌else◌, refl, sym, ap, ◌∙◌, subst, inl, inr, arith, length-set}
 use Rattle.std.proofs.lemmas.Bool.{cond-true, eq-eqb, ne_eqb, or_cases, false≢true}
-use Rattle.std.proofs.lemmas.List.{append-nil, append_assoc, length-append}
+use Rattle.std.proofs.lemmas.List.{append-nil, append_assoc, length-append, length-map}
 use Rattle.std.proofs.lemmas.Option.{none-some}
 use Rattle.std.specs.Option.{option_map_or}
-use Rattle.strm_links.specs.declared.links.Node.{Node}
-use Rattle.strm_links.specs.declared.links.Ends.{Ends}
+use Rattle.strm_links.specs.declared.table.Node.{Node}
+use Rattle.strm_links.specs.declared.table.Place.{Place}
+use Rattle.strm_links.specs.declared.table.Ends.{Ends}
+use Rattle.strm_links.specs.declared.table.Table.{Table}
 use Rattle.strm_links.specs.Rows.{Rows, has, IsApart, is_some_of, first, last, after, before, without, put_before, put_in, list_at, holder}
-use Rattle.strm_links.specs.Layout.{no_node, no_ends, node_at, walk, owner_at, previous_at, next_at, ends_at, IsSound}
+use Rattle.strm_links.specs.Layout.{no_place, no_ends, place_at, walk, owner_at, previous_at, next_at, with_next, with_previous, ends_at, places_of, rows_in, IsLaid, IsSound}
 use Rattle.strm_links.proofs.lists.OneList.{has_tail, has_cases, has_left, has_right, upto, beyond, split_at, absent_upto, absent_around, before-at, after-at, without-at, put_before-at, has-append, has-push_back, has-put_before, IsApart-append, length_below, first_has, is_some_of-same, last_has, number_of}
-use Rattle.strm_links.proofs.linking.Changes.{Rewires-same, Gives, Puts, Rewires, Puts-set, IsSound-insert, IsSound-remove, IsSound-append}
+use Rattle.strm_links.proofs.linking.Carried.{place_read}
+use Rattle.strm_links.proofs.linking.Changes.{Rewires-both, Rewires-same, length-written, Gives, Puts, Puts-set, IsSound-insert, IsSound-remove, IsSound-append}
 use Rattle.strm_links.proofs.lists.AllLists.{map-without, holder-insert_here, holder-insert_other}
 use Rattle.strm_links.proofs.lists.ListLinks.{next_is, previous_is, walk_is}
-use Rattle.strm_links.proofs.linking.Shown.{node_read, holder-owner, owner_from, has_owned, listed_within, node_within, apart_all}
+use Rattle.strm_links.proofs.linking.Shown.{holder-owner, owner_from, has_owned, listed_within, node_within, apart_all}
 
 -- ---- the place before a node, or at the back
 
@@ -57,7 +60,7 @@ put_in-first n (x ∷ xs) = cond-true _ _ _ (eq-eqb x x refl)
 
 -- ---- neighbours
 
-module _ (nodes : List Node) (ends : List Ends) (rows : Rows) (sound : IsSound nodes ends rows) (l : ℕ) (within : l < length rows.lists) where
+module _ (nodes : List Place) (ends : List Ends) (rows : Rows) (sound : IsSound nodes ends rows) (l : ℕ) (within : l < length rows.lists) where
   -- the stored previous node is the last of those before k
   pub previous-last : (k : ℕ) → has k (list_at l rows) ≡ true → previous_at nodes k ≡ last (upto k (list_at l rows))
   previous-last k there =
@@ -82,7 +85,7 @@ module _ (nodes : List Node) (ends : List Ends) (rows : Rows) (sound : IsSound n
 
 -- ---- a node joins
 
-module _ (nodes : List Node) (ends : List Ends) (rows : Rows) (sound : IsSound nodes ends rows) (l n : ℕ) (next : Option ℕ) (within : l < length rows.lists) (inside : n < rows.nodes) (free : holder n rows ≡ None) (there : (at : ℕ) → next ≡ Some at → holder at rows ≡ Some l) where
+module _ (nodes : List Place) (ends : List Ends) (rows : Rows) (sound : IsSound nodes ends rows) (l n : ℕ) (next : Option ℕ) (within : l < length rows.lists) (inside : n < rows.nodes) (free : holder n rows ≡ None) (there : (at : ℕ) → next ≡ Some at → holder at rows ≡ Some l) where
   -- the node has no owner
   owner_none : owner_at nodes n ≡ None
   owner_none = sym (holder-owner nodes ends rows sound n) ∙ free
@@ -115,20 +118,24 @@ module _ (nodes : List Node) (ends : List Ends) (rows : Rows) (sound : IsSound n
       omega (arith, list.len, most, sound.node_count)
 
   -- the nodes and the ends are sound after the writes
-  pub IsSound-joined : (new : List Node) (list p own : Option ℕ) (e e' : Ends) → length new ≡ length nodes → list ≡ Some l → own ≡ Some n → e ≡ ends_at ends l → p ≡ option_map_or (λ k. previous_at nodes k) next e.back
-      → Rewires (set nodes n (record { list = list; previous = p; next = next })) new e e' p next own own
-      → IsSound new (set ends l (record e' { len = e'.len + 1 })) (record rows { lists = set rows.lists l (put_in next n (list_at l rows)) })
-  IsSound-joined new list p own e e' long list_is own_is e_is p_is rewires =
+  pub IsSound-joined : (list p own : Option ℕ) (e e1 e2 : Ends) → list ≡ Some l → own ≡ Some n → e ≡ ends_at ends l → p ≡ option_map_or (λ k. previous_at nodes k) next e.back
+      → e1 ≡ record e { front = (if is_none p then own else e.front) } → e2 ≡ record e1 { back = (if is_none next then own else e1.back) }
+      → IsSound (with_previous next own (with_next p own (set nodes n (record { list = list; previous = p; next = next })))) (set ends l (record e2 { len = e2.len + 1 })) (record rows { lists = set rows.lists l (put_in next n (list_at l rows)) })
+  IsSound-joined list p own e e1 e2 list_is own_is e_is p_is front back =
       let pre = pre_of next (list_at l rows) in
       let post = post_of next (list_at l rows) in
-      let mid = set nodes n (record { list = list; previous = p; next = next }) in
-      let ahead : p ≡ last pre = p_is ∙ ap (λ (f : Ends). option_map_or (λ k. previous_at nodes k) next f.back) e_is ∙ joined_ahead in
+      let x : Place = record { list = list; previous = p; next = next } in
+      let mid = set nodes n x in
+      let there : p ≡ option_map_or (λ k. previous_at nodes k) next (ends_at ends l).back = p_is ∙ ap (λ (f : Ends). option_map_or (λ k. previous_at nodes k) next f.back) e_is in
+      let ahead : p ≡ last pre = there ∙ joined_ahead in
       let on : next ≡ first post = sym (first-post_of (list_at l rows) next) in
       let puts : Puts nodes mid n (record { list = Some l; previous = last pre; next = first post }) =
-      subst (Puts nodes mid n) (λ i. record { list = list_is i; previous = ahead i; next = on i }) (Puts-set nodes n _ (omega (arith, inside, sound.node_count))) in
-      let written : Rewires mid new (ends_at ends l) e' (last pre) (first post) (Some n) (Some n) = Rewires-same rewires e_is ahead on own_is own_is in
+      subst (Puts nodes mid n) (λ i. record { list = list_is i; previous = ahead i; next = on i }) (Puts-set nodes n x (omega (arith, inside, sound.node_count))) in
+      let written = Rewires-same
+      (Rewires-both mid e e1 e2 p next own own (λ k is. omega (arith, length-set nodes n x, joined_ahead_within k (sym there ∙ is))) (λ at is. omega (arith, length-set nodes n x, joined_next_within at is)) front back)
+      e_is ahead on own_is own_is in
       rw (put_in-at (list_at l rows) next n joined_has)
-      (IsSound-insert nodes mid new ends rows l n pre post e' sound within long owner_none (split_is (list_at l rows) next joined_has) puts written)
+      (IsSound-insert nodes mid _ ends rows l n pre post e2 sound within (length-written mid p next own own ∙ length-set nodes n x) owner_none (split_is (list_at l rows) next joined_has) puts written)
 
   -- what the list has after the writes
   put_in_has : (k : ℕ) → has k (put_in next n (list_at l rows)) ≡ ((n == k) || has k (list_at l rows))
@@ -144,7 +151,7 @@ module _ (nodes : List Node) (ends : List Ends) (rows : Rows) (sound : IsSound n
 
 -- ---- what the stored ends and links name
 
-module _ (nodes : List Node) (ends : List Ends) (rows : Rows) (sound : IsSound nodes ends rows) (l : ℕ) (within : l < length rows.lists) (e : Ends) (e_is : e ≡ ends_at ends l) where
+module _ (nodes : List Place) (ends : List Ends) (rows : Rows) (sound : IsSound nodes ends rows) (l : ℕ) (within : l < length rows.lists) (e : Ends) (e_is : e ≡ ends_at ends l) where
   -- the stored ends are those of the list
   pub front_is : e.front ≡ first (list_at l rows)
   front_is = ap (λ (f : Ends). f.front) e_is ∙ (sound.linked l within).front
@@ -163,7 +170,7 @@ module _ (nodes : List Node) (ends : List Ends) (rows : Rows) (sound : IsSound n
   pub back_holder : (k : ℕ) → e.back ≡ Some k → holder k rows ≡ Some l
   back_holder k is = listed_holder k (last_has (list_at l rows) k (is_some_of-same k (last (list_at l rows)) (sym back_is ∙ is)))
 
-module _ (nodes : List Node) (ends : List Ends) (rows : Rows) (sound : IsSound nodes ends rows) where
+module _ (nodes : List Place) (ends : List Ends) (rows : Rows) (sound : IsSound nodes ends rows) where
   -- a node that a list holds is a node of the arena
   pub holder_within : (k l : ℕ) → holder k rows ≡ Some l → k < rows.nodes
   holder_within k l is = omega (arith, node_within nodes k l (sym (holder-owner nodes ends rows sound k) ∙ is), sound.node_count)
@@ -200,24 +207,29 @@ module _ (nodes : List Node) (ends : List Ends) (rows : Rows) (sound : IsSound n
 
 -- ---- a node that some list holds
 
-module _ (nodes : List Node) (ends : List Ends) (rows : Rows) (sound : IsSound nodes ends rows) (n : ℕ) (some : IsSome (holder n rows)) where
+module _ (nodes : List Place) (ends : List Ends) (rows : Rows) (sound : IsSound nodes ends rows) (n : ℕ) (some : IsSome (holder n rows)) where
   -- it is a node of the arena
   pub held_within : n < rows.nodes
   held_within =
       let list = number_of (holder n rows) some in
       omega (arith, node_within nodes n list.0 (sym (holder-owner nodes ends rows sound n) ∙ list.1), sound.node_count)
 
-  -- what the code reads is that node
-  pub held_node : (x : Node) → x ≡ get_or nodes n x → x ≡ node_at nodes n
-  held_node x read = node_read nodes ends rows sound n x held_within read
+module _ {L T : Type 0} (t : Table L T) (sound : IsLaid t) (n : ℕ) (some : IsSome (holder n (rows_in t))) where
+  pub held_low : n < length t.nodes.items
+  held_low = omega (arith, held_within _ _ _ sound n some, sound.node_count, length-map t.nodes.items (λ x. x.place))
 
-  -- the stored list holds it
-  pub held_list : (x : Node) → x ≡ get_or nodes n x → holder n rows ≡ x.list
-  held_list x read = holder-owner nodes ends rows sound n ∙ sym (ap (λ (y : Node). y.list) (held_node x read))
+  module _ (x : Node L T) (read : x ≡ get_or t.nodes.items n x) where
+    -- what the code reads is its place
+    pub held_place : x.place ≡ place_at (places_of t.nodes.items) n
+    held_place = place_read t.nodes.items n x held_low read
+
+    -- the stored list holds it
+    pub held_list : holder n (rows_in t) ≡ x.place.list
+    held_list = holder-owner _ _ _ sound n ∙ sym (ap (λ (p : Place). p.list) held_place)
 
 -- ---- a node leaves
 
-module _ (nodes : List Node) (ends : List Ends) (rows : Rows) (sound : IsSound nodes ends rows) (l n : ℕ) (is : holder n rows ≡ Some l) where
+module _ (nodes : List Place) (ends : List Ends) (rows : Rows) (sound : IsSound nodes ends rows) (l n : ℕ) (is : holder n rows ≡ Some l) where
   -- its stored owner is that list
   owner_is : owner_at nodes n ≡ Some l
   owner_is = sym (holder-owner nodes ends rows sound n) ∙ is
@@ -247,26 +259,30 @@ module _ (nodes : List Node) (ends : List Ends) (rows : Rows) (sound : IsSound n
   left_len = omega (arith, (sound.linked l left_list).len, ap length left_split, length-append (upto n (list_at l rows)) (n ∷ beyond n (list_at l rows)))
 
   -- the nodes and the ends are sound after the writes
-  pub IsSound-left : (new : List Node) (x free : Node) (e e' : Ends) → length new ≡ length nodes → x ≡ node_at nodes n → free ≡ no_node → e ≡ ends_at ends l
-      → Rewires (set nodes n free) new e e' x.previous x.next x.next x.previous
-      → IsSound new (set ends l (record e' { len = e'.len - 1 })) (record rows { lists = map (without n) rows.lists })
-  IsSound-left new x free e e' long x_is free_is e_is rewires =
+  pub IsSound-left : (x free : Place) (e e1 e2 : Ends) → x ≡ place_at nodes n → free ≡ no_place → e ≡ ends_at ends l
+      → e1 ≡ record e { front = (if is_none x.previous then x.next else e.front) } → e2 ≡ record e1 { back = (if is_none x.next then x.previous else e1.back) }
+      → IsSound (with_previous x.next x.previous (with_next x.previous x.next (set nodes n free))) (set ends l (record e2 { len = e2.len - 1 })) (record rows { lists = map (without n) rows.lists })
+  IsSound-left x free e e1 e2 x_is free_is e_is front back =
       let list = list_at l rows in
       let pre = upto n list in
       let post = beyond n list in
+      let mid = set nodes n free in
       let off = absent_around pre post n (subst IsApart left_split (sound.linked l left_list).apart) in
-      let behind : x.next ≡ first post = ap (λ (y : Node). y.next) x_is ∙ next-first nodes ends rows sound l left_list n left_has in
-      let ahead : x.previous ≡ last pre = ap (λ (y : Node). y.previous) x_is ∙ previous-last nodes ends rows sound l left_list n left_has in
-      let puts : Puts nodes (set nodes n free) n no_node = subst (Puts nodes (set nodes n free) n) free_is (Puts-set nodes n free left_node) in
-      let written : Rewires (set nodes n free) new (ends_at ends l) e' (last pre) (first post) (first post) (last pre) = Rewires-same rewires e_is ahead behind behind ahead in
+      let behind : x.next ≡ first post = ap (λ (y : Place). y.next) x_is ∙ next-first nodes ends rows sound l left_list n left_has in
+      let ahead : x.previous ≡ last pre = ap (λ (y : Place). y.previous) x_is ∙ previous-last nodes ends rows sound l left_list n left_has in
+      let puts : Puts nodes mid n no_place = subst (Puts nodes mid n) free_is (Puts-set nodes n free left_node) in
+      let written = Rewires-same
+      (Rewires-both mid e e1 e2 x.previous x.next x.next x.previous (λ k is. omega (arith, length-set nodes n free, left_previous k (sym (ap (λ (y : Place). y.previous) x_is) ∙ is)))
+      (λ k is. omega (arith, length-set nodes n free, left_next k (sym (ap (λ (y : Place). y.next) x_is) ∙ is))) front back)
+      e_is ahead behind behind ahead in
       let lists : map (without n) rows.lists ≡ set rows.lists l (pre ++ post) =
       map-without rows (apart_all nodes ends rows sound) n l is
       ∙ ap (set rows.lists l) (ap (without n) left_split ∙ without-at pre post n off.0 off.1) in
-      rw lists (IsSound-remove nodes (set nodes n free) new ends rows l n pre post e' sound left_list long left_split puts written)
+      rw lists (IsSound-remove nodes mid _ ends rows l n pre post e2 sound left_list (length-written mid x.previous x.next x.next x.previous ∙ length-set nodes n free) left_split puts written)
 
 -- ---- a list joins another
 
-module _ (nodes : List Node) (ends : List Ends) (rows : Rows) (sound : IsSound nodes ends rows) (l : ℕ) (within : l < length rows.lists) (e : Ends) (e_is : e ≡ ends_at ends l) where
+module _ (nodes : List Place) (ends : List Ends) (rows : Rows) (sound : IsSound nodes ends rows) (l : ℕ) (within : l < length rows.lists) (e : Ends) (e_is : e ≡ ends_at ends l) where
   -- the walk between the ends of a list finds it
   pub walk_list : walk (next_at nodes) e.len e.front ≡ list_at l rows
   walk_list =
@@ -283,7 +299,7 @@ module _ (nodes : List Node) (ends : List Ends) (rows : Rows) (sound : IsSound n
   pub back_within : (k : ℕ) → e.back ≡ Some k → k < length nodes
   back_within k is = last_within nodes ends rows sound l within (list_at l rows) [] k (sym (append-nil (list_at l rows))) (sym (ap (λ (f : Ends). f.back) e_is ∙ (sound.linked l within).back) ∙ is)
 
-module _ (nodes : List Node) (ends : List Ends) (rows : Rows) (sound : IsSound nodes ends rows) (to from : ℕ) (to_within : to < length rows.lists) (from_within : from < length rows.lists) (other : to ≢ from) where
+module _ (nodes : List Place) (ends : List Ends) (rows : Rows) (sound : IsSound nodes ends rows) (to from : ℕ) (to_within : to < length rows.lists) (from_within : from < length rows.lists) (other : to ≢ from) where
   -- two lists together are no longer than the number of nodes
   pub both_len : (ends_at ends to).len + (ends_at ends from).len ≤ rows.nodes
   both_len =
@@ -305,15 +321,16 @@ module _ (nodes : List Node) (ends : List Ends) (rows : Rows) (sound : IsSound n
       omega (arith, most, head.len, tail.len, sound.node_count, length-append xs ys)
 
   -- the nodes and the ends are sound after the writes
-  pub IsSound-appended : (mid new : List Node) (list : Option ℕ) (e f e' empty : Ends) (back : Option ℕ) → length new ≡ length nodes → list ≡ Some to → e ≡ ends_at ends to → f ≡ ends_at ends from → empty ≡ no_ends
+  pub IsSound-appended : (mid : List Place) (list : Option ℕ) (e f e1 e2 empty : Ends) (back : Option ℕ) → list ≡ Some to → e ≡ ends_at ends to → f ≡ ends_at ends from → empty ≡ no_ends
       → length mid ≡ length nodes
       → ((k : ℕ) → owner_at mid k ≡ (if has k (walk (next_at nodes) f.len f.front) then list else owner_at nodes k))
       → ((k : ℕ) → next_at mid k ≡ next_at nodes k)
       → ((k : ℕ) → previous_at mid k ≡ previous_at nodes k)
-      → Rewires mid new e e' e.back f.front f.front e.back
+      → e1 ≡ record e { front = (if is_none e.back then f.front else e.front) } → e2 ≡ record e1 { back = (if is_none f.front then e.back else e1.back) }
       → back ≡ (if is_none f.back then e.back else f.back)
-      → IsSound new (set (set ends to (record { len = e'.len + f.len; front = e'.front; back = back })) from empty) (record rows { lists = set (set rows.lists to (list_at to rows ++ list_at from rows)) from [] })
-  IsSound-appended mid new list e f e' empty back long list_is e_is f_is empty_is mid_long owners nexts previous rewires back_is =
+      → IsSound (with_previous f.front e.back (with_next e.back f.front mid)) (set (set ends to (record { len = e2.len + f.len; front = e2.front; back = back })) from empty)
+      (record rows { lists = set (set rows.lists to (list_at to rows ++ list_at from rows)) from [] })
+  IsSound-appended mid list e f e1 e2 empty back list_is e_is f_is empty_is mid_long owners nexts previous front_end back_end back_is =
       let head = sound.linked to to_within in
       let tail = sound.linked from from_within in
       let gives : Gives nodes mid (Some to) (list_at from rows) [] = record {
@@ -325,7 +342,10 @@ module _ (nodes : List Node) (ends : List Ends) (rows : Rows) (sound : IsSound n
       } in
       let end_is : e.back ≡ last (list_at to rows) = ap (λ (g : Ends). g.back) e_is ∙ head.back in
       let front_is : f.front ≡ first (list_at from rows) = ap (λ (g : Ends). g.front) f_is ∙ tail.front in
-      let written : Rewires mid new (ends_at ends to) e' (last (list_at to rows)) (first (list_at from rows)) (first (list_at from rows)) (last (list_at to rows)) = Rewires-same rewires e_is end_is front_is front_is end_is in
+      let written = Rewires-same
+      (Rewires-both mid e e1 e2 e.back f.front f.front e.back (λ k is. omega (arith, mid_long, back_within nodes ends rows sound to to_within e e_is k is)) (λ k is. omega (arith, mid_long, front_within nodes ends rows sound from from_within f f_is k is))
+      front_end back_end)
+      e_is end_is front_is front_is end_is in
       rw (empty_is, ap (λ (g : Ends). g.len) f_is)
-      (IsSound-append nodes mid new ends rows to from e' back sound to_within from_within other gives written long
+      (IsSound-append nodes mid _ ends rows to from e2 back sound to_within from_within other gives written (length-written mid e.back f.front f.front e.back ∙ mid_long)
       (back_is ∙ ap (λ o. if is_none o then e.back else o) (ap (λ (g : Ends). g.back) f_is ∙ tail.back) ∙ ap (λ o. if is_none (last (list_at from rows)) then o else last (list_at from rows)) end_is))

@@ -5,10 +5,10 @@ use Rattle.std.proofs.lemmas.List.{length-map, get_or-map, get_or_past, get_or_d
 use Rattle.std.proofs.lemmas.Option.{none-some, same_Some}
 use Rattle.std.specs.List.{concat, All}
 use Rattle.std.specs.Option.{option_map_or}
-use Rattle.strm_links.specs.declared.links.Node.{Node}
-use Rattle.strm_links.specs.declared.links.Ends.{Ends}
+use Rattle.strm_links.specs.declared.table.Place.{Place}
+use Rattle.strm_links.specs.declared.table.Ends.{Ends}
 use Rattle.strm_links.specs.Rows.{Rows, row_of, IsParting, has, IsApart, is_some_of, first, last, after, before, Reads, list_at, holder, next_in, previous_in, linked_nodes}
-use Rattle.strm_links.specs.Layout.{no_node, no_ends, node_at, owner_at, previous_at, next_at, ends_at, nodes_between, rows_of, IsLinked, IsSound}
+use Rattle.strm_links.specs.Layout.{no_place, no_ends, place_at, owner_at, previous_at, next_at, ends_at, nodes_between, rows_of, IsLinked, IsSound}
 use Rattle.strm_links.proofs.lists.OneList.{has_at, has-append, IsApart-append, is_some_of-same, some_of}
 use Rattle.strm_links.proofs.lists.AllLists.{holder_is}
 use Rattle.strm_links.proofs.lists.ListLinks.{walk_is, next_is, previous_is, Reads-on, Reads-back, LeadsOn-kept, LeadsBack-kept}
@@ -16,12 +16,12 @@ use Rattle.strm_links.proofs.lists.ListLinks.{walk_is, next_is, previous_is, Rea
 -- ---- the view
 
 -- the walk between the ends of a list finds it
-between_is : (nodes : List Node) (e : Ends) (l : ℕ) (xs : List ℕ) → IsLinked (owner_at nodes) (previous_at nodes) (next_at nodes) e l xs → nodes_between nodes e ≡ xs
+between_is : (nodes : List Place) (e : Ends) (l : ℕ) (xs : List ℕ) → IsLinked (owner_at nodes) (previous_at nodes) (next_at nodes) e l xs → nodes_between nodes e ≡ xs
 unfolding nodes_between
 between_is nodes e l xs linked = rw (linked.len, linked.front) (walk_is (next_at nodes) xs None linked.leads_on)
 
 -- a contract sees sound nodes and ends as the rows that they hold
-pub rows_of_is : (nodes : List Node) (ends : List Ends) (rows : Rows) → IsSound nodes ends rows → rows_of nodes ends ≡ rows
+pub rows_of_is : (nodes : List Place) (ends : List Ends) (rows : Rows) → IsSound nodes ends rows → rows_of nodes ends ≡ rows
 rows_of_is nodes ends rows sound =
     let lists : map (nodes_between nodes) ends ≡ rows.lists =
     same_lists _ _ (length-map ends (nodes_between nodes) ∙ sound.list_count)
@@ -33,31 +33,31 @@ rows_of_is nodes ends rows sound =
     λ i. record { nodes = sound.node_count i; lists = lists i }
 
 -- the stored invariant holds at the rows that a contract sees
-pub IsSound-rows : (nodes : List Node) (ends : List Ends) (rows : Rows) → rows_of nodes ends ≡ rows → IsSound nodes ends (rows_of nodes ends) → IsSound nodes ends rows
+pub IsSound-rows : (nodes : List Place) (ends : List Ends) (rows : Rows) → rows_of nodes ends ≡ rows → IsSound nodes ends (rows_of nodes ends) → IsSound nodes ends rows
 IsSound-rows nodes ends rows view sound = subst (IsSound nodes ends) view sound
 
 -- and the other way round
-pub IsSound-stored : (nodes : List Node) (ends : List Ends) (rows : Rows) → IsSound nodes ends rows → IsSound nodes ends (rows_of nodes ends)
+pub IsSound-stored : (nodes : List Place) (ends : List Ends) (rows : Rows) → IsSound nodes ends rows → IsSound nodes ends (rows_of nodes ends)
 IsSound-stored nodes ends rows sound = subst (IsSound nodes ends) (sym (rows_of_is nodes ends rows sound)) sound
 
 -- ---- what sound nodes and ends say
 
 -- a number with an owner is a node
-pub node_within : (nodes : List Node) (k l : ℕ) → owner_at nodes k ≡ Some l → k < length nodes
+pub node_within : (nodes : List Place) (k l : ℕ) → owner_at nodes k ≡ Some l → k < length nodes
 node_within nodes k l is =
     elim (cases_lt k (length nodes)) [
       | inl within ↦ within
-      | inr past ↦ absurd (none-some l (sym (ap (λ (n : Node). n.list) (get_or_past nodes k no_node past)) ∙ is))
+      | inr past ↦ absurd (none-some l (sym (ap (λ (n : Place). n.list) (get_or_past nodes k no_place past)) ∙ is))
     ]
 
-module _ (nodes : List Node) (ends : List Ends) (rows : Rows) (sound : IsSound nodes ends rows) where
+module _ (nodes : List Place) (ends : List Ends) (rows : Rows) (sound : IsSound nodes ends rows) where
   -- the list that holds a node is its stored owner
   pub holder-owner : (k : ℕ) → holder k rows ≡ owner_at nodes k
   holder-owner k = holder_is k rows (owner_at nodes k) (λ l within. (sound.linked l within).owned k) (sound.known k)
 
   -- the code reads the node, and the ends of the list, at its number
-  pub node_read : (k : ℕ) (x : Node) → k < rows.nodes → x ≡ get_or nodes k x → x ≡ node_at nodes k
-  node_read k x within read = get_or_read nodes k x (omega (arith, sound.node_count)) read no_node
+  pub node_read : (k : ℕ) (x : Place) → k < rows.nodes → x ≡ get_or nodes k x → x ≡ place_at nodes k
+  node_read k x within read = get_or_read nodes k x (omega (arith, sound.node_count)) read no_place
 
   pub ends_read : (l : ℕ) (e : Ends) → l < length rows.lists → e ≡ get_or ends l e → e ≡ ends_at ends l
   ends_read l e within read = get_or_read ends l e (omega (arith, sound.list_count)) read no_ends
@@ -150,7 +150,7 @@ module _ (owner : ℕ → Option ℕ) where
             absurd (omega (arith, same, later.1)));
       })
 
-module _ (nodes : List Node) (ends : List Ends) (rows : Rows) (sound : IsSound nodes ends rows) where
+module _ (nodes : List Place) (ends : List Ends) (rows : Rows) (sound : IsSound nodes ends rows) where
   -- the rows are such lists
   owns_all : Owns (owner_at nodes) 0 rows.lists
   unfolding Owns
@@ -172,24 +172,24 @@ module _ (nodes : List Node) (ends : List Ends) (rows : Rows) (sound : IsSound n
 -- ---- empty lists
 
 -- free nodes and empty lists are sound
-pub IsSound-new : (n m : ℕ) → n < 2 ^ 32 → m < 2 ^ 32 → IsSound (replicate n no_node) (replicate m no_ends) (record { nodes = n; lists = replicate m [] })
+pub IsSound-new : (n m : ℕ) → n < 2 ^ 32 → m < 2 ^ 32 → IsSound (replicate n no_place) (replicate m no_ends) (record { nodes = n; lists = replicate m [] })
 IsSound-new n m few_nodes few_lists =
-    let none : (k : ℕ) → node_at (replicate n no_node) k ≡ no_node =
+    let none : (k : ℕ) → place_at (replicate n no_place) k ≡ no_place =
     λ k. elim (cases_lt k n) [
-      | inl within ↦ get_or-replicate n k no_node no_node within
-      | inr past ↦ get_or_past (replicate n no_node) k no_node (omega (arith, length-replicate {A = Node} n no_node))
+      | inl within ↦ get_or-replicate n k no_place no_place within
+      | inr past ↦ get_or_past (replicate n no_place) k no_place (omega (arith, length-replicate {A = Place} n no_place))
     ] in
-    let free : (k : ℕ) → owner_at (replicate n no_node) k ≡ None = λ k. ap (λ (x : Node). x.list) (none k) in
+    let free : (k : ℕ) → owner_at (replicate n no_place) k ≡ None = λ k. ap (λ (x : Place). x.list) (none k) in
     let empty : List ℕ = [] in
     let lists : length (replicate m empty) ≡ m = length-replicate m empty in
     record {
-      node_count = length-replicate n no_node;
+      node_count = length-replicate n no_place;
       list_count = length-replicate m no_ends ∙ sym lists;
       few_nodes = few_nodes;
       few_lists = omega (arith, lists);
       known = λ k l is. absurd (none-some l (sym (free k) ∙ is));
-      free_next = λ k is. ap (λ (x : Node). x.next) (none k);
-      free_previous = λ k is. ap (λ (x : Node). x.previous) (none k);
+      free_next = λ k is. ap (λ (x : Place). x.next) (none k);
+      free_previous = λ k is. ap (λ (x : Place). x.previous) (none k);
       linked = λ l within.
           let inside : l < m = omega (arith, lists) in
           rw (get_or-replicate m l no_ends no_ends inside, get_or-replicate m l empty empty inside)
@@ -205,5 +205,5 @@ IsSound-new n m few_nodes few_lists =
     }
 
 -- sound nodes and ends hold each node at most once
-pub parts : (nodes : List Node) (ends : List Ends) (rows : Rows) → IsSound nodes ends rows → IsParting rows
+pub parts : (nodes : List Place) (ends : List Ends) (rows : Rows) → IsSound nodes ends rows → IsParting rows
 parts nodes ends rows sound = record { apart = apart_all nodes ends rows sound; within = in_range nodes ends rows sound }

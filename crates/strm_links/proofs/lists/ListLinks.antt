@@ -6,8 +6,7 @@ use Rattle.std.proofs.lemmas.Bool.Decides.{nat_tests}
 use Rattle.std.proofs.lemmas.List.{append-nil, append_assoc, reverse-append}
 use Rattle.std.proofs.lemmas.Option.{none-some, same_Some}
 use Rattle.strm_links.specs.Rows.{IsApart, has, is_some_of, first_or, last_or, first, last, after, before, before_from, Reads}
-use Rattle.strm_links.specs.Layout.{walk, LeadsOn, LeadsBack}
-use Rattle.strm_links.specs.StrandLayout.{node_onward}
+use Rattle.strm_links.specs.Layout.{walk, onward, LeadsOn, LeadsBack}
 use Rattle.strm_links.proofs.lists.OneList.{absent_around, after-at, before-at, has_head, has_tail, differ, ApartParts, first_or-append, first_off, last_off, last_or-append, absent_from, first_has, has_at, is_some_of-same, last_has, last_joined}
 
 -- ---- what the links say
@@ -164,34 +163,34 @@ link_last next (x ∷ []) b t is leads = ap next (sym (same_Some x t is)) ∙ le
 link_last next (x ∷ y ∷ ys) b t is leads = link_last next (y ∷ ys) b t is leads.1
 
 -- i steps lead to the node at place i
-pub onward-at : (next : ℕ → Option ℕ) (xs : List ℕ) (b : Option ℕ) (i : ℕ) → LeadsOn next xs b → i < length xs → node_onward next i (first_or b xs) ≡ Some (get_or xs i 0)
+pub onward-at : (next : ℕ → Option ℕ) (xs : List ℕ) (b : Option ℕ) (i : ℕ) → LeadsOn next xs b → i < length xs → onward next i (first_or b xs) ≡ Some (get_or xs i 0)
 onward-at next [] b i leads within = absurd (omega arith)
 onward-at next (x ∷ xs) b zero leads within = refl
-onward-at next (x ∷ xs) b (suc i) leads within = ap (node_onward next i) leads.0 ∙ onward-at next xs b i leads.1 (omega arith)
+onward-at next (x ∷ xs) b (suc i) leads within = ap (onward next i) leads.0 ∙ onward-at next xs b i leads.1 (omega arith)
 
 -- a step for each node leads past the last
-pub onward-end : (next : ℕ → Option ℕ) (xs : List ℕ) (b : Option ℕ) → LeadsOn next xs b → node_onward next (length xs) (first_or b xs) ≡ b
+pub onward-end : (next : ℕ → Option ℕ) (xs : List ℕ) (b : Option ℕ) → LeadsOn next xs b → onward next (length xs) (first_or b xs) ≡ b
 onward-end next [] b leads = refl
-onward-end next (x ∷ xs) b leads = ap (node_onward next (length xs)) leads.0 ∙ onward-end next xs b leads.1
+onward-end next (x ∷ xs) b leads = ap (onward next (length xs)) leads.0 ∙ onward-end next xs b leads.1
 
 -- n nodes that the links lead through are a linked list
-pub walk_from : (next : ℕ → Option ℕ) (n : ℕ) (at : Option ℕ) → at ≡ first_or (node_onward next n at) (walk next n at)
+pub walk_from : (next : ℕ → Option ℕ) (n : ℕ) (at : Option ℕ) → at ≡ first_or (onward next n at) (walk next n at)
 walk_from next zero at = refl
 walk_from next (suc n) None = refl
 walk_from next (suc n) (Some k) = refl
 
-pub LeadsOn-walk : (next : ℕ → Option ℕ) (n : ℕ) (at : Option ℕ) → LeadsOn next (walk next n at) (node_onward next n at)
+pub LeadsOn-walk : (next : ℕ → Option ℕ) (n : ℕ) (at : Option ℕ) → LeadsOn next (walk next n at) (onward next n at)
 LeadsOn-walk next zero at = tt
 LeadsOn-walk next (suc n) None = tt
 LeadsOn-walk next (suc n) (Some k) = (walk_from next n (next k), LeadsOn-walk next n (next k))
 
-onward-none : (next : ℕ → Option ℕ) (i : ℕ) → node_onward next i None ≡ None
+onward-none : (next : ℕ → Option ℕ) (i : ℕ) → onward next i None ≡ None
 onward-none next zero = refl
 onward-none next (suc i) = refl
 
 -- where one more step leads to a node, the link is some node
-pub onward_some : (next : ℕ → Option ℕ) (i at : ℕ) (o : Option ℕ) → o ≡ next at → IsSome (node_onward next (suc i) (Some at)) → IsSome o
-onward_some next i at None is some = absurd (false≢true (sym (ap is_some (ap (node_onward next i) (sym is) ∙ onward-none next i)) ∙ some))
+pub onward_some : (next : ℕ → Option ℕ) (i at : ℕ) (o : Option ℕ) → o ≡ next at → IsSome (onward next (suc i) (Some at)) → IsSome o
+onward_some next i at None is some = absurd (false≢true (sym (ap is_some (ap (onward next i) (sym is) ∙ onward-none next i)) ∙ some))
 onward_some next i at (Some k) is some = refl
 
 -- ---- links that are changed

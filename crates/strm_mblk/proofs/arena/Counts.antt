@@ -156,7 +156,7 @@ module _ (a : Arena) (parted : IsParted a) (h : ℕ) where
 
   -- a held message has a first block, which has its head
   pub has_head : (m : Message) → held_at a h ≡ Some m → (0 < length m) × (head_of m ≡ h)
-  has_head m is = subst (λ o. IfSome o (λ x. (0 < length x) × (head_of x ≡ h))) is (parted.heads h)
+  has_head m is = subst (λ o. IfSome o (λ x. (0 < length x) × (head_of x ≡ h))) is (parted.chains.heads h)
 
   -- each block of a held message counts once in all
   among : (m : Message) → held_at a h ≡ Some m → (n : ℕ) → count_by (number_is n) m ≤ blocks_numbered a n
@@ -177,7 +177,7 @@ module _ (a : Arena) (parted : IsParted a) (h : ℕ) where
     second_inside =
         in_range c.number (length a.held) (omega (
           arith,
-          parted.blocks c.number,
+          parted.chains.once c.number,
           times-all c.number a,
           among (b ∷ c ∷ cs) is c.number,
           counts_two c.number,
@@ -189,7 +189,7 @@ module _ (a : Arena) (parted : IsParted a) (h : ℕ) where
     second_other same =
         absurd (omega (
           arith,
-          parted.blocks c.number,
+          parted.chains.once c.number,
           one_most (nat_lt c.number (length a.held)),
           times-all c.number a,
           among (b ∷ c ∷ cs) is c.number,

@@ -56,10 +56,10 @@ head_once : (a : Arena) → IsParted a → (s n : ℕ) → times n (heads_at a s
 head_once a parted s n =
     omega (
       arith,
-      heads_count (shelf_at a s) n (parted.shelved s),
+      heads_count (shelf_at a s) n (parted.chains.shelved s),
       shelf_count a.shelves s n,
       blocks_in_adds (count_adds (number_is n)) a,
-      parted.blocks n,
+      parted.chains.once n,
       times-all n a,
     )
 

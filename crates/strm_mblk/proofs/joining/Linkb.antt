@@ -10,7 +10,7 @@ use Rattle.strm_mblk.specs.declared.blocks.Fields.{Fields}
 use Rattle.strm_mblk.specs.Arena.{references_to, Arena, shelved_blocks}
 use Rattle.strm_mblk.specs.Block.{uses_data}
 use Rattle.strm_mblk.specs.BlocksLayout.{IsFilled, arena_of, block_at, message_of}
-use Rattle.strm_mblk.specs.NodeLists.{IsNodesParted, NodeLists}
+use Rattle.strm_links.specs.ChainLists.{IsLawful, ChainLists}
 use Rattle.strm_mblk.specs.BlockCalls.{linkb}
 use Rattle.strm_mblk.specs.Messages.{chains_joined}
 use Rattle.strm_mblk.proofs.Lists.{count_by-map, count_same}
@@ -21,15 +21,15 @@ use Rattle.std.proofs.lemmas.Grind.{common_steps}
 
 -- ---- only held messages change
 
-module _ (id : ℕ) (s : CountedStore) (fields : List Fields) (v w : NodeLists) (filled : IsFilled s fields v (arena_of id s.store fields v))
-    (free : w.free ≡ v.free) (many : length w.held ≡ length v.held) (parted : IsNodesParted w) where
+module _ (id : ℕ) (s : CountedStore) (fields : List Fields) (v w : ChainLists) (filled : IsFilled s fields v (arena_of id s.store fields v))
+    (free : w.free ≡ v.free) (many : length w.held ≡ length v.held) (parted : IsLawful w) where
   -- the messages have the same numbers
   same_nodes : (n : ℕ) → times n (nodes_in w) ≡ times n (nodes_in v)
   same_nodes n =
       omega (
         arith,
-        filled.parted.once n,
-        parted.once n,
+        filled.parted.parts.once n,
+        parted.parts.once n,
         ap {B = ℕ} (λ l. if nat_lt n l then 1 else 0) many,
         times-append n v.free (nodes_in v),
         times-append n w.free (nodes_in w),
@@ -56,13 +56,13 @@ module _ (id : ℕ) (s : CountedStore) (fields : List Fields) (v w : NodeLists) 
 -- ==== `linkb`: a held message goes after another
 
 -- a is what was there; the other lists are what is there once the message at g is after the one at h
-pub record IsJoined (a : Arena) (s : CountedStore) (fields : List Fields) (w : NodeLists) (id h g : ℕ) : Type 0 where
+pub record IsJoined (a : Arena) (s : CountedStore) (fields : List Fields) (w : ChainLists) (id h g : ℕ) : Type 0 where
   pub filled : IsFilled s fields w (arena_of id s.store fields w)
   pub shelved : shelved_blocks (arena_of id s.store fields w) ≡ shelved_blocks a
   pub after : arena_of id s.store fields w ≡ linkb h g a
 
-module _ (id : ℕ) (s : CountedStore) (fields : List Fields) (v w : NodeLists) (filled : IsFilled s fields v (arena_of id s.store fields v)) (h g : ℕ) (other : h ≢ g)
-    (w_is : w ≡ record v { held = chains_joined h g v.held }) (parted : IsNodesParted w) where
+module _ (id : ℕ) (s : CountedStore) (fields : List Fields) (v w : ChainLists) (filled : IsFilled s fields v (arena_of id s.store fields v)) (h g : ℕ) (other : h ≢ g)
+    (w_is : w ≡ record v { held = chains_joined h g v.held }) (parted : IsLawful w) where
   abbrev old : Arena
   old = arena_of id s.store fields v
 
@@ -73,11 +73,11 @@ module _ (id : ℕ) (s : CountedStore) (fields : List Fields) (v w : NodeLists) 
   shows = grind (arith, common_steps, joined-seen)
 
   many : length w.held ≡ length v.held
-  many = ap (λ (l : NodeLists). length l.held) w_is ∙ length-set (slice_set v.held g None) h _ ∙ length-set v.held g None
+  many = ap (λ (l : ChainLists). length l.held) w_is ∙ length-set (slice_set v.held g None) h _ ∙ length-set v.held g None
 
   pub joins : IsJoined old s fields w id h g
   joins = record {
-    filled = moved_filled id s fields v w filled (ap (λ (l : NodeLists). l.free) w_is) many parted;
+    filled = moved_filled id s fields v w filled (ap (λ (l : ChainLists). l.free) w_is) many parted;
     shelved = ap shelved_blocks shows;
     after = shows ∙ ap (λ (b : Bool). if b then old else record old { held = chains_joined h g old.held }) (sym (ne_eqb h g other));
   }

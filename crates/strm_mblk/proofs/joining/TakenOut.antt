@@ -14,10 +14,10 @@ use Rattle.strm_mblk.specs.BlockCalls.{rmvb, rmvb_of}
 use Rattle.strm_mblk.specs.BlocksLayout.{IsFilled, arena_of, block_at, message_of}
 use Rattle.strm_mblk.specs.Given.{Given, answer_map, answer_of, or_rejected}
 use Rattle.strm_mblk.specs.Messages.{blocks_of, held_in}
-use Rattle.strm_mblk.specs.NodeLists.{IsNodesParted, NodeLists, nodes_at}
+use Rattle.strm_links.specs.ChainLists.{IsLawful, ChainLists, nodes_at}
 use Rattle.strm_mblk.proofs.Lists.{first_rest}
 use Rattle.strm_mblk.proofs.layout.Places.{token_held}
-use Rattle.strm_mblk.proofs.chaining.Seen.{begins_with, block_room, held_room, not_begun, not_head}
+use Rattle.strm_mblk.proofs.Nodes.{begins_with, block_room, held_room, not_begun, not_head}
 use Rattle.strm_mblk.proofs.joining.Linkb.{moved_filled}
 use Rattle.strm_mblk.proofs.layout.Shown.{held_at-seen, message_at-seen}
 use Rattle.std.proofs.lemmas.Grind.{common_steps}
@@ -29,7 +29,7 @@ first_kept zero n (x ∷ xs) ys some is = absurd (omega (arith, some))
 first_kept (suc k) n (x ∷ xs) ys some is = is
 
 -- a is what was there; the other lists are what is there once block n, at place k of the message at h, is a message
-pub record IsTakenOut (a : Arena) (s : CountedStore) (fields : List Fields) (w : NodeLists) (id h k n : ℕ) : Type 0 where
+pub record IsTakenOut (a : Arena) (s : CountedStore) (fields : List Fields) (w : ChainLists) (id h k n : ℕ) : Type 0 where
   pub filled : IsFilled s fields w (arena_of id s.store fields w)
   pub shelved : shelved_blocks (arena_of id s.store fields w) ≡ shelved_blocks a
   pub value : rmvb h k a ≡ Ok ((n, Some h), arena_of id s.store fields w)
@@ -38,9 +38,9 @@ pub record IsTakenOut (a : Arena) (s : CountedStore) (fields : List Fields) (w :
   pub absent : held_at a n ≡ None
   pub apart : n ≢ h
 
-module _ (id : ℕ) (s : CountedStore) (fields : List Fields) (v w : NodeLists) (filled : IsFilled s fields v (arena_of id s.store fields v)) (h k n : ℕ)
+module _ (id : ℕ) (s : CountedStore) (fields : List Fields) (v w : ChainLists) (filled : IsFilled s fields v (arena_of id s.store fields v)) (h k n : ℕ)
     (held : held_in v.held h ≡ Some (nodes_at v h)) (at : slice_get (nodes_at v h) k ≡ Some n) (behind_first : 0 < k)
-    (w_is : w ≡ record v { held = set (set v.held h (Some (take k (nodes_at v h) ++ drop (k + 1) (nodes_at v h)))) n (Some (n ∷ [])) }) (parted : IsNodesParted w) where
+    (w_is : w ≡ record v { held = set (set v.held h (Some (take k (nodes_at v h) ++ drop (k + 1) (nodes_at v h)))) n (Some (n ∷ [])) }) (parted : IsLawful w) where
   abbrev old : Arena
   old = arena_of id s.store fields v
 
@@ -68,13 +68,13 @@ module _ (id : ℕ) (s : CountedStore) (fields : List Fields) (v w : NodeLists) 
   shows = grind (arith, common_steps, lists_are, held_seen)
 
   many : length w.held ≡ length v.held
-  many = ap (λ (l : NodeLists). length l.held) lists_are ∙ length-set (set v.held h _) n _ ∙ length-set v.held h _
+  many = ap (λ (l : ChainLists). length l.held) lists_are ∙ length-set (set v.held h _) n _ ∙ length-set v.held h _
 
   head_inside : h < length old.held
   head_inside = omega (arith, held_room v h (nodes_at v h) held, length-map v.held (option_map (message_of fields)))
 
   block_inside : n < length (set old.held h (Some (message_of fields (h ∷ behind))))
-  block_inside = grind (arith, common_steps, block_room, length-map, length-set)
+  block_inside = omega (arith, block_room v filled.parted h k n (nodes_at v h) held at, length-map v.held (option_map (message_of fields)), length-set old.held h (Some (message_of fields (h ∷ behind))))
 
   block_held : held_at (arena_of id s.store fields w) n ≡ Some (block_at fields n ∷ [])
   block_held = ap (λ a. held_at a n) shows ∙ get_or-set_same (set old.held h (Some (message_of fields (h ∷ behind)))) n _ None block_inside
@@ -91,7 +91,7 @@ module _ (id : ℕ) (s : CountedStore) (fields : List Fields) (v w : NodeLists) 
 
   pub takes_out : IsTakenOut old s fields w id h k n
   takes_out = record {
-    filled = moved_filled id s fields v w filled (ap (λ (l : NodeLists). l.free) lists_are) many parted;
+    filled = moved_filled id s fields v w filled (ap (λ (l : ChainLists). l.free) lists_are) many parted;
     shelved = ap shelved_blocks shows;
     value =
         ap (λ m. rmvb_of h old m (slice_get (message_at old h) k)) (others_seen (message_at old h) (message_at-seen id s.store fields v h))
@@ -107,9 +107,9 @@ module _ (id : ℕ) (s : CountedStore) (fields : List Fields) (v w : NodeLists) 
 -- ---- as the code finds the block
 
 -- block n was at place k of the message that the token names, and isn't its first
-module _ (id : ℕ) (s : CountedStore) (fields : List Fields) (v : NodeLists) (filled : IsFilled s fields v (arena_of id s.store fields v)) (a : Arena) (is : arena_of id s.store fields v ≡ a)
+module _ (id : ℕ) (s : CountedStore) (fields : List Fields) (v : ChainLists) (filled : IsFilled s fields v (arena_of id s.store fields v)) (a : Arena) (is : arena_of id s.store fields v ≡ a)
     (t : TokenValue) (had : has a t ≡ true) (e k n : ℕ) (e_is : e ≡ t.head) (at : slice_get (nodes_at v e) k ≡ Some n) (behind : 0 < k) where
-  pub is_taken_out : (w : NodeLists) → w ≡ record v { held = set (set v.held e (Some (take k (nodes_at v e) ++ drop (k + 1) (nodes_at v e)))) n (Some (n ∷ [])) } → IsNodesParted w
+  pub is_taken_out : (w : ChainLists) → w ≡ record v { held = set (set v.held e (Some (take k (nodes_at v e) ++ drop (k + 1) (nodes_at v e)))) n (Some (n ∷ [])) } → IsLawful w
       → IsTakenOut a s fields w id t.head k n
   is_taken_out w w_is parted =
       subst (λ x. IsTakenOut x s fields w id t.head k n) is

@@ -12,8 +12,8 @@ use Rattle.strm_mblk.specs.Block.{Block}
 use Rattle.strm_mblk.specs.BlockCalls.{head_in, unlinkb}
 use Rattle.strm_mblk.specs.BlocksLayout.{IsFilled, arena_of, block_at, message_of}
 use Rattle.strm_mblk.specs.Messages.{blocks_of, chain_divided, held_in}
-use Rattle.strm_mblk.specs.NodeLists.{IsNodesParted, NodeLists, nodes_at}
-use Rattle.strm_mblk.proofs.chaining.Seen.{begins_with, block_room, held_room, not_begun, not_head}
+use Rattle.strm_links.specs.ChainLists.{IsLawful, ChainLists, nodes_at}
+use Rattle.strm_mblk.proofs.Nodes.{begins_with, block_room, held_room, not_begun, not_head}
 use Rattle.strm_mblk.proofs.joining.Linkb.{moved_filled}
 use Rattle.strm_mblk.proofs.layout.Shown.{held_at-seen, message_at-seen}
 use Rattle.std.proofs.lemmas.Grind.{common_steps}
@@ -25,7 +25,7 @@ two_rest (x ∷ []) h g begins at = absurd (none-some g at)
 two_rest (x ∷ y ∷ ns) h g begins at = λ i. same_Some x h begins i ∷ same_Some y g at i ∷ ns
 
 -- a is what was there; the other lists are what is there once the blocks after the first of the message at h are one at g
-pub record IsDivided (a : Arena) (s : CountedStore) (fields : List Fields) (w : NodeLists) (id h g : ℕ) : Type 0 where
+pub record IsDivided (a : Arena) (s : CountedStore) (fields : List Fields) (w : ChainLists) (id h g : ℕ) : Type 0 where
   pub filled : IsFilled s fields w (arena_of id s.store fields w)
   pub shelved : shelved_blocks (arena_of id s.store fields w) ≡ shelved_blocks a
   pub after : arena_of id s.store fields w ≡ record a { held = chain_divided (λ (b : Block). b.number) h (message_at a h) a.held }
@@ -34,9 +34,9 @@ pub record IsDivided (a : Arena) (s : CountedStore) (fields : List Fields) (w : 
   pub absent : held_at a g ≡ None
   pub given : (unlinkb h a).0 ≡ Some g
 
-module _ (id : ℕ) (s : CountedStore) (fields : List Fields) (v w : NodeLists) (filled : IsFilled s fields v (arena_of id s.store fields v)) (h g : ℕ)
+module _ (id : ℕ) (s : CountedStore) (fields : List Fields) (v w : ChainLists) (filled : IsFilled s fields v (arena_of id s.store fields v)) (h g : ℕ)
     (held : held_in v.held h ≡ Some (nodes_at v h)) (at : slice_get (nodes_at v h) 1 ≡ Some g)
-    (w_is : w ≡ record v { held = chain_divided (λ n. n) h (nodes_at v h) v.held }) (parted : IsNodesParted w) where
+    (w_is : w ≡ record v { held = chain_divided (λ n. n) h (nodes_at v h) v.held }) (parted : IsLawful w) where
   abbrev old : Arena
   old = arena_of id s.store fields v
 
@@ -60,7 +60,7 @@ module _ (id : ℕ) (s : CountedStore) (fields : List Fields) (v w : NodeLists) 
   shows = grind (arith, common_steps, lists_are, held_seen)
 
   many : length w.held ≡ length v.held
-  many = ap (λ (l : NodeLists). length l.held) lists_are ∙ length-set (set v.held h _) g _ ∙ length-set v.held h _
+  many = ap (λ (l : ChainLists). length l.held) lists_are ∙ length-set (set v.held h _) g _ ∙ length-set v.held h _
 
   head_inside : h < length old.held
   head_inside = omega (arith, held_room v h (nodes_at v h) held, length-map v.held (option_map (message_of fields)))
@@ -73,7 +73,7 @@ module _ (id : ℕ) (s : CountedStore) (fields : List Fields) (v w : NodeLists) 
 
   pub divides : IsDivided old s fields w id h g
   divides = record {
-    filled = moved_filled id s fields v w filled (ap (λ (l : NodeLists). l.free) lists_are) many parted;
+    filled = moved_filled id s fields v w filled (ap (λ (l : ChainLists). l.free) lists_are) many parted;
     shelved = ap shelved_blocks shows;
     after =
         shows

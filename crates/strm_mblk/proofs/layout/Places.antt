@@ -1,5 +1,5 @@
 -- Blocks of a held message: where they are in memory, and one rewritten.
-use Rattle.std.proofs.Common.{get_or, ◌≡◌, ℕ, zero, suc, ◌+◌, ◌<◌, ◌≤◌, List, [], ◌∷◌, map, length, set, Option, Some, None, refl, sym, ap, ◌∙◌, arith, get_or-set_same, get_or-set_other, length-set, true}
+use Rattle.std.proofs.Common.{get_or, ◌≡◌, ℕ, zero, suc, ◌+◌, ◌<◌, ◌≤◌, List, [], ◌∷◌, map, length, set, Option, Some, None, refl, sym, ap, ◌∙◌, arith, get_or-set_same, get_or-set_other, length-set, true, subst}
 use Rattle.std.specs.Prelude.{count_by, option_map, slice_get, take, unwrap_or}
 use Rattle.std.proofs.lemmas.Option.{same_Some, none-some, slice_get-get_or, slice_get-map, unwrap_or-slice_get}
 use Rattle.std.specs.Option.{IsSome, is_some}
@@ -12,15 +12,15 @@ use Rattle.strm_links.proofs.lists.Counting.{times_here, times_other}
 use Rattle.strm_mblk.specs.declared.blocks.Fields.{Fields}
 use Rattle.strm_mblk.specs.Arena.{held_at, Arena, has, message_at, references_to, token_of}
 use Rattle.strm_mblk.specs.Block.{Message, uses_data, Block}
-use Rattle.strm_mblk.specs.BlocksLayout.{IsFilled, IsPlaced, arena_of, block_at, fields_at, message_of, data_used_by, no_fields}
+use Rattle.strm_mblk.specs.BlocksLayout.{IsFilled, IsPlaced, arena_of, block_at, fields_at, message_of, data_used_by, no_fields, IsReached}
 use Rattle.strm_mblk.specs.Messages.{blocks_held, blocks_on, held_in, blocks_of}
-use Rattle.strm_mblk.specs.NodeLists.{NodeLists, IsReached, nodes_at}
+use Rattle.strm_links.specs.ChainLists.{ChainLists, nodes_at}
 use Rattle.strm_mblk.specs.declared.token.TokenValue.{TokenValue}
 use Rattle.strm_mblk.proofs.layout.Shown.{AreAlike, alike_each, alike_off, alike_parts, blocks_in-seen, held-alike, held_at-seen, message-alike, nodes_in, option-alike, shelves-alike, message_at-seen}
 use Rattle.strm_mblk.proofs.Freeing.{naming-named}
 use Rattle.strm_mblk.proofs.Lists.{in_range, times_at, at_first}
 use Rattle.strm_mblk.proofs.layout.Rooms.{HasRooms, placed-set}
-use Rattle.strm_mblk.proofs.chaining.Seen.{all_parts, begins_with, held_parts, one_of_all}
+use Rattle.strm_mblk.proofs.Nodes.{all_parts, begins_with, held_parts, one_of_all}
 use Rattle.strm_mblk.proofs.arena.Counts.{had_message, held_is, token_had}
 use Rattle.std.proofs.lemmas.Grind.{common_steps}
 
@@ -60,7 +60,7 @@ pub named-same : (old new : List Fields) → ((n : ℕ) → (fields_at new n).da
 named-same old new same [] = refl
 named-same old new same (n ∷ ns) = λ i. same n i ∷ named-same old new same ns i
 
-module _ (id : ℕ) (s : CountedStore) (fields : List Fields) (v : NodeLists) (filled : IsFilled s fields v (arena_of id s.store fields v)) (h : ℕ) (ns : List ℕ) (held : held_in v.held h ≡ Some ns) where
+module _ (id : ℕ) (s : CountedStore) (fields : List Fields) (v : ChainLists) (filled : IsFilled s fields v (arena_of id s.store fields v)) (h : ℕ) (ns : List ℕ) (held : held_in v.held h ≡ Some ns) where
   begins : first ns ≡ Some h
   begins = begins_with v filled.parted h ns held
 
@@ -95,7 +95,7 @@ module _ (id : ℕ) (s : CountedStore) (fields : List Fields) (v : NodeLists) (f
 
 -- ---- one of them
 
-module _ (id : ℕ) (s : CountedStore) (fields : List Fields) (v : NodeLists) (filled : IsFilled s fields v (arena_of id s.store fields v))
+module _ (id : ℕ) (s : CountedStore) (fields : List Fields) (v : ChainLists) (filled : IsFilled s fields v (arena_of id s.store fields v))
     (h k n : ℕ) (ns : List ℕ) (held : held_in v.held h ≡ Some ns) (at : slice_get ns k ≡ Some n) where
   -- the block itself is one of those that there are
   pub node_room : n < length fields
@@ -127,11 +127,11 @@ module _ (id : ℕ) (s : CountedStore) (fields : List Fields) (v : NodeLists) (f
 -- ---- the message that a token names
 
 -- the numbers of a message that is held
-pub record AreHeld (fields : List Fields) (v : NodeLists) (h : ℕ) (m : Message) (ns : List ℕ) : Type 0 where
+pub record AreHeld (fields : List Fields) (v : ChainLists) (h : ℕ) (m : Message) (ns : List ℕ) : Type 0 where
   pub held : held_in v.held h ≡ Some ns
   pub message : m ≡ message_of fields ns
 
-pub held_nodes : (id : ℕ) (s : DataStore) (fields : List Fields) (v : NodeLists) (h : ℕ) (m : Message) → held_at (arena_of id s fields v) h ≡ Some m → (ns : List ℕ) × AreHeld fields v h m ns
+pub held_nodes : (id : ℕ) (s : DataStore) (fields : List Fields) (v : ChainLists) (h : ℕ) (m : Message) → held_at (arena_of id s fields v) h ≡ Some m → (ns : List ℕ) × AreHeld fields v h m ns
 held_nodes id s fields v h m is = of_nodes (held_in v.held h) refl
   where
     of_nodes : (o : Option (List ℕ)) → held_in v.held h ≡ o → (ns : List ℕ) × AreHeld fields v h m ns
@@ -141,31 +141,31 @@ held_nodes id s fields v h m is = of_nodes (held_in v.held h) refl
 -- ==== the blocks of a held message by their place, as the code finds them
 
 -- the numbers of the message that a token names
-pub token_nodes : (id : ℕ) (s : CountedStore) (fields : List Fields) (v : NodeLists) (t : TokenValue) → has (arena_of id s.store fields v) t ≡ true
+pub token_nodes : (id : ℕ) (s : CountedStore) (fields : List Fields) (v : ChainLists) (t : TokenValue) → has (arena_of id s.store fields v) t ≡ true
     → (held_in v.held t.head ≡ Some (nodes_at v t.head)) × (t.blocks ≡ length (nodes_at v t.head))
 token_nodes id s fields v t is = grind (arith, common_steps, had_message, held_nodes, length-map)
 
 -- the same where the token is known under another name
-pub token_held : (id : ℕ) (s : CountedStore) (fields : List Fields) (v : NodeLists) (a : Arena) → arena_of id s.store fields v ≡ a → (t u : TokenValue) → u ≡ t → has a t ≡ true
+pub token_held : (id : ℕ) (s : CountedStore) (fields : List Fields) (v : ChainLists) (a : Arena) → arena_of id s.store fields v ≡ a → (t u : TokenValue) → u ≡ t → has a t ≡ true
     → held_in v.held u.head ≡ Some (nodes_at v u.head)
 token_held id s fields v a is t u same had = grind (arith, common_steps, token_nodes)
 
 -- it has as many blocks as the token says
-pub token_counted : (id : ℕ) (s : CountedStore) (fields : List Fields) (v : NodeLists) (a : Arena) → arena_of id s.store fields v ≡ a → (t u : TokenValue) → u ≡ t → has a t ≡ true
+pub token_counted : (id : ℕ) (s : CountedStore) (fields : List Fields) (v : ChainLists) (a : Arena) → arena_of id s.store fields v ≡ a → (t u : TokenValue) → u ≡ t → has a t ≡ true
     → u.blocks ≡ length (nodes_at v u.head)
 token_counted id s fields v a is t u same had = grind (arith, common_steps, token_nodes)
 
 -- and the data blocks that it uses are those of as many blocks as the token says
-pub token_named : (id : ℕ) (s : CountedStore) (fields : List Fields) (v : NodeLists) (a : Arena) → arena_of id s.store fields v ≡ a → (t u : TokenValue) → u ≡ t → has a t ≡ true
+pub token_named : (id : ℕ) (s : CountedStore) (fields : List Fields) (v : ChainLists) (a : Arena) → arena_of id s.store fields v ≡ a → (t u : TokenValue) → u ≡ t → has a t ≡ true
     → take u.blocks (data_used_by fields (nodes_at v u.head)) ≡ data_used_by fields (nodes_at v u.head)
 token_named id s fields v a is t u same had = grind (arith, common_steps, token_nodes, length-map, take-length)
 
 -- a held message has a place in range
-pub nodes_room : (v : NodeLists) (h n : ℕ) → slice_get (nodes_at v h) 0 ≡ Some n → h < length v.held
+pub nodes_room : (v : ChainLists) (h n : ℕ) → slice_get (nodes_at v h) 0 ≡ Some n → h < length v.held
 nodes_room v h n is = grind (arith, common_steps, none-some, get_or_past)
 
 -- block n is at place k of the message that a token names
-pub record IsAt (s : CountedStore) (fields : List Fields) (v : NodeLists) (a : Arena) (h k n : ℕ) (ns : List ℕ) : Type 0 where
+pub record IsAt (s : CountedStore) (fields : List Fields) (v : ChainLists) (a : Arena) (h k n : ℕ) (ns : List ℕ) : Type 0 where
   pub held : held_in v.held h ≡ Some ns
   pub at : slice_get ns k ≡ Some n
   pub message : message_at a h ≡ message_of fields ns
@@ -174,7 +174,7 @@ pub record IsAt (s : CountedStore) (fields : List Fields) (v : NodeLists) (a : A
   pub placed : IsPlaced s.store (fields_at fields n)
   pub named : count_of s (fields_at fields n).data_number ≡ references_to a (fields_at fields n).data_number
 
-module _ (id : ℕ) (s : CountedStore) (fields : List Fields) (v : NodeLists) (filled : IsFilled s fields v (arena_of id s.store fields v)) (a : Arena) (is : arena_of id s.store fields v ≡ a) (h k : ℕ) where
+module _ (id : ℕ) (s : CountedStore) (fields : List Fields) (v : ChainLists) (filled : IsFilled s fields v (arena_of id s.store fields v)) (a : Arena) (is : arena_of id s.store fields v ≡ a) (h k : ℕ) where
   -- the block at place k, if the message has more than k
   block-get : slice_get (message_at a h) k ≡ option_map (block_at fields) (slice_get (nodes_at v h) k)
   block-get = grind (arith, common_steps, message_at-seen, slice_get-map)
@@ -228,18 +228,22 @@ module _ (id : ℕ) (s : CountedStore) (fields : List Fields) (v : NodeLists) (f
       here within = slice_get-get_or (nodes_at v h) k d within ∙ ap Some (sym (found ∙ unwrap_or-slice_get (nodes_at v h) k d))
 
 -- the message at h is held
-pub record IsHeldHead (fields : List Fields) (v : NodeLists) (h : ℕ) : Type 0 where
+pub record IsHeldHead (fields : List Fields) (v : ChainLists) (h : ℕ) : Type 0 where
   pub held : held_in v.held h ≡ Some (nodes_at v h)
   pub first : slice_get (nodes_at v h) 0 ≡ Some h
   pub there : h < length fields
 
-pub seen_head : (id : ℕ) (s : CountedStore) (fields : List Fields) (v : NodeLists) → IsFilled s fields v (arena_of id s.store fields v) → (h : ℕ) (a : Arena) → arena_of id s.store fields v ≡ a → IsSome (held_at a h)
+pub seen_head : (id : ℕ) (s : CountedStore) (fields : List Fields) (v : ChainLists) → IsFilled s fields v (arena_of id s.store fields v) → (h : ℕ) (a : Arena) → arena_of id s.store fields v ≡ a → IsSome (held_at a h)
     → IsHeldHead fields v h
 seen_head id s fields v filled h a is some = grind (arith, common_steps, held_nodes, held_is, at_first, begins_with, node_room)
 
 -- a walk begins at the head
-pub reached_head : (id : ℕ) (s : CountedStore) (fields : List Fields) (v : NodeLists) → IsFilled s fields v (arena_of id s.store fields v) → (a : Arena) → arena_of id s.store fields v ≡ a
+pub reached_head : (id : ℕ) (s : CountedStore) (fields : List Fields) (v : ChainLists) → IsFilled s fields v (arena_of id s.store fields v) → (a : Arena) → arena_of id s.store fields v ≡ a
     → (t : TokenValue) → has a t ≡ true → (n : ℕ) → n ≡ t.head → IsReached v t.head 0 n
 reached_head id s fields v filled a is t had n same =
     let head = seen_head id s fields v filled t.head a is (ap is_some (had_message a t had).1.held) in
     record { here = λ some. head.first ∙ ap Some (sym same); in_range = λ some. omega (arith, head.there, filled.listed, same) }
+
+-- a walk goes on as before, whatever message blocks store
+pub still_on : {v w : ChainLists} {n m : ℕ} → v ≡ w → ((h i : ℕ) → IsReached v h i n → IsReached v h (i + 1) m) → (h i : ℕ) → IsReached w h i n → IsReached w h (i + 1) m
+still_on {n = n} {m = m} same on = subst (λ v. (h i : ℕ) → IsReached v h i n → IsReached v h (i + 1) m) same on

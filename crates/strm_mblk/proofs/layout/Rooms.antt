@@ -16,7 +16,7 @@ use Rattle.strm_data.specs.Classes.{are_lawful, total_of}
 use Rattle.strm_data.proofs.store.Opening.{length-blocks_from}
 use Rattle.strm_mblk.specs.declared.blocks.Fields.{Fields}
 use Rattle.strm_mblk.specs.BlocksLayout.{IsFilled, IsPlaced, arena_of, fields_at, no_fields}
-use Rattle.strm_mblk.specs.NodeLists.{NodeLists, IsNodesParted, opening_nodes}
+use Rattle.strm_links.specs.ChainLists.{ChainLists, IsLawful, opening_chains}
 use Rattle.strm_mblk.specs.Block.{Block, bytes_of, bytes_of_block, Message}
 use Rattle.strm_mblk.specs.Arena.{blocks_in, opening_arena, shelved_blocks}
 use Rattle.strm_mblk.specs.Limits.{most_message_blocks}
@@ -60,7 +60,7 @@ pub count_of-set : (s : CountedStore) (store : DataStore) (d n k : ℕ) → d < 
 count_of-set s store d n k inside = grind (arith, common_steps, eqb_tells, get_or-set_same, get_or-set_other)
 
 -- data blocks say something else, and as many message blocks name each of them
-pub filled-over : (id : ℕ) (s t : CountedStore) (fields : List Fields) (v : NodeLists) → IsFilled s fields v (arena_of id s.store fields v) → IsKept t → t.counts ≡ s.counts → HasRooms s.store t.store
+pub filled-over : (id : ℕ) (s t : CountedStore) (fields : List Fields) (v : ChainLists) → IsFilled s fields v (arena_of id s.store fields v) → IsKept t → t.counts ≡ s.counts → HasRooms s.store t.store
     → IsFilled t fields v (arena_of id t.store fields v)
 filled-over id s t fields v filled kept counts rooms = grind (arith, common_steps, placed-over)
 
@@ -89,23 +89,23 @@ module _ (s t : DataStore) (same : HaveBytes s t) where
 
 -- ==== the fewest free blocks: what is sound once they are reset
 
-pub reset_filled : (id : ℕ) (s : CountedStore) (fields : List Fields) (v : NodeLists) → IsFilled s fields v (arena_of id s.store fields v)
-    → (t : CountedStore) (w : NodeLists) → t ≡ record s { store = with_data_reset s.store } → IsKept t → w ≡ record v { least = length v.free } → IsNodesParted w
+pub reset_filled : (id : ℕ) (s : CountedStore) (fields : List Fields) (v : ChainLists) → IsFilled s fields v (arena_of id s.store fields v)
+    → (t : CountedStore) (w : ChainLists) → t ≡ record s { store = with_data_reset s.store } → IsKept t → w ≡ record v { least = length v.free } → IsLawful w
     → IsFilled t fields w (arena_of id t.store fields w)
 reset_filled id s fields v filled t w t_is kept w_is parted =
     let reset : CountedStore = record s { store = with_data_reset s.store } in
-    let lists : NodeLists = record v { least = length v.free } in
+    let lists : ChainLists = record v { least = length v.free } in
     let now : IsFilled reset fields lists (arena_of id reset.store fields lists) =
     record {
       kept = subst IsKept t_is kept;
-      parted = subst IsNodesParted w_is parted;
+      parted = subst IsLawful w_is parted;
       few = filled.few;
       listed = filled.listed;
       placed = λ n within. let placed = filled.placed n within in record { there = placed.there; within = placed.within; banded = placed.banded };
       counts = filled.counts;
     } in
     let both : (t, w) ≡ (reset, lists) = λ i. (t_is i, w_is i) in
-    subst (λ (p : CountedStore × NodeLists). IsFilled p.0 fields p.1 (arena_of id p.0.store fields p.1)) (sym both) now
+    subst (λ (p : CountedStore × ChainLists). IsFilled p.0 fields p.1 (arena_of id p.0.store fields p.1)) (sym both) now
 
 -- ==== `Blocks::new`: what is opened is sound
 
@@ -114,7 +114,7 @@ some_total : (cs : List ClassSpec) → IsTrue (are_lawful cs) → 0 < total_of c
 some_total [] lawful = absurd (false≢true lawful)
 some_total (c ∷ cs) lawful = grind (arith, common_steps, and_parts, ltb-true, sum_by-append)
 
-module _ (id mblks shelves : ℕ) (classes : List ClassSpec) (s : CountedStore) (fields : List Fields) (v : NodeLists) (s_is : s ≡ opening_counted classes) (fields_are : fields ≡ replicate mblks no_fields) (v_is : v ≡ opening_nodes mblks shelves) where
+module _ (id mblks shelves : ℕ) (classes : List ClassSpec) (s : CountedStore) (fields : List Fields) (v : ChainLists) (s_is : s ≡ opening_counted classes) (fields_are : fields ≡ replicate mblks no_fields) (v_is : v ≡ opening_chains mblks shelves) where
   pub opening_shows : arena_of id s.store fields v ≡ opening_arena id mblks classes shelves
   opening_shows = grind (arith, common_steps, map-replicate)
 
@@ -127,5 +127,5 @@ module _ (id mblks shelves : ℕ) (classes : List ClassSpec) (s : CountedStore) 
   pub opening_queued : 0 ≡ length (shelved_blocks (arena_of id s.store fields v))
   opening_queued = sym (ap (λ a. length (shelved_blocks a)) opening_shows ∙ ap length no_shelved)
 
-  pub opening_filled : mblks ≤ most_message_blocks → IsTrue (are_lawful classes) → IsKept s → IsNodesParted v → IsFilled s fields v (arena_of id s.store fields v)
+  pub opening_filled : mblks ≤ most_message_blocks → IsTrue (are_lawful classes) → IsKept s → IsLawful v → IsFilled s fields v (arena_of id s.store fields v)
   opening_filled few lawful kept parted = grind (arith, common_steps, length-replicate, copies-at, length-blocks_from, some_total, opening_shows, no_blocks)

@@ -20,7 +20,7 @@ use Rattle.strm_mblk.specs.Arena.{blocks_in, held_at, message_at, shelf_at, Aren
 use Rattle.strm_mblk.specs.Block.{Message, numbers_of, Block, head_of, size_of}
 use Rattle.strm_mblk.specs.BlocksLayout.{arena_of, block_at, fields_at, message_of, no_fields, IsFilled, IsSound, arena_in, block_of}
 use Rattle.strm_mblk.specs.Messages.{blocks_of, held_in, shelf_in, blocks_on, blocks_held}
-use Rattle.strm_mblk.specs.NodeLists.{NodeLists, nodes_at}
+use Rattle.strm_links.specs.ChainLists.{ChainLists, nodes_at, head_node}
 use Rattle.strm_mblk.specs.declared.blocks.Blocks.TheInside.{Inside}
 use Rattle.strm_mblk.specs.Limits.{most_message_blocks}
 use Rattle.strm_mblk.proofs.arena.Counts.{IsCounted, makes_arena}
@@ -38,7 +38,7 @@ pub blocks_of-mapped : (fields : List Fields) (o : Option (List ℕ)) → blocks
 blocks_of-mapped fields None = refl
 blocks_of-mapped fields (Some ns) = refl
 
-module _ (id : ℕ) (s : DataStore) (fields : List Fields) (v : NodeLists) where
+module _ (id : ℕ) (s : DataStore) (fields : List Fields) (v : ChainLists) where
   -- the message held at h
   pub held_at-seen : (h : ℕ) → held_at (arena_of id s fields v) h ≡ option_map (message_of fields) (held_in v.held h)
   held_at-seen h = get_or-map (option_map (message_of fields)) v.held h None
@@ -66,10 +66,10 @@ blocks_held-mapped fields [] = refl
 blocks_held-mapped fields (o ∷ held) = grind (arith, common_steps, (blocks_held-mapped fields held), blocks_of-mapped, map-append)
 
 -- the numbers of the blocks of all messages
-abbrev pub nodes_in : NodeLists → List ℕ
+abbrev pub nodes_in : ChainLists → List ℕ
 nodes_in v = blocks_on v.shelves ++ blocks_held v.held
 
-module _ (id : ℕ) (s : DataStore) (fields : List Fields) (v : NodeLists) where
+module _ (id : ℕ) (s : DataStore) (fields : List Fields) (v : ChainLists) where
   pub shelved-seen : blocks_on (arena_of id s fields v).shelves ≡ message_of fields (blocks_on v.shelves)
   shelved-seen = blocks_on-mapped fields v.shelves
 
@@ -132,20 +132,20 @@ module _ (old new : List Fields) where
 -- ==== what holds of all message blocks, whatever calls made them so
 
 -- a message that begins with h
-head-seen : (fields : List Fields) (o : Option (List ℕ)) (h : ℕ) → IfSome o (λ m. first m ≡ Some h)
+head-seen : (fields : List Fields) (o : Option (List ℕ)) (h : ℕ) → IfSome o (λ m. (0 < length m) × (head_node m ≡ h))
     → IfSome (option_map (message_of fields) o) (λ m. (0 < length m) × (head_of m ≡ h))
 head-seen fields None h is = tt
-head-seen fields (Some []) h is = grind (arith, common_steps)
-head-seen fields (Some (n ∷ ns)) h is = (omega arith, same_Some n h is)
+head-seen fields (Some []) h is = absurd (omega (arith, is.0))
+head-seen fields (Some (n ∷ ns)) h is = (omega arith, is.1)
 
-module _ (id : ℕ) (s : CountedStore) (fields : List Fields) (v : NodeLists) (filled : IsFilled s fields v (arena_of id s.store fields v)) where
+module _ (id : ℕ) (s : CountedStore) (fields : List Fields) (v : ChainLists) (filled : IsFilled s fields v (arena_of id s.store fields v)) where
   -- each number is in one place, each held message is at its head, and counts are references
   pub counted : IsCounted (arena_of id s.store fields v) s
   counted = record {
     numbers = λ n.
-        ap (λ ns. times n (v.free ++ ns)) (numbers-seen id s.store fields v) ∙ filled.parted.once n
+        ap (λ ns. times n (v.free ++ ns)) (numbers-seen id s.store fields v) ∙ filled.parted.parts.once n
         ∙ ap (λ l. if nat_lt n l then 1 else 0) (sym (length-map v.held (option_map (message_of fields))));
-    heads = λ h. subst (λ o. IfSome o (λ m. (0 < length m) × (head_of m ≡ h))) (sym (held_at-seen id s.store fields v h)) (head-seen fields (held_in v.held h) h (filled.parted.heads h));
+    heads = λ h. subst (λ o. IfSome o (λ m. (0 < length m) × (head_of m ≡ h))) (sym (held_at-seen id s.store fields v h)) (head-seen fields (held_in v.held h) h (filled.parted.parts.heads h));
     counts = filled.counts;
   }
 
@@ -155,11 +155,13 @@ module _ (id : ℕ) (s : CountedStore) (fields : List Fields) (v : NodeLists) (f
 
   pub law_parted : IsParted (arena_of id s.store fields v)
   law_parted = record {
-    blocks = counted.numbers;
-    heads = counted.heads;
-    shelved = λ q.
-        subst (All (λ m. 0 < length m)) (sym (shelf_at-seen id s.store fields v q))
-        (All-map (λ m. 0 < length m) (message_of fields) (shelf_in v.shelves q) (λ k d within. omega (arith, filled.parted.shelved q k d within, length-map (get_or (shelf_in v.shelves q) k d) (block_at fields))));
+    chains = record {
+      once = counted.numbers;
+      heads = counted.heads;
+      shelved = λ q.
+          subst (All (λ m. 0 < length m)) (sym (shelf_at-seen id s.store fields v q))
+          (All-map (λ m. 0 < length m) (message_of fields) (shelf_in v.shelves q) (λ k d within. omega (arith, filled.parted.parts.shelved q k d within, length-map (get_or (shelf_in v.shelves q) k d) (block_at fields))));
+    };
     free_data = λ c d. filled.kept.listed c d ∙ ap (λ n. if nat_lt d (length s.store.blocks) && (class_of s.store d == c && n == 0) then 1 else 0) (filled.counts d);
     named = λ d some. named_there d (omega (arith, some, filled.counts d));
     few_references = λ d. omega (arith, filled.counts d, filled.kept.few_references d);
@@ -204,7 +206,7 @@ module _ (id : ℕ) (s : CountedStore) (fields : List Fields) (v : NodeLists) (f
   law_few = omega (arith, filled.few, length-map v.held (option_map (message_of fields)))
 
 -- a message block has no more bytes than the largest data block has room for
-pub len_most : (id : ℕ) (s : CountedStore) (fields : List Fields) (v : NodeLists) → IsFilled s fields v (arena_of id s.store fields v) → (n : ℕ) → (fields_at fields n).len ≤ most_data_block_bytes
+pub len_most : (id : ℕ) (s : CountedStore) (fields : List Fields) (v : ChainLists) → IsFilled s fields v (arena_of id s.store fields v) → (n : ℕ) → (fields_at fields n).len ≤ most_data_block_bytes
 len_most id s fields v filled n = grind (arith, common_steps, capacity_range, get_or_past)
 
 -- so a message has no more than that for each of its blocks
@@ -214,8 +216,15 @@ size_most fields (n ∷ ns) few = omega (arith, sum_by-append (λ (c : Block). c
 
 -- message blocks as they lie in memory are parted
 pub parted_inside : (i : Inside) → IsSound i → (a : Arena) → arena_in i ≡ a → IsParted a
-parted_inside i whole a is = subst IsParted is (law_parted i.id i.data i.blocks.items i.chains whole.filled)
+parted_inside i whole a is = subst IsParted is (law_parted i.id i.data i.chains.loads i.chains.lists whole.filled)
 
 -- they still are, where no block comes on a shelf or leaves one
-pub still_whole : (i j : Inside) (a : Arena) → IsSound i → arena_in i ≡ a → j.queued ≡ i.queued → IsFilled j.data j.blocks.items j.chains (arena_in j) → shelved_blocks (arena_in j) ≡ shelved_blocks a → IsSound j
+pub still_whole : (i j : Inside) (a : Arena) → IsSound i → arena_in i ≡ a → j.queued ≡ i.queued → IsFilled j.data j.chains.loads j.chains.lists (arena_in j) → shelved_blocks (arena_in j) ≡ shelved_blocks a → IsSound j
 still_whole i j a whole is queued filled shelved = record { filled = filled; queued = queued ∙ whole.queued ∙ ap (λ x. length (shelved_blocks x)) is ∙ ap length (sym shelved) }
+
+-- message blocks store what they stored
+pub reloaded : (id : ℕ) (s : CountedStore) (v : ChainLists) {old new : List Fields} → new ≡ old → IsFilled s old v (arena_of id s.store old v) → IsFilled s new v (arena_of id s.store new v)
+reloaded id s v same filled = subst (λ fields. IsFilled s fields v (arena_of id s.store fields v)) (sym same) filled
+
+pub reviewed : (id : ℕ) (s : DataStore) (v : ChainLists) {old new : List Fields} {a : Arena} → new ≡ old → arena_of id s old v ≡ a → arena_of id s new v ≡ a
+reviewed id s v same is = ap (λ fields. arena_of id s fields v) same ∙ is

@@ -16,11 +16,10 @@ use Rattle.strm_mblk.specs.Block.{Block, Message, head_of, uses_data, new_block}
 use Rattle.strm_mblk.specs.BlockCalls.{held_under, blocks_renumbered, allocb}
 use Rattle.strm_mblk.specs.BlocksLayout.{IsFilled, IsPlaced, arena_of, block_of, fields_at, fields_of, message_of, no_fields, with_fields}
 use Rattle.strm_mblk.specs.Messages.{blocks_held, blocks_on, blocks_of}
-use Rattle.strm_mblk.specs.NodeLists.{IsNodesParted, NodeLists}
+use Rattle.strm_links.specs.ChainLists.{IsLawful, ChainLists, with_begun}
 use Rattle.strm_mblk.proofs.layout.Shown.{AreAlike, alike_each, held-alike, held_at-seen, shelves-alike}
 use Rattle.strm_mblk.proofs.Lists.{first_rest, count_adds, count_one}
-use Rattle.strm_mblk.proofs.chaining.Seen.{free_room, free_unheld, one_of_all}
-use Rattle.strm_mblk.proofs.chaining.Parted.{after_begin_all}
+use Rattle.strm_mblk.proofs.Nodes.{free_room, free_unheld, one_of_all}
 use Rattle.strm_mblk.proofs.arena.Counts.{held_moves}
 use Rattle.strm_mblk.proofs.layout.Rooms.{HasRooms, placed-over, placed-set, count_of-set, rooms-taken}
 use Rattle.std.proofs.lemmas.Grind.{common_steps}
@@ -83,7 +82,7 @@ renumbered_head (n ∷ ns) (b ∷ bs) h begun some = same_Some n h begun
 
 -- ---- what is there once the first free numbers are a message of these blocks, held at h, and `a` was there before
 
-pub record IsBegunAll (a : Arena) (t : CountedStore) (fields : List Fields) (w : NodeLists) (id h : ℕ) (bs : List Block) : Type 0 where
+pub record IsBegunAll (a : Arena) (t : CountedStore) (fields : List Fields) (w : ChainLists) (id h : ℕ) (bs : List Block) : Type 0 where
   pub filled : IsFilled t fields w (arena_of id t.store fields w)
   pub shows : (h, arena_of id t.store fields w) ≡ held_under bs t.store a
   pub held : held_at (arena_of id t.store fields w) h ≡ Some (blocks_renumbered (take (length bs) a.free) bs)
@@ -91,7 +90,7 @@ pub record IsBegunAll (a : Arena) (t : CountedStore) (fields : List Fields) (w :
   pub others : (k : ℕ) → k ≢ h → held_at (arena_of id t.store fields w) k ≡ held_at a k
   pub absent : held_at a h ≡ None
 
-module _ (id : ℕ) (s : CountedStore) (fields : List Fields) (v : NodeLists) (filled : IsFilled s fields v (arena_of id s.store fields v)) (h : ℕ) (begun : first v.free ≡ Some h) where
+module _ (id : ℕ) (s : CountedStore) (fields : List Fields) (v : ChainLists) (filled : IsFilled s fields v (arena_of id s.store fields v)) (h : ℕ) (begun : first v.free ≡ Some h) where
   abbrev old : Arena
   old = arena_of id s.store fields v
 
@@ -134,17 +133,17 @@ module _ (id : ℕ) (s : CountedStore) (fields : List Fields) (v : NodeLists) (f
     head_is : head_of m ≡ h
     head_is = renumbered_head v.free bs h begun some
 
-    module _ (t : CountedStore) (w : NodeLists) (kept : IsKept t) (w_is : w ≡ after_begin_all v h (length bs)) (parted : IsNodesParted w)
+    module _ (t : CountedStore) (w : ChainLists) (kept : IsKept t) (w_is : w ≡ with_begun v h (length bs)) (parted : IsLawful w)
         (rooms : HasRooms s.store t.store) (placed : All (λ b. IsPlaced t.store (fields_of b)) bs) (named : (k : ℕ) → count_of t k ≡ count_of s k + count_by (uses_data k) bs) where
       held_is : map (option_map (message_of now)) w.held ≡ set old.held h (Some m)
       held_is =
-          ap (λ (l : NodeLists). map (option_map (message_of now)) l.held) w_is
+          ap (λ (l : ChainLists). map (option_map (message_of now)) l.held) w_is
           ∙ map-set (option_map (message_of now)) v.held h (Some ns)
           ∙ (λ i. set (held-alike fields now v.held (alike_others ns (map fields_of bs) fields (blocks_held v.held) (λ k. omega (arith, parts k, one_of_all v filled.parted k))) i) h (Some (message_is i)))
 
       shelves_is : map (map (message_of now)) w.shelves ≡ old.shelves
       shelves_is =
-          ap (λ (l : NodeLists). map (map (message_of now)) l.shelves) w_is
+          ap (λ (l : ChainLists). map (map (message_of now)) l.shelves) w_is
           ∙ shelves-alike fields now v.shelves (alike_others ns (map fields_of bs) fields (blocks_on v.shelves) (λ k. omega (arith, parts k, one_of_all v filled.parted k)))
 
       abbrev rest : Arena
@@ -154,7 +153,7 @@ module _ (id : ℕ) (s : CountedStore) (fields : List Fields) (v : NodeLists) (f
       arena_is = grind (arith, common_steps, held_is, head_is, shelves_is)
 
       held_many : length w.held ≡ length v.held
-      held_many = ap (λ (l : NodeLists). length l.held) w_is ∙ length-set v.held h (Some ns)
+      held_many = ap (λ (l : ChainLists). length l.held) w_is ∙ length-set v.held h (Some ns)
 
       names_are : (k : ℕ) → references_to (with_held m rest) k ≡ references_to old k + count_by (uses_data k) bs
       names_are k =
@@ -200,12 +199,12 @@ pub taken_fits : (size d : ℕ) (s : DataStore) → take_data size s ≡ Ok d �
 taken_fits size d s some = grind (arith, common_steps)
 
 -- what is there once a message of one block n over d was allocated
-pub record IsAllocated (a : Arena) (t : CountedStore) (fields : List Fields) (w : NodeLists) (id size n d : ℕ) : Type 0 where
+pub record IsAllocated (a : Arena) (t : CountedStore) (fields : List Fields) (w : ChainLists) (id size n d : ℕ) : Type 0 where
   pub begun : IsBegunAll a t fields w id n (new_block n d ∷ [])
   pub done : allocb size a ≡ Ok (n, arena_of id t.store fields w)
 
-module _ (id : ℕ) (s : CountedStore) (fields : List Fields) (v : NodeLists) (filled : IsFilled s fields v (arena_of id s.store fields v)) (n : ℕ) (begun : first v.free ≡ Some n)
-    (d : ℕ) (t : CountedStore) (w : NodeLists) (x : Fields) (fresh : IsUnused s d) (kept : IsKept t) (t_is : t ≡ after_take s (Ok d)) (w_is : w ≡ after_begin_all v n 1) (parted : IsNodesParted w)
+module _ (id : ℕ) (s : CountedStore) (fields : List Fields) (v : ChainLists) (filled : IsFilled s fields v (arena_of id s.store fields v)) (n : ℕ) (begun : first v.free ≡ Some n)
+    (d : ℕ) (t : CountedStore) (w : ChainLists) (x : Fields) (fresh : IsUnused s d) (kept : IsKept t) (t_is : t ≡ after_take s (Ok d)) (w_is : w ≡ with_begun v n 1) (parted : IsLawful w)
     (x_is : x ≡ record { data_number = d; offset = 0; len = 0; band = 0 }) where
   rooms : HasRooms s.store t.store
   rooms = subst (HasRooms s.store) (sym (ap (λ (c : CountedStore). c.store) t_is)) (rooms-taken s.store d)

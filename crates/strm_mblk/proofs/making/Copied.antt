@@ -21,13 +21,12 @@ use Rattle.strm_mblk.specs.Copying.{with_copy, AreCopied}
 use Rattle.strm_mblk.specs.Given.{answer_map}
 use Rattle.strm_mblk.specs.declared.token.TokenValue.{TokenValue}
 use Rattle.strm_mblk.specs.Arena.{Arena, has, message_at}
-use Rattle.strm_mblk.specs.NodeLists.{IsNodesParted, NodeLists, nodes_at}
+use Rattle.strm_links.specs.ChainLists.{IsLawful, ChainLists, nodes_at, with_begun}
 use Rattle.strm_mblk.proofs.making.Begun.{with_fields_other, IsBegunAll, begins_all}
 use Rattle.strm_mblk.proofs.making.CopiesCounted.{answer_more, can_take, in_front, in_front_none, rooms-copied}
 use Rattle.strm_mblk.proofs.Lists.{count_adds, count_one}
 use Rattle.strm_mblk.proofs.making.Duplicated.{take_next, times_part, IsBeside, beside}
 use Rattle.strm_mblk.proofs.layout.Rooms.{HasRooms, count_of-set, placed-over, rooms-both}
-use Rattle.strm_mblk.proofs.chaining.Parted.{after_begin_all}
 use Rattle.strm_mblk.proofs.layout.Shown.{message_at-seen}
 use Rattle.strm_mblk.proofs.arena.Counts.{had_again, had_message}
 use Rattle.std.proofs.lemmas.Grind.{common_steps}
@@ -106,14 +105,14 @@ module _ (o : Option DataStore) (bs : List Block) (ns : List ℕ) (i : ℕ) (old
 -- ==== `copyb` and `copymsg`: copies of blocks are held as a message
 
 -- what is there once copies of these blocks are a message, held at h
-pub record IsMade (o : Option DataStore) (bs : List Block) (a : Arena) (t : CountedStore) (fields : List Fields) (w : NodeLists) (id h : ℕ) : Type 0 where
+pub record IsMade (o : Option DataStore) (bs : List Block) (a : Arena) (t : CountedStore) (fields : List Fields) (w : ChainLists) (id h : ℕ) : Type 0 where
   pub made : List Block
   pub begun : IsBegunAll a t fields w id h made
   pub done : message_copied o bs a ≡ Ok (h, arena_of id t.store fields w)
 
 -- copies of `count` blocks were made, in the first free message blocks
-module _ (o : Option DataStore) (bs : List Block) (count : ℕ) (many : length bs ≡ count) (id : ℕ) (s : CountedStore) (fields : List Fields) (v : NodeLists) (filled : IsFilled s fields v (arena_of id s.store fields v))
-    (some : 0 < count) (free : count ≤ length v.free) (h : ℕ) (begun : first v.free ≡ Some h) (w : NodeLists) (w_is : w ≡ after_begin_all v h count) (into_is : nodes_at w h ≡ take count v.free) (parted : IsNodesParted w)
+module _ (o : Option DataStore) (bs : List Block) (count : ℕ) (many : length bs ≡ count) (id : ℕ) (s : CountedStore) (fields : List Fields) (v : ChainLists) (filled : IsFilled s fields v (arena_of id s.store fields v))
+    (some : 0 < count) (free : count ≤ length v.free) (h : ℕ) (begun : first v.free ≡ Some h) (w : ChainLists) (w_is : w ≡ with_begun v h count) (into_is : nodes_at w h ≡ take count v.free) (parted : IsLawful w)
     (t : CountedStore) (new : List Fields) (kept : IsKept t) (are : AreCopied o bs (nodes_at w h) fields new s t) where
   abbrev before : Arena
   before = arena_of id s.store fields v
@@ -127,7 +126,7 @@ module _ (o : Option DataStore) (bs : List Block) (count : ℕ) (many : length b
   all_begun : IsBegunAll before t new w id h are.made
   all_begun =
       subst (λ fs. IsBegunAll before t fs w id h are.made) (sym new_is)
-      (begins_all id s fields v filled h begun are.made (omega (arith, some, made_many)) (omega (arith, free, made_many)) t w kept (w_is ∙ ap (after_begin_all v h) (sym made_many)) parted
+      (begins_all id s fields v filled h begun are.made (omega (arith, some, made_many)) (omega (arith, free, made_many)) t w kept (w_is ∙ ap (with_begun v h) (sym made_many)) parted
       (record { many = are.blocks; room = are.rooms }) are.placed are.named)
 
   pub is_made : IsMade o bs before t new w id h
@@ -141,12 +140,12 @@ module _ (o : Option DataStore) (bs : List Block) (count : ℕ) (many : length b
   }
 
 -- what is there once copies of the first `count` blocks of the message that a token names are a message, held at h
-pub record IsCopied (a : Arena) (t : CountedStore) (fields : List Fields) (w : NodeLists) (id h count : ℕ) (token : TokenValue) : Type 0 where
+pub record IsCopied (a : Arena) (t : CountedStore) (fields : List Fields) (w : ChainLists) (id h count : ℕ) (token : TokenValue) : Type 0 where
   pub is : IsMade None (take count (message_at a token.head)) a t fields w id h
   pub source : has (arena_of id t.store fields w) token ≡ true
 
-module _ (id : ℕ) (s : CountedStore) (fields : List Fields) (v : NodeLists) (filled : IsFilled s fields v (arena_of id s.store fields v)) (token : TokenValue) (had : has (arena_of id s.store fields v) token ≡ true)
-    (count : ℕ) (some : 0 < count) (most : count ≤ token.blocks) (free : count ≤ length v.free) (h : ℕ) (begun : first v.free ≡ Some h) (w : NodeLists) (w_is : w ≡ after_begin_all v h count) (parted : IsNodesParted w)
+module _ (id : ℕ) (s : CountedStore) (fields : List Fields) (v : ChainLists) (filled : IsFilled s fields v (arena_of id s.store fields v)) (token : TokenValue) (had : has (arena_of id s.store fields v) token ≡ true)
+    (count : ℕ) (some : 0 < count) (most : count ≤ token.blocks) (free : count ≤ length v.free) (h : ℕ) (begun : first v.free ≡ Some h) (w : ChainLists) (w_is : w ≡ with_begun v h count) (parted : IsLawful w)
     (t : CountedStore) (new : List Fields) (kept : IsKept t) (are_now : AreCopied None (take count (message_of fields (nodes_at w token.head))) (nodes_at w h) fields new s t) where
   abbrev old : Arena
   old = arena_of id s.store fields v

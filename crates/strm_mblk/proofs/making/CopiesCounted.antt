@@ -24,10 +24,10 @@ use Rattle.strm_mblk.specs.BlockCalls.{blocks_copied, copied_from, fits_classes,
 use Rattle.strm_mblk.specs.declared.blocks.Fields.{Fields}
 use Rattle.strm_mblk.specs.BlocksLayout.{block_at, message_of}
 use Rattle.strm_mblk.specs.Given.{and_then, answer_map}
-use Rattle.strm_mblk.specs.NodeLists.{IsNodesParted, NodeLists, nodes_at}
+use Rattle.strm_links.specs.ChainLists.{IsLawful, ChainLists, nodes_at}
 use Rattle.strm_mblk.proofs.Lists.{slice_get-take, drop_from}
 use Rattle.strm_mblk.proofs.layout.Rooms.{HasRooms, rooms-both, rooms-kind, rooms-set, rooms-taken}
-use Rattle.strm_mblk.proofs.chaining.Seen.{block_room}
+use Rattle.strm_mblk.proofs.Nodes.{block_room}
 use Rattle.std.proofs.lemmas.Grind.{common_steps}
 
 -- ==== which size class gives a data block, by the number that each class has left
@@ -130,7 +130,7 @@ next_block fields ns count i n below is =
     (slice_get-take count i (message_of fields ns) below ∙ slice_get-map (block_at fields) ns i ∙ ap (option_map (block_at fields)) is)
 
 -- each of them is one that there is
-pub block_there : (fields : List Fields) (v : NodeLists) → IsNodesParted v → length fields ≡ length v.held → (h count k : ℕ) (b : Block) → slice_get (take count (message_of fields (nodes_at v h))) k ≡ Some b
+pub block_there : (fields : List Fields) (v : ChainLists) → IsLawful v → length fields ≡ length v.held → (h count k : ℕ) (b : Block) → slice_get (take count (message_of fields (nodes_at v h))) k ≡ Some b
     → (n : ℕ) × (n < length fields) × (block_at fields n ≡ b)
 block_there fields v parted listed h count k b at =
     let ns = nodes_at v h in
@@ -144,7 +144,7 @@ block_there fields v parted listed h count k b at =
     )
   where
     -- a block of a held message is one of those that there are
-    node_room : (v : NodeLists) → IsNodesParted v → (h k n : ℕ) → slice_get (nodes_at v h) k ≡ Some n → n < length v.held
+    node_room : (v : ChainLists) → IsLawful v → (h k n : ℕ) → slice_get (nodes_at v h) k ≡ Some n → n < length v.held
     node_room v parted h k n at = grind (arith, common_steps, none-some, block_room)
 
 -- the copies so far are `made`, in store t, and b is to be copied next

@@ -21,15 +21,14 @@ use Rattle.strm_mblk.specs.declared.blocks.Fields.{Fields}
 use Rattle.strm_mblk.specs.declared.token.TokenValue.{TokenValue}
 use Rattle.strm_mblk.specs.Arena.{has, Arena, message_at, references_to}
 use Rattle.strm_mblk.specs.Messages.{blocks_of, held_in}
-use Rattle.strm_mblk.specs.NodeLists.{IsNodesParted, NodeLists, nodes_at}
+use Rattle.strm_links.specs.ChainLists.{IsLawful, ChainLists, nodes_at, with_begun}
 use Rattle.strm_mblk.specs.Block.{Block, Message, uses_data}
 use Rattle.strm_mblk.specs.BlockCalls.{message_duplicated, exceeds_references}
 use Rattle.strm_mblk.proofs.Lists.{slice_get-take, times_at, at_first, first_rest, drop_from}
 use Rattle.strm_mblk.proofs.Freeing.{counted_there, naming-named, enough}
 use Rattle.strm_mblk.proofs.arena.Counts.{set_apart, IsHad, had_again, had_message}
 use Rattle.strm_mblk.proofs.layout.Rooms.{count_of-set, HasRooms}
-use Rattle.strm_mblk.proofs.chaining.Seen.{begins_with, free_room, free_unheld, held_parts, one_of_all}
-use Rattle.strm_mblk.proofs.chaining.Parted.{after_begin_all}
+use Rattle.strm_mblk.proofs.Nodes.{begins_with, free_room, free_unheld, held_parts, one_of_all}
 use Rattle.strm_mblk.proofs.layout.Places.{token_nodes, node_room}
 use Rattle.strm_mblk.proofs.making.Begun.{IsBegunAll, begins_all}
 use Rattle.strm_mblk.proofs.layout.Shown.{message_at-seen}
@@ -169,18 +168,18 @@ module _ (all : List ℕ) (i : ℕ) (old s : CountedStore) (used : AreUsed all o
 -- ==== the message that a token names, beside one just begun of the first free message blocks
 
 -- v was there before; in w the first `count` free numbers are a message, held at h
-pub record IsInto (v w : NodeLists) (h count : ℕ) : Type 0 where
+pub record IsInto (v w : ChainLists) (h count : ℕ) : Type 0 where
   pub is : nodes_at w h ≡ take count v.free
   pub begun : slice_get (nodes_at w h) 0 ≡ Some h
   pub many : length (nodes_at w h) ≡ count
   pub unheld : held_in v.held h ≡ None
 
-module _ (v : NodeLists) (parted : IsNodesParted v) (count : ℕ) (some : 0 < count) (free : count ≤ length v.free) (h : ℕ) (begun : first v.free ≡ Some h) (w : NodeLists) (w_is : w ≡ after_begin_all v h count) where
+module _ (v : ChainLists) (parted : IsLawful v) (count : ℕ) (some : 0 < count) (free : count ≤ length v.free) (h : ℕ) (begun : first v.free ≡ Some h) (w : ChainLists) (w_is : w ≡ with_begun v h count) where
   h_free : 0 < times h v.free
   h_free = omega (arith, ap (times h) (first_rest v.free h begun), times_here h h (drop 1 v.free) refl)
 
   into_new : nodes_at w h ≡ take count v.free
-  into_new = ap (λ (l : NodeLists). nodes_at l h) w_is ∙ ap blocks_of (get_or-set_same v.held h (Some (take count v.free)) None (free_room v parted h h_free))
+  into_new = ap (λ (l : ChainLists). nodes_at l h) w_is ∙ ap blocks_of (get_or-set_same v.held h (Some (take count v.free)) None (free_room v parted h h_free))
 
   pub into_is : IsInto v w h count
   into_is = record {
@@ -191,7 +190,7 @@ module _ (v : NodeLists) (parted : IsNodesParted v) (count : ℕ) (some : 0 < co
   }
 
 -- and this message is beside the one held at g
-pub record IsBeside (v w : NodeLists) (g h count : ℕ) : Type 0 where
+pub record IsBeside (v w : ChainLists) (g h count : ℕ) : Type 0 where
   pub into : IsInto v w h count
   pub enough : count ≤ length (nodes_at v g)
   pub from_is : nodes_at w g ≡ nodes_at v g
@@ -199,8 +198,8 @@ pub record IsBeside (v w : NodeLists) (g h count : ℕ) : Type 0 where
   pub apart : (n : ℕ) → times n (nodes_at w g) + times n (nodes_at w h) ≤ 1
   pub other : g ≢ h
 
-module _ (id : ℕ) (s : CountedStore) (fields : List Fields) (v : NodeLists) (filled : IsFilled s fields v (arena_of id s.store fields v)) (token : TokenValue) (had : has (arena_of id s.store fields v) token ≡ true)
-    (count : ℕ) (some : 0 < count) (enough : count ≤ token.blocks) (free : count ≤ length v.free) (h : ℕ) (begun : first v.free ≡ Some h) (w : NodeLists) (w_is : w ≡ after_begin_all v h count) where
+module _ (id : ℕ) (s : CountedStore) (fields : List Fields) (v : ChainLists) (filled : IsFilled s fields v (arena_of id s.store fields v)) (token : TokenValue) (had : has (arena_of id s.store fields v) token ≡ true)
+    (count : ℕ) (some : 0 < count) (enough : count ≤ token.blocks) (free : count ≤ length v.free) (h : ℕ) (begun : first v.free ≡ Some h) (w : ChainLists) (w_is : w ≡ with_begun v h count) where
   abbrev g : ℕ
   g = token.head
 
@@ -214,7 +213,7 @@ module _ (id : ℕ) (s : CountedStore) (fields : List Fields) (v : NodeLists) (f
   other same = none-some (nodes_at v g) (sym new.unheld ∙ ap (held_in v.held) (sym same) ∙ held_there.0)
 
   from_same : nodes_at w g ≡ nodes_at v g
-  from_same = ap (λ (l : NodeLists). nodes_at l g) w_is ∙ ap blocks_of (get_or-set_other v.held h g (Some (take count v.free)) None other)
+  from_same = ap (λ (l : ChainLists). nodes_at l g) w_is ∙ ap blocks_of (get_or-set_other v.held h g (Some (take count v.free)) None other)
 
   pub beside : IsBeside v w g h count
   beside = record {
@@ -262,12 +261,12 @@ module _ (from to : List ℕ) (i : ℕ) (old now : List Fields) (copying : IsCop
 -- ==== duplicates of the first blocks of a held message: as many free message blocks over their data blocks
 
 -- what is there once the blocks `bs` of the message that the token names are duplicated, under the head h
-pub record IsDuplicated (a : Arena) (t : CountedStore) (fields : List Fields) (w : NodeLists) (id h : ℕ) (bs : List Block) (token : TokenValue) : Type 0 where
+pub record IsDuplicated (a : Arena) (t : CountedStore) (fields : List Fields) (w : ChainLists) (id h : ℕ) (bs : List Block) (token : TokenValue) : Type 0 where
   pub begun : IsBegunAll a t fields w id h bs
   pub done : message_duplicated bs a ≡ Ok (h, arena_of id t.store fields w)
   pub source : has (arena_of id t.store fields w) token ≡ true
 
-module _ (id : ℕ) (s : CountedStore) (fields : List Fields) (v : NodeLists) (filled : IsFilled s fields v (arena_of id s.store fields v)) (token : TokenValue) (had : has (arena_of id s.store fields v) token ≡ true)
+module _ (id : ℕ) (s : CountedStore) (fields : List Fields) (v : ChainLists) (filled : IsFilled s fields v (arena_of id s.store fields v)) (token : TokenValue) (had : has (arena_of id s.store fields v) token ≡ true)
     (n : ℕ) (some : 0 < n) (most : n ≤ token.blocks) where
   abbrev old : Arena
   old = arena_of id s.store fields v
@@ -323,7 +322,7 @@ module _ (id : ℕ) (s : CountedStore) (fields : List Fields) (v : NodeLists) (f
     refused exceed = ap (λ xs. message_duplicated xs old) bs_is ∙ cond-false _ _ _ room ∙ cond-true _ _ _ (exceed_is ∙ exceed)
 
     -- the first free blocks are a message, held at h
-    module _ (h : ℕ) (begun : first v.free ≡ Some h) (w : NodeLists) (w_is : w ≡ after_begin_all v h n) (parted : IsNodesParted w) where
+    module _ (h : ℕ) (begun : first v.free ≡ Some h) (w : ChainLists) (w_is : w ≡ with_begun v h n) (parted : IsLawful w) where
       both : IsBeside v w token.head h n
       both = beside id s fields v filled token had n some most free h begun w w_is
 
@@ -352,7 +351,7 @@ module _ (id : ℕ) (s : CountedStore) (fields : List Fields) (v : NodeLists) (f
         all_begun : IsBegunAll old t now w id h bs
         all_begun =
             subst (λ fs. IsBegunAll old t fs w id h bs) fields_are
-            (begins_all id s fields v filled h begun bs (omega (arith, some, many)) (omega (arith, free, many)) t w kept (w_is ∙ ap (after_begin_all v h) (sym many)) parted rooms placed counts)
+            (begins_all id s fields v filled h begun bs (omega (arith, some, many)) (omega (arith, free, many)) t w kept (w_is ∙ ap (with_begun v h) (sym many)) parted rooms placed counts)
 
         pub duplicates : IsDuplicated old t now w id h (take n (message_at old token.head)) token
         duplicates = grind (arith, common_steps, bs_is, all_begun, cond-false, room, exceed_is, same_store, had_again, message, both, held)

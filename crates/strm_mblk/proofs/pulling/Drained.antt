@@ -15,13 +15,13 @@ use Rattle.strm_mblk.specs.BlocksLayout.{IsFilled, arena_of, block_at, block_of,
 use Rattle.strm_mblk.specs.Cutting.{with_bytes_cut}
 use Rattle.strm_mblk.specs.Freeing.{with_block_freed, with_blocks_freed, with_reference_dropped}
 use Rattle.strm_mblk.specs.Messages.{held_in, blocks_of}
-use Rattle.strm_mblk.specs.NodeLists.{IsNodesParted, NodeLists, after_behind_freed, nodes_at}
+use Rattle.strm_links.specs.ChainLists.{IsLawful, ChainLists, with_behind_freed, nodes_at}
 use Rattle.strm_mblk.specs.Pulling.{with_bytes_drained, pull_front, front_pulled, over_data}
 use Rattle.strm_mblk.specs.Trimming.{blocks_cut_front, blocks_left_over, blocks_used_up, bytes_asked, with_front_pulled, store_with_front, pullupmsg, run_of}
 use Rattle.strm_mblk.specs.Given.{Given, value_after, answer_map, answer_of}
 use Rattle.strm_mblk.proofs.Lists.{count_adds, first_rest}
 use Rattle.strm_mblk.proofs.arena.Counts.{held_moves, held_within}
-use Rattle.strm_mblk.proofs.chaining.Seen.{begins_with}
+use Rattle.strm_mblk.proofs.Nodes.{begins_with}
 use Rattle.strm_mblk.proofs.Freeing.{IsFreed, frees_some}
 use Rattle.strm_mblk.proofs.layout.Places.{AreRewritten, alike_apart, message_filled, message_shows, named-same, once_within, within_room}
 use Rattle.strm_mblk.proofs.layout.Shown.{message-alike, message_at-seen}
@@ -66,7 +66,7 @@ freed_id (b ∷ bs) a = freed_id bs (with_block_freed b bs a)
 
 -- ---- as the code stores it
 
-module _ (id : ℕ) (s : CountedStore) (fields : List Fields) (v : NodeLists) (filled : IsFilled s fields v (arena_of id s.store fields v)) (h : ℕ) (held : held_in v.held h ≡ Some (nodes_at v h)) (count i : ℕ) where
+module _ (id : ℕ) (s : CountedStore) (fields : List Fields) (v : ChainLists) (filled : IsFilled s fields v (arena_of id s.store fields v)) (h : ℕ) (held : held_in v.held h ≡ Some (nodes_at v h)) (count i : ℕ) where
   abbrev old : Arena
   old = arena_of id s.store fields v
 
@@ -167,7 +167,7 @@ module _ (id : ℕ) (s : CountedStore) (fields : List Fields) (v : NodeLists) (f
     drained_is : with_blocks_freed (message_of now out) (with_message h (message_of now (take 1 ns ++ rest)) (arena_of id s.store now v)) ≡ with_bytes_drained h count (message_at old h) old
     drained_is = grind (arith, common_steps, shows_now, set-set, out_now, message_now, message_at-seen, nodes_are)
 
-    frees_now : (t : CountedStore) (w : NodeLists) → t ≡ with_references_dropped (take i (data_used_by fields (drop 1 ns))) s → IsKept t → w ≡ after_behind_freed h i ns v → IsNodesParted w
+    frees_now : (t : CountedStore) (w : ChainLists) → t ≡ with_references_dropped (take i (data_used_by fields (drop 1 ns))) s → IsKept t → w ≡ with_behind_freed h i ns v → IsLawful w
         → IsFreed old (with_bytes_drained h count (message_at old h) old) t now w id
     frees_now t w t_is kept w_is parted =
         let names : take i (data_used_by fields (drop 1 ns)) ≡ data_used_by now out =
@@ -179,7 +179,7 @@ module _ (id : ℕ) (s : CountedStore) (fields : List Fields) (v : NodeLists) (f
           after = freed.after ∙ drained_is;
         }
 
-  pub drains : (fields' : List Fields) (t : CountedStore) (w : NodeLists) → AreTaken fields ns count s i fields' t → IsKept t → w ≡ after_behind_freed h i ns v → IsNodesParted w
+  pub drains : (fields' : List Fields) (t : CountedStore) (w : ChainLists) → AreTaken fields ns count s i fields' t → IsKept t → w ≡ with_behind_freed h i ns v → IsLawful w
       → IsFreed old (with_bytes_drained h count (message_at old h) old) t fields' w id
   drains fields' t w taken kept w_is parted = grind (arith, common_steps, frees_now)
 

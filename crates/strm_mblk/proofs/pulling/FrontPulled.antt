@@ -16,13 +16,13 @@ use Rattle.strm_mblk.specs.Pulling.{with_front_copied, front_pulled, over_data}
 use Rattle.strm_mblk.specs.Arena.{Arena, held_at, message_at, references_to, shelved_blocks, with_message}
 use Rattle.strm_mblk.specs.Freeing.{with_reference_dropped}
 use Rattle.strm_mblk.specs.Messages.{blocks_of}
-use Rattle.strm_mblk.specs.NodeLists.{NodeLists, nodes_at}
+use Rattle.strm_links.specs.ChainLists.{ChainLists, nodes_at}
 use Rattle.strm_mblk.specs.Trimming.{store_with_front}
 use Rattle.strm_mblk.proofs.Reading.{length-bytes_of_block}
 use Rattle.strm_mblk.proofs.Lists.{drop_from, first_rest, count_adds}
 use Rattle.strm_mblk.proofs.arena.Counts.{held_moves, held_within}
 use Rattle.strm_mblk.proofs.Freeing.{last_one, named_less, rooms-less, enough}
-use Rattle.strm_mblk.proofs.chaining.Seen.{begins_with}
+use Rattle.strm_mblk.proofs.Nodes.{begins_with}
 use Rattle.strm_mblk.proofs.layout.Places.{written_shows, IsHeldHead}
 use Rattle.strm_mblk.proofs.layout.Rooms.{HasRooms, count_of-set, placed-set, rooms-both, rooms-kind, rooms-taken, rooms-written, bytes-message, bytes-typed}
 use Rattle.strm_mblk.proofs.layout.Shown.{held_at-seen, message_at-seen}
@@ -118,12 +118,16 @@ rooms-pulled s n b bs d room =
     rooms-both typed (rooms-written (with_kind d (kind_of s b) (with_data_taken d s)) d 0 (take n (bytes_of s (b ∷ bs))) (omega (arith, room, typed.room d, length-take n (bytes_of s (b ∷ bs)))))
 
 -- what the first block uses is another data block: `a` is what was there
-pub record IsFrontPulled (a : Arena) (t : CountedStore) (fields : List Fields) (v : NodeLists) (id h d n : ℕ) : Type 0 where
+pub record IsFrontPulled (a : Arena) (t : CountedStore) (fields : List Fields) (v : ChainLists) (id h d n : ℕ) : Type 0 where
   pub filled : IsFilled t fields v (arena_of id t.store fields v)
   pub after : arena_of id t.store fields v ≡ front_pulled h n (message_at a h) a d
   pub shelved : shelved_blocks (arena_of id t.store fields v) ≡ shelved_blocks a
 
-module _ (id : ℕ) (s : CountedStore) (fields : List Fields) (v : NodeLists) (filled : IsFilled s fields v (arena_of id s.store fields v)) (h : ℕ) (is : IsHeldHead fields v h) where
+-- one more block uses a data block that none used
+one_more : (s : CountedStore) (store : DataStore) (d k : ℕ) → d < length s.counts → count_of s d ≡ 0 → count_of (record { store = store; counts = set s.counts d 1 }) k ≡ count_of s k + one_if (eqb d k)
+one_more s store d k inside none = grind (arith, common_steps, count_of-set, eqb_tells)
+
+module _ (id : ℕ) (s : CountedStore) (fields : List Fields) (v : ChainLists) (filled : IsFilled s fields v (arena_of id s.store fields v)) (h : ℕ) (is : IsHeldHead fields v h) where
   abbrev old : Arena
   old = arena_of id s.store fields v
 
@@ -166,7 +170,7 @@ module _ (id : ℕ) (s : CountedStore) (fields : List Fields) (v : NodeLists) (f
 
     -- one more block uses the data block that was taken
     named_more : (k : ℕ) → count_of u k ≡ count_of s k + one_if (eqb d k)
-    named_more k = grind (arith, common_steps, count_of-set, eqb_tells)
+    named_more k = ap (λ (c : CountedStore). count_of c k) u_is ∙ one_more s stored d k (omega (arith, fresh.there, filled.kept.counted)) fresh.unnamed
 
     pub still_used : 0 < count_of u was.data_number
     still_used = omega (arith, former_used, named_more was.data_number)

@@ -6,7 +6,7 @@ ghost use Rattle.strm_mblk.specs.Calls.{Alters, itself};
 ghost use Rattle.strm_mblk.specs.Given.{given_nothing};
 
 use super::finding::Found;
-use super::{Blocks, Fields};
+use super::{Blocks, Fields, fields_at};
 use crate::token::Token;
 use strm_data::{MsgType, Refusal};
 
@@ -60,7 +60,7 @@ impl Blocks {
             self.old self.new (Ok tt) }
     {
         let node = token.head();
-        let fields = self.blocks[node as usize];
+        let fields = fields_at(&self.chains, node);
         self.set_fields(node, Fields { band, ..fields });
     }
 }

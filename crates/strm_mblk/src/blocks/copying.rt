@@ -9,12 +9,12 @@ ghost use Rattle.strm_mblk.specs.BlockCalls as model;
 ghost use Rattle.strm_mblk.specs.BlocksLayout.{IsPlaced, block_of, fields_at, message_of};
 ghost use Rattle.strm_mblk.specs.Copying.{AreCopied, AreLeft, IsLeft, lent_store, with_copy};
 ghost use Rattle.strm_mblk.specs.Calls.{Gives, itself};
-ghost use Rattle.strm_mblk.specs.NodeLists.{IsNodesParted, nodes_at};
+ghost use Rattle.strm_links.specs.ChainLists.{IsLawful, nodes_at};
 
-use super::{Blocks, Fields};
-use crate::chains::Chains;
+use super::{Blocks, Fields, fields_at, onward};
 use crate::token::Token;
 use strm_data::{Data, MOST_CLASSES, Refusal};
+use strm_links::Chained;
 
 // The number of free data blocks of each class.
 #[inline(always)]
@@ -55,26 +55,25 @@ fn class_left(stored: &Data, left: &[u32; MOST_CLASSES], size: u32) -> Option<u8
 // taking data blocks would change their types.
 #[inline(always)]
 pub(super) fn copies_fit(
-    chains: &Chains,
-    blocks: &[Fields],
+    chains: &Chained<Fields>,
     other: Option<&Data>,
     stored: &Data,
     head: u32,
     count: u32,
 ) -> bool
-    requires parted { IsNodesParted chains.now }
-    requires begun { slice_get (nodes_at chains.now head) 0 ≡ Some head }
-    requires count { count ≤ length (nodes_at chains.now head) }
-    requires listed { length blocks.now ≡ length chains.now.held }
-    requires placed { (n : ℕ) → n < length blocks.now → IsPlaced
-        (model.copied_from (lent_store other) stored.now.store) (fields_at blocks.now n) }
+    requires parted { IsLawful chains.now.lists }
+    requires begun { slice_get (nodes_at chains.now.lists head) 0 ≡ Some head }
+    requires count { count ≤ length (nodes_at chains.now.lists head) }
+    requires listed { length chains.now.loads ≡ length chains.now.lists.held }
+    requires placed { (n : ℕ) → n < length chains.now.loads → IsPlaced
+        (model.copied_from (lent_store other) stored.now.store) (fields_at chains.now.loads n) }
     requires classed { model.fits_classes (model.copied_from (lent_store other) stored.now.store)
-        (take count (message_of blocks.now (nodes_at chains.now head))) stored.now.store ≡ true }
+        (take count (message_of chains.now.loads (nodes_at chains.now.lists head))) stored.now.store ≡ true }
     requires kept { IsKept stored.now }
     ensures fit { result ≡ is_ok (model.blocks_copied (lent_store other.entry)
-        (take count (message_of blocks.now (nodes_at chains.now head))) stored.now.store) }
+        (take count (message_of chains.now.loads (nodes_at chains.now.lists head))) stored.now.store) }
     ensures refused { result ≡ false → model.blocks_copied (lent_store other.entry)
-        (take count (message_of blocks.now (nodes_at chains.now head))) stored.now.store ≡ Err NoData }
+        (take count (message_of chains.now.loads (nodes_at chains.now.lists head))) stored.now.store ≡ Err NoData }
 {
     if stored.free_in_largest() >= count {
         return true;
@@ -83,12 +82,12 @@ pub(super) fn copies_fit(
     let mut left = free_counts(stored);
     let mut node = head;
     for _block in 0..count {
-        let size = sizes.cap(blocks[node as usize].data_number);
+        let size = sizes.cap(fields_at(chains, node).data_number);
         let Some(class) = class_left(stored, &left, size) else {
             return false;
         };
         left[usize::from(class)] -= 1;
-        node = chains.onward(node);
+        node = onward(chains, node);
     }
     true
 }
@@ -121,34 +120,28 @@ fn copy_data(stored: &mut Data, source: Fields) -> Fields
 
 // Copies the first `count` blocks of a message, with their data, into those of another. Enough data blocks are free.
 #[inline(always)]
-fn copy_blocks(
-    chains: &Chains,
-    blocks: &mut [Fields],
-    stored: &mut Data,
-    from: u32,
-    into: u32,
-    count: u32,
-)
-    requires from { slice_get (nodes_at chains.now from) 0 ≡ Some from }
-    requires into { slice_get (nodes_at chains.now into) 0 ≡ Some into }
-    requires enough { count ≤ length (nodes_at chains.now from) }
-    requires count { length (nodes_at chains.now into) ≡ count }
-    requires apart { (n : ℕ) → times n (nodes_at chains.now from) + times n (nodes_at chains.now into) ≤ 1 }
-    requires listed { length blocks.old ≡ length chains.now.held }
-    requires placed { (n : ℕ) → n < length blocks.old → IsPlaced stored.old.store (fields_at blocks.old n) }
+fn copy_blocks(chains: &mut Chained<Fields>, stored: &mut Data, from: u32, into: u32, count: u32)
+    requires from { slice_get (nodes_at chains.old.lists from) 0 ≡ Some from }
+    requires into { slice_get (nodes_at chains.old.lists into) 0 ≡ Some into }
+    requires enough { count ≤ length (nodes_at chains.old.lists from) }
+    requires count { length (nodes_at chains.old.lists into) ≡ count }
+    requires apart { (n : ℕ) → times n (nodes_at chains.old.lists from) + times n (nodes_at chains.old.lists into) ≤ 1 }
+    requires listed { length chains.old.loads ≡ length chains.old.lists.held }
+    requires placed { (n : ℕ) → n < length chains.old.loads → IsPlaced stored.old.store (fields_at chains.old.loads n) }
     requires kept { IsKept stored.old }
     requires fit { IsTrue (is_ok (model.blocks_copied None
-        (take count (message_of blocks.old (nodes_at chains.now from))) stored.old.store)) }
-    ensures after { AreCopied None (take count (message_of blocks.old (nodes_at chains.now from)))
-        (nodes_at chains.now into) blocks.old blocks.new stored.old stored.new }
+        (take count (message_of chains.old.loads (nodes_at chains.old.lists from))) stored.old.store)) }
+    ensures lists { chains.new.lists ≡ chains.old.lists }
+    ensures after { AreCopied None (take count (message_of chains.old.loads (nodes_at chains.old.lists from)))
+        (nodes_at chains.old.lists into) chains.old.loads chains.new.loads stored.old stored.new }
     ensures kept { IsKept stored.new }
 {
     let mut read = from;
     let mut written = into;
     for _block in 0..count {
-        blocks[written as usize] = copy_data(stored, blocks[read as usize]);
-        read = chains.onward(read);
-        written = chains.onward(written);
+        chains.set_load(written, copy_data(stored, fields_at(chains, read)));
+        read = onward(chains, read);
+        written = onward(chains, written);
     }
 }
 
@@ -164,18 +157,11 @@ impl Blocks {
             return Err(Refusal::NoMblk);
         }
         let from = token.head();
-        if !copies_fit(&self.chains, &self.blocks, None, &self.data, from, count) {
+        if !copies_fit(&self.chains, None, &self.data, from, count) {
             return Err(Refusal::NoData);
         }
         let head = self.chains.begin_all(count);
-        copy_blocks(
-            &self.chains,
-            &mut self.blocks,
-            &mut self.data,
-            from,
-            head,
-            count,
-        );
+        copy_blocks(&mut self.chains, &mut self.data, from, head, count);
         Ok(self.token(head))
     }
 

@@ -6,70 +6,66 @@ ghost use Rattle.strm_mblk.specs.Arena.{has, message_at};
 ghost use Rattle.strm_mblk.specs.BlockCalls as model;
 ghost use Rattle.strm_mblk.specs.BlocksLayout.{exceeds_counts, fields_at, data_used_by, with_fields, with_references_given};
 ghost use Rattle.strm_mblk.specs.Calls.{Gives, itself};
-ghost use Rattle.strm_mblk.specs.NodeLists.{nodes_at};
+ghost use Rattle.strm_links.specs.ChainLists.{nodes_at};
 
 use super::freeing::drop_references;
-use super::{Blocks, Fields};
-use crate::chains::Chains;
+use super::{Blocks, Fields, fields_at, onward};
 use crate::token::Token;
 use strm_data::{Data, MOST_REFERENCES, Refusal};
+use strm_links::Chained;
 
 // Adds a reference to the data block of each of the first `count` blocks of a held message, first to last. Returns false,
 // and leaves all data blocks unchanged, if one would have more than `MOST_REFERENCES` references.
 #[inline(always)]
-fn give_references(
-    chains: &Chains,
-    blocks: &[Fields],
-    stored: &mut Data,
-    head: u32,
-    count: u32,
-) -> bool
-    requires begun { slice_get (nodes_at chains.now head) 0 ≡ Some head }
-    requires count { count ≤ length (nodes_at chains.now head) }
-    requires blocks { length blocks.now ≡ length chains.now.held }
-    requires there { (n : ℕ) → n < length blocks.now → (fields_at blocks.now n).data_number
+fn give_references(chains: &Chained<Fields>, stored: &mut Data, head: u32, count: u32) -> bool
+    requires begun { slice_get (nodes_at chains.now.lists head) 0 ≡ Some head }
+    requires count { count ≤ length (nodes_at chains.now.lists head) }
+    requires blocks { length chains.now.loads ≡ length chains.now.lists.held }
+    requires there { (n : ℕ) → n < length chains.now.loads → (fields_at chains.now.loads n).data_number
         < length stored.old.store.blocks }
-    requires used { (d : ℕ) → 0 < times d (data_used_by blocks.now (nodes_at chains.now head))
+    requires used { (d : ℕ) → 0 < times d (data_used_by chains.now.loads (nodes_at chains.now.lists head))
         → 0 < count_of stored.old d }
     requires kept { IsKept stored.old }
-    ensures answer { result ≡ not (exceeds_counts (take count (data_used_by blocks.now (nodes_at chains.now head)))
+    ensures answer { result ≡ not (exceeds_counts
+        (take count (data_used_by chains.now.loads (nodes_at chains.now.lists head)))
         stored.old) }
     ensures after { stored.new ≡ (if result then with_references_given
-        (take count (data_used_by blocks.now (nodes_at chains.now head))) stored.old else stored.old) }
+        (take count (data_used_by chains.now.loads (nodes_at chains.now.lists head))) stored.old else stored.old) }
     ensures kept { IsKept stored.new }
 {
     let mut node = head;
     for given in 0..count {
-        let data_number = blocks[node as usize].data_number;
+        let data_number = fields_at(chains, node).data_number;
         if stored.count(data_number) == MOST_REFERENCES {
-            drop_references(chains, blocks, stored, head, given);
+            drop_references(chains, stored, head, given);
             return false;
         }
         stored.name(data_number);
-        node = chains.onward(node);
+        node = onward(chains, node);
     }
     true
 }
 
 // Copies the fields of the first `count` blocks of a held message to the blocks of another, which has as many.
 #[inline(always)]
-fn copy_fields(chains: &Chains, blocks: &mut [Fields], from: u32, to: u32, count: u32)
-    requires from { slice_get (nodes_at chains.now from) 0 ≡ Some from }
-    requires to { slice_get (nodes_at chains.now to) 0 ≡ Some to }
-    requires enough { count ≤ length (nodes_at chains.now from) }
-    requires count { count ≡ length (nodes_at chains.now to) }
-    requires blocks { length blocks.old ≡ length chains.now.held }
-    requires apart { (n : ℕ) → times n (nodes_at chains.now from) + times n (nodes_at chains.now to) ≤ 1 }
-    ensures { blocks.new ≡ with_fields (nodes_at chains.now to)
-        (map (fields_at blocks.old) (take count (nodes_at chains.now from))) blocks.old }
+fn copy_fields(chains: &mut Chained<Fields>, from: u32, to: u32, count: u32)
+    requires from { slice_get (nodes_at chains.old.lists from) 0 ≡ Some from }
+    requires to { slice_get (nodes_at chains.old.lists to) 0 ≡ Some to }
+    requires enough { count ≤ length (nodes_at chains.old.lists from) }
+    requires count { count ≡ length (nodes_at chains.old.lists to) }
+    requires blocks { length chains.old.loads ≡ length chains.old.lists.held }
+    requires apart { (n : ℕ) → times n (nodes_at chains.old.lists from) + times n (nodes_at chains.old.lists to) ≤ 1 }
+    ensures lists { chains.new.lists ≡ chains.old.lists }
+    ensures loads { chains.new.loads ≡ with_fields (nodes_at chains.old.lists to)
+        (map (fields_at chains.old.loads) (take count (nodes_at chains.old.lists from))) chains.old.loads }
 {
     let mut read = from;
     let mut written = to;
     for _block in 0..count {
-        let said = blocks[read as usize];
-        blocks[written as usize] = said;
-        read = chains.onward(read);
-        written = chains.onward(written);
+        let said = fields_at(chains, read);
+        chains.set_load(written, said);
+        read = onward(chains, read);
+        written = onward(chains, written);
     }
 }
 
@@ -87,11 +83,11 @@ impl Blocks {
             return Err(Refusal::NoMblk);
         }
         let from = token.head();
-        if !give_references(&self.chains, &self.blocks, &mut self.data, from, count) {
+        if !give_references(&self.chains, &mut self.data, from, count) {
             return Err(Refusal::RefMax);
         }
         let head = self.chains.begin_all(count);
-        copy_fields(&self.chains, &mut self.blocks, from, head, count);
+        copy_fields(&mut self.chains, from, head, count);
         Ok(self.token(head))
     }
 

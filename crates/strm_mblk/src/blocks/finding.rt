@@ -3,7 +3,7 @@ ghost use Rattle.std.specs.Prelude.{◌≡◌, ◌+◌, ◌<◌, ◌≤◌, ℕ,
 ghost use Rattle.std.specs.Fn.{FnOnceReturnsAtMut, FnOnceTakesAtMut};
 ghost use Rattle.strm_data.specs.DataStore.{bytes_at, capacity_of};
 ghost use Rattle.strm_data.specs.Lending.{Edits};
-ghost use Rattle.strm_links.specs.StrandLists.{strand_at};
+ghost use Rattle.strm_links.specs.ChainLists.{chain_of};
 ghost use Rattle.strm_mblk.specs.Arena.{has, message_at};
 ghost use Rattle.strm_mblk.specs.Block.{Block};
 ghost use Rattle.strm_mblk.specs.BlockCalls as model;
@@ -11,11 +11,11 @@ ghost use Rattle.strm_mblk.specs.BlockCalls.{info_of};
 ghost use Rattle.strm_mblk.specs.BlocksLayout.{IsFoundIn, IsPlaced, IsStart, Suits, block_of, block_of_found};
 ghost use Rattle.strm_mblk.specs.Given.{answer_map};
 
-use super::{Blocks, Fields, node_at};
+use super::{Blocks, Fields, fields_at, node_at};
 use crate::block_info::BlockInfo;
 use crate::token::Token;
 use strm_data::Refusal;
-use strm_links::Strands;
+use strm_links::Chained;
 
 // A block of a held message, with the capacity of its data block.
 #[derive(Clone, Copy, Debug)]
@@ -36,17 +36,17 @@ pub(super) struct Start {
 // Finds the block that has byte `at` of a message, held or on a shelf, or if none has, the last block. Takes a step for each
 // block before it. Most messages have one block, for which no loop runs.
 #[inline(always)]
-pub(super) fn find_byte(strands: &Strands, blocks: &[Fields], head: u32, at: u32) -> Start
-    requires begins { slice_get (strand_at strands.now head) 0 ≡ Some head }
-    requires there { head < length strands.now.chains }
-    requires listed { length blocks.now ≡ length strands.now.chains }
-    ensures { IsStart strands.now blocks.now head at result }
+pub(super) fn find_byte(chains: &Chained<Fields>, head: u32, at: u32) -> Start
+    requires begins { slice_get (chain_of chains.now.lists head) 0 ≡ Some head }
+    requires there { head < length chains.now.lists.held }
+    requires listed { length chains.now.loads ≡ length chains.now.lists.held }
+    ensures { IsStart chains.now.lists chains.now.loads head at result }
 {
-    let last = strands.len(head) - 1;
+    let last = chains.len(head) - 1;
     let mut node = head;
     let mut skip = at;
     for block in 0..last {
-        let len = blocks[node as usize].len;
+        let len = fields_at(chains, node).len;
         if skip < len {
             return Start {
                 node,
@@ -55,7 +55,7 @@ pub(super) fn find_byte(strands: &Strands, blocks: &[Fields], head: u32, at: u32
             };
         }
         skip -= len;
-        node = strands.next(node).unwrap_or(u32::MAX);
+        node = chains.next(node).unwrap_or(u32::MAX);
     }
     Start {
         node,
@@ -74,7 +74,7 @@ impl Blocks {
         let Some(node) = node_at(&self.chains, token.head(), place) else {
             return Err(Refusal::NoSuchBlock);
         };
-        let fields = self.blocks[node as usize];
+        let fields = fields_at(&self.chains, node);
         Ok(Found {
             node,
             fields,
@@ -115,7 +115,7 @@ impl Blocks {
         ensures { (h k : ℕ) (b : Block) → slice_get (message_at self.old h) k ≡ Some b → b.number ≡ node
             → self.new ≡ model.with_block h k (block_of node fields) self.old }
     {
-        self.blocks[node as usize] = fields;
+        self.chains.set_load(node, fields);
     }
 
     // Lends bytes of a data block to `change`. All else stays unchanged.

@@ -7,44 +7,38 @@ ghost use Rattle.strm_mblk.specs.BlockCalls as model;
 ghost use Rattle.strm_mblk.specs.BlocksLayout.{fields_at, data_used_by, with_references_dropped};
 ghost use Rattle.strm_mblk.specs.Calls.{Frees, Spends, itself};
 ghost use Rattle.strm_mblk.specs.Freeing.{freemsg, with_token_spent};
-ghost use Rattle.strm_mblk.specs.NodeLists.{nodes_at};
+ghost use Rattle.strm_links.specs.ChainLists.{nodes_at};
 
-use super::{Blocks, Fields};
-use crate::chains::Chains;
+use super::{Blocks, Fields, fields_at, onward};
 use crate::token::Token;
 use strm_data::Data;
+use strm_links::Chained;
 
 // Removes the references of the first `count` blocks of a held message, first to last. Most messages have one block, for
 // which no loop runs.
 #[inline(always)]
-pub(super) fn drop_references(
-    chains: &Chains,
-    blocks: &[Fields],
-    stored: &mut Data,
-    head: u32,
-    count: u32,
-)
-    requires begun { slice_get (nodes_at chains.now head) 0 ≡ Some head }
-    requires count { count ≤ length (nodes_at chains.now head) }
-    requires blocks { length blocks.now ≡ length chains.now.held }
-    requires there { (n : ℕ) → n < length blocks.now → (fields_at blocks.now n).data_number
+pub(super) fn drop_references(chains: &Chained<Fields>, stored: &mut Data, head: u32, count: u32)
+    requires begun { slice_get (nodes_at chains.now.lists head) 0 ≡ Some head }
+    requires count { count ≤ length (nodes_at chains.now.lists head) }
+    requires blocks { length chains.now.loads ≡ length chains.now.lists.held }
+    requires there { (n : ℕ) → n < length chains.now.loads → (fields_at chains.now.loads n).data_number
         < length stored.old.store.blocks }
-    requires named { (d : ℕ) → times d (take count (data_used_by blocks.now (nodes_at chains.now head)))
+    requires named { (d : ℕ) → times d (take count (data_used_by chains.now.loads (nodes_at chains.now.lists head)))
         ≤ count_of stored.old d }
     requires kept { IsKept stored.old }
     ensures after { stored.new ≡ with_references_dropped
-        (take count (data_used_by blocks.now (nodes_at chains.now head)))
+        (take count (data_used_by chains.now.loads (nodes_at chains.now.lists head)))
         stored.old }
     ensures kept { IsKept stored.new }
 {
     if count == 0 {
         return;
     }
-    stored.drop_name(blocks[head as usize].data_number);
-    let mut node = chains.onward(head);
+    stored.drop_name(fields_at(chains, head).data_number);
+    let mut node = onward(chains, head);
     for _block in 1..count {
-        stored.drop_name(blocks[node as usize].data_number);
-        node = chains.onward(node);
+        stored.drop_name(fields_at(chains, node).data_number);
+        node = onward(chains, node);
     }
 }
 
@@ -93,14 +87,8 @@ impl Blocks {
         ensures { Spends itself token (freemsg token.head self.old) self.old self.new }
     {
         let token = token.spend();
-        drop_references(
-            &self.chains,
-            &self.blocks,
-            &mut self.data,
-            token.head,
-            blocks,
-        );
-        self.chains.free_counted(token.head, blocks);
+        drop_references(&self.chains, &mut self.data, token.head, blocks);
+        self.chains.free(token.head, blocks);
     }
 
     /// Frees the first block of a message, to the front of the free list. If its data block loses its last reference, it

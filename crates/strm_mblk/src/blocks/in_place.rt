@@ -7,7 +7,7 @@ ghost use Rattle.strm_mblk.specs.Given.{answer_map};
 ghost use Rattle.strm_mblk.specs.InPlace as model;
 
 use super::finding::Found;
-use super::{Blocks, Fields, node_at};
+use super::{Blocks, Fields, fields_at, node_at, onward};
 use crate::block_info::BlockInfo;
 use crate::block_place::BlockPlace;
 use crate::token::Token;
@@ -64,8 +64,8 @@ impl Blocks {
         // Each step finds a block, so `u32::MAX`, which means none, is never used.
         let mut node = node_at(&self.chains, token.head(), from).unwrap_or(u32::MAX);
         for done in 0..count {
-            into[done] = self.info(self.blocks[node as usize]);
-            node = self.chains.onward(node);
+            into[done] = self.info(fields_at(&self.chains, node));
+            node = onward(&self.chains, node);
         }
         count
     }

@@ -4,7 +4,7 @@ ghost use Rattle.strm_mblk.specs.Arena.{has};
 ghost use Rattle.strm_mblk.specs.BlockCalls as model;
 ghost use Rattle.strm_mblk.specs.Calls.{Joins, Parts, Unlinks, itself};
 
-use super::Blocks;
+use super::{Blocks, len};
 use crate::rejected::Rejected;
 use crate::token::Token;
 use strm_data::Refusal;
@@ -22,7 +22,7 @@ impl Blocks {
         let tail = tail.spend().head;
         if token.head() != tail {
             self.chains.join(token.head(), tail);
-            token.set_blocks(self.chains.len(token.head()));
+            token.set_blocks(len(&self.chains, token.head()));
         }
     }
 

@@ -7,32 +7,31 @@ ghost use Rattle.strm_mblk.specs.Block.{size_of};
 ghost use Rattle.strm_mblk.specs.BlocksLayout.{IsPlaced, fields_at, message_of};
 ghost use Rattle.strm_mblk.specs.Calls.{Alters, itself};
 ghost use Rattle.strm_mblk.specs.InPlace as model;
-ghost use Rattle.strm_mblk.specs.NodeLists.{nodes_at};
+ghost use Rattle.strm_links.specs.ChainLists.{nodes_at};
 
 use super::finding::find_byte;
-use super::{Blocks, Fields};
-use crate::chains::Chains;
+use super::{Blocks, Fields, fields_at, onward};
 use crate::token::Token;
 use strm_data::{Data, Refusal};
+use strm_links::Chained;
 
 // Writes bytes over those of a message, from place `at` on. `count` is the number of its blocks.
 fn overwrite_blocks(
-    chains: &Chains,
-    blocks: &[Fields],
+    chains: &Chained<Fields>,
     stored: &mut Data,
     head: u32,
     count: u32,
     at: u32,
     bytes: &[u8],
 )
-    requires begun { slice_get (nodes_at chains.now head) 0 ≡ Some head }
-    requires count { length (nodes_at chains.now head) ≡ count }
-    requires listed { length blocks.now ≡ length chains.now.held }
-    requires placed { (n : ℕ) → n < length blocks.now → IsPlaced stored.old.store (fields_at blocks.now n) }
+    requires begun { slice_get (nodes_at chains.now.lists head) 0 ≡ Some head }
+    requires count { length (nodes_at chains.now.lists head) ≡ count }
+    requires listed { length chains.now.loads ≡ length chains.now.lists.held }
+    requires placed { (n : ℕ) → n < length chains.now.loads → IsPlaced stored.old.store (fields_at chains.now.loads n) }
     requires kept { IsKept stored.old }
     ensures after { stored.new ≡ record stored.old {
       store = model.store_overwritten at bytes.now
-          (message_of blocks.now (nodes_at chains.now head)) stored.old.store;
+          (message_of chains.now.loads (nodes_at chains.now.lists head)) stored.old.store;
     } }
     ensures blocks { length stored.new.store.blocks ≡ length stored.old.store.blocks }
     ensures rooms { (d : ℕ) → capacity_of stored.new.store d ≡ capacity_of stored.old.store d }
@@ -45,7 +44,7 @@ fn overwrite_blocks(
         if rest.len() == 0 {
             return;
         }
-        let fields = blocks[node as usize];
+        let fields = fields_at(chains, node);
         let here = rest.len().min(fields.len.saturating_sub(skip) as usize);
         let (now, behind) = rest.split_at(here);
         stored.write(
@@ -55,7 +54,7 @@ fn overwrite_blocks(
         );
         rest = behind;
         skip = skip.saturating_sub(fields.len);
-        node = chains.onward(node);
+        node = onward(chains, node);
     }
 }
 
@@ -68,12 +67,12 @@ impl Blocks {
         let mut left = count;
         let mut node = token.head();
         for _block in 0..token.blocks() {
-            let len = self.blocks[node as usize].len as usize;
+            let len = fields_at(&self.chains, node).len as usize;
             if left <= len {
                 return false;
             }
             left -= len;
-            node = self.chains.onward(node);
+            node = onward(&self.chains, node);
         }
         left > 0
     }
@@ -90,14 +89,14 @@ impl Blocks {
             if left == 0 {
                 return false;
             }
-            let fields = self.blocks[node as usize];
+            let fields = fields_at(&self.chains, node);
             let here = left.min(fields.len.saturating_sub(skip) as usize);
             if here > 0 && self.data.count(fields.data_number) > 1 {
                 return true;
             }
             left -= here;
             skip = skip.saturating_sub(fields.len);
-            node = self.chains.onward(node);
+            node = onward(&self.chains, node);
         }
         false
     }
@@ -117,7 +116,6 @@ impl Blocks {
         }
         overwrite_blocks(
             &self.chains,
-            &self.blocks,
             &mut self.data,
             token.head(),
             token.blocks(),
@@ -139,8 +137,9 @@ impl Blocks {
         ensures { Alters itself token.now token.now (model.overwrite token.now.head at bytes.now self.old)
             self.old self.new result }
     {
-        let start = find_byte(self.chains.strands(), &self.blocks, token.head(), at);
-        let fields = self.blocks[start.node as usize];
+        self.chains.finds_chains();
+        let start = find_byte(&self.chains, token.head(), at);
+        let fields = fields_at(&self.chains, start.node);
         if start.at as usize + bytes.len() > fields.len as usize {
             return self.overwrite_across(token, at, bytes);
         }

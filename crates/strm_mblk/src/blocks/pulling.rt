@@ -9,15 +9,15 @@ ghost use Rattle.strm_mblk.specs.Cutting.{with_bytes_cut};
 ghost use Rattle.strm_mblk.specs.Calls.{Alters, itself};
 ghost use Rattle.strm_mblk.specs.Given.{value_after, answer_of};
 ghost use Rattle.strm_mblk.specs.Messages.{held_in};
-ghost use Rattle.strm_mblk.specs.NodeLists.{nodes_at};
+ghost use Rattle.strm_links.specs.ChainLists.{nodes_at};
 ghost use Rattle.strm_mblk.specs.Pulling as pulling;
 ghost use Rattle.strm_mblk.specs.Trimming as model;
 ghost use Rattle.strm_mblk.specs.Trimming.{bytes_asked};
 
-use super::{Blocks, Fields};
-use crate::chains::Chains;
+use super::{Blocks, Fields, fields_at, len, onward};
 use crate::token::Token;
 use strm_data::{Data, Refusal};
+use strm_links::Chained;
 
 // The number of bytes that `count` asks for. -1 asks for all `run` bytes of the leading blocks; the result is none for a
 // count below -1.
@@ -34,81 +34,73 @@ fn bytes_asked(count: i32, run: u32) -> Option<u32>
 }
 
 // Copies the first `count` bytes of a held message into data block `into`, to which none of its blocks refers.
-fn copy_front(
-    chains: &Chains,
-    blocks: &[Fields],
-    stored: &mut Data,
-    head: u32,
-    into: u32,
-    count: u32,
-)
-    requires held { IsSome (held_in chains.now.held head) }
-    requires begun { slice_get (nodes_at chains.now head) 0 ≡ Some head }
-    requires listed { length blocks.now ≡ length chains.now.held }
-    requires placed { (n : ℕ) → n < length blocks.now → IsPlaced stored.old.store (fields_at blocks.now n) }
+fn copy_front(chains: &Chained<Fields>, stored: &mut Data, head: u32, into: u32, count: u32)
+    requires held { IsSome (held_in chains.now.lists.held head) }
+    requires begun { slice_get (nodes_at chains.now.lists head) 0 ≡ Some head }
+    requires listed { length chains.now.loads ≡ length chains.now.lists.held }
+    requires placed { (n : ℕ) → n < length chains.now.loads → IsPlaced stored.old.store (fields_at chains.now.loads n) }
     requires there { into < length stored.old.store.blocks }
     requires room { count ≤ capacity_of stored.old.store into }
-    requires unnamed { times into (data_used_by blocks.now (nodes_at chains.now head)) ≡ 0 }
-    requires enough { count ≤ length (bytes_of stored.old.store (message_of blocks.now (nodes_at chains.now head))) }
+    requires unnamed { times into (data_used_by chains.now.loads (nodes_at chains.now.lists head)) ≡ 0 }
+    requires enough { count ≤ length (bytes_of stored.old.store
+        (message_of chains.now.loads (nodes_at chains.now.lists head))) }
     requires kept { IsKept stored.old }
-    ensures after { stored.new ≡ pulling.with_front_copied into count (message_of blocks.now (nodes_at chains.now head))
+    ensures after { stored.new ≡ pulling.with_front_copied into count
+        (message_of chains.now.loads (nodes_at chains.now.lists head))
         stored.old }
     ensures kept { IsKept stored.new }
 {
     let mut done = 0;
     let mut node = head;
-    for _block in 0..chains.len(head) {
+    for _block in 0..len(chains, head) {
         if done == count {
             return;
         }
-        let fields = blocks[node as usize];
+        let fields = fields_at(chains, node);
         let len = fields.len.min(count - done);
         stored.copy(fields.data_number, fields.offset, into, done, len);
         done += len;
-        node = chains.onward(node);
+        node = onward(chains, node);
     }
 }
 
 // Takes `count` bytes from the blocks after the first of a held message, and returns the number of blocks that are used
 // up. These stay in the message and keep their fields, but the data block of each loses a reference. The next block
 // loses the bytes that are then left to take.
-fn take_bytes(
-    chains: &Chains,
-    blocks: &mut [Fields],
-    stored: &mut Data,
-    head: u32,
-    count: u32,
-) -> u32
-    requires held { IsSome (held_in chains.now.held head) }
-    requires begun { slice_get (nodes_at chains.now head) 0 ≡ Some head }
-    requires listed { length blocks.old ≡ length chains.now.held }
-    requires within { (i n : ℕ) → slice_get (nodes_at chains.now head) i ≡ Some n → n < length blocks.old }
-    requires there { (n : ℕ) → n < length blocks.old → (fields_at blocks.old n).data_number
+fn take_bytes(chains: &mut Chained<Fields>, stored: &mut Data, head: u32, count: u32) -> u32
+    requires held { IsSome (held_in chains.old.lists.held head) }
+    requires begun { slice_get (nodes_at chains.old.lists head) 0 ≡ Some head }
+    requires listed { length chains.old.loads ≡ length chains.old.lists.held }
+    requires within { (i n : ℕ) → slice_get (nodes_at chains.old.lists head) i ≡ Some n → n < length chains.old.loads }
+    requires there { (n : ℕ) → n < length chains.old.loads → (fields_at chains.old.loads n).data_number
         < length stored.old.store.blocks }
-    requires small { (n : ℕ) → n < length blocks.old → (fields_at blocks.old n).offset + (fields_at blocks.old n).len
+    requires small { (n : ℕ) → n < length chains.old.loads
+        → (fields_at chains.old.loads n).offset + (fields_at chains.old.loads n).len
         < 2 ^ 32 }
-    requires named { (d : ℕ) → times d (data_used_by blocks.old (nodes_at chains.now head)) ≤ count_of stored.old d }
+    requires named { (d : ℕ) → times d (data_used_by chains.old.loads (nodes_at chains.old.lists head))
+        ≤ count_of stored.old d }
     requires kept { IsKept stored.old }
+    ensures lists { chains.new.lists ≡ chains.old.lists }
     ensures used { result ≡ length (model.blocks_used_up count
-        (message_of blocks.old (drop 1 (nodes_at chains.now head)))) }
+        (message_of chains.old.loads (drop 1 (nodes_at chains.old.lists head)))) }
     ensures dropped { stored.new ≡ with_references_dropped (take result
-        (data_used_by blocks.old (drop 1 (nodes_at chains.now head)))) stored.old }
-    ensures cut { blocks.new ≡ with_bytes_cut false (count - size_of
-        (take result (message_of blocks.old (drop 1 (nodes_at chains.now head)))))
-        (drop (result + 1) (nodes_at chains.now head)) blocks.old }
+        (data_used_by chains.old.loads (drop 1 (nodes_at chains.old.lists head)))) stored.old }
+    ensures cut { chains.new.loads ≡ with_bytes_cut false (count - size_of
+        (take result (message_of chains.old.loads (drop 1 (nodes_at chains.old.lists head)))))
+        (drop (result + 1) (nodes_at chains.old.lists head)) chains.old.loads }
     ensures kept { IsKept stored.new }
 {
-    let behind = chains.len(head) - 1;
+    let behind = len(chains, head) - 1;
     let mut left = count;
     let mut node = head;
     for used in 0..behind {
         if left == 0 {
             return used;
         }
-        node = chains.onward(node);
-        let fields = blocks[node as usize];
+        node = onward(chains, node);
+        let fields = fields_at(chains, node);
         if left < fields.len {
-            blocks[node as usize] = fields.cut(left, false);
+            chains.set_load(node, fields.cut(left, false));
             return used;
         }
         left -= fields.len;
@@ -129,24 +121,18 @@ impl Blocks {
         ensures answer { result ≡ answer_of (pulling.pull_front token.now.head count self.old) }
     {
         let head = token.head();
-        let fields = self.blocks[head as usize];
+        let fields = fields_at(&self.chains, head);
         let kind = self.data.kind(fields.data_number);
         let data_number = self.data.take(count)?;
         self.data.set_kind(data_number, kind);
-        copy_front(
-            &self.chains,
-            &self.blocks,
-            &mut self.data,
-            head,
-            data_number,
-            count,
-        );
-        self.blocks[head as usize] = Fields {
+        copy_front(&self.chains, &mut self.data, head, data_number, count);
+        let pulled = Fields {
             data_number,
             offset: 0,
             len: count,
             band: fields.band,
         };
+        self.chains.set_load(head, pulled);
         self.data.drop_name(fields.data_number);
         Ok(())
     }
@@ -156,7 +142,7 @@ impl Blocks {
         requires { IsSome (held_at self.old head) }
         ensures { self.new ≡ pulling.with_bytes_drained head count (message_at self.old head) self.old }
     {
-        let used = take_bytes(&self.chains, &mut self.blocks, &mut self.data, head, count);
+        let used = take_bytes(&mut self.chains, &mut self.data, head, count);
         self.chains.free_behind(head, used);
     }
 
@@ -184,13 +170,13 @@ impl Blocks {
         if wanted > run {
             return Err(Refusal::Short);
         }
-        let len = self.blocks[head as usize].len;
-        if wanted <= len {
+        let front = fields_at(&self.chains, head).len;
+        if wanted <= front {
             return Ok(());
         }
         self.pull_front(token, wanted)?;
-        self.drain(head, wanted - len);
-        token.set_blocks(self.chains.len(head));
+        self.drain(head, wanted - front);
+        token.set_blocks(len(&self.chains, head));
         Ok(())
     }
 }

@@ -2,15 +2,15 @@
 ghost use Rattle.std.specs.Prelude.{◌≡◌, ◌<◌, ◌-◌, ◌++◌, ℕ, IsTrue, drop, length, min, sum_by, take};
 ghost use Rattle.strm_data.specs.CountedStore.{IsKept};
 ghost use Rattle.strm_mblk.specs.Arena.{has, message_at};
-ghost use Rattle.strm_links.specs.StrandLists.{strand_at};
+ghost use Rattle.strm_links.specs.ChainLists.{chain_of};
 ghost use Rattle.strm_mblk.specs.BlocksLayout.{IsPlaced, IsReadable, IsSummable, block_of, message_of};
 ghost use Rattle.strm_mblk.specs.Block.{bytes_of, bytes_of_block, data_size_of, len_counted, size_of};
 
 use super::finding::find_byte;
-use super::{Blocks, Fields};
+use super::{Blocks, Fields, fields_at};
 use crate::token::Token;
 use strm_data::{Data, MsgType};
-use strm_links::Strands;
+use strm_links::Chained;
 
 // The bytes of a message block that count: all of them, or with `data_alone` only those of an M_DATA block.
 fn length_of(stored: &Data, fields: Fields, data_alone: bool) -> u32
@@ -27,22 +27,21 @@ fn length_of(stored: &Data, fields: Fields, data_alone: bool) -> u32
 // Adds up the lengths of a message's blocks, or with `data_alone` of its M_DATA blocks only. Takes a step for each block.
 // Most messages have one block, for which no loop runs.
 pub(super) fn sum_of_lengths(
-    strands: &Strands,
-    blocks: &[Fields],
+    chains: &Chained<Fields>,
     stored: &Data,
     head: u32,
     data_alone: bool,
 ) -> u32
-    requires { IsSummable strands.now blocks.now stored.now.store head }
+    requires { IsSummable chains.now.lists chains.now.loads stored.now.store head }
     ensures { result ≡ sum_by (len_counted data_alone stored.now.store)
-        (message_of blocks.now (strand_at strands.now head)) }
+        (message_of chains.now.loads (chain_of chains.now.lists head)) }
 {
     // Each step finds a block, so `u32::MAX`, which means none, is never used; that saves a branch.
-    let mut sum = length_of(stored, blocks[head as usize], data_alone);
+    let mut sum = length_of(stored, fields_at(chains, head), data_alone);
     let mut node = head;
-    for _block in 1..strands.len(head) {
-        node = strands.next(node).unwrap_or(u32::MAX);
-        sum += length_of(stored, blocks[node as usize], data_alone);
+    for _block in 1..chains.len(head) {
+        node = chains.next(node).unwrap_or(u32::MAX);
+        sum += length_of(stored, fields_at(chains, node), data_alone);
     }
     sum
 }
@@ -69,55 +68,53 @@ fn read_block(stored: &Data, fields: Fields, at: u32, into: &mut [u8]) -> usize
 // step and at most one slice copy for each block up to the last one that is read.
 // Most messages have one block, for which no loop runs.
 pub(super) fn read_bytes(
-    strands: &Strands,
-    blocks: &[Fields],
+    chains: &Chained<Fields>,
     stored: &Data,
     head: u32,
     at: u32,
     into: &mut [u8],
 ) -> usize
-    requires { IsReadable strands.now blocks.now stored.now head }
+    requires { IsReadable chains.now.lists chains.now.loads stored.now head }
     ensures count { result ≡ min (length into.old)
-        (size_of (message_of blocks.now (strand_at strands.now head)) - at) }
+        (size_of (message_of chains.now.loads (chain_of chains.now.lists head)) - at) }
     ensures bytes { into.new ≡ take result
-        (drop at (bytes_of stored.now.store (message_of blocks.now (strand_at strands.now head))))
+        (drop at (bytes_of stored.now.store (message_of chains.now.loads (chain_of chains.now.lists head))))
         ++ drop result into.old }
 {
-    if strands.len(head) == 1 {
-        return read_block(stored, blocks[head as usize], at, into);
+    if chains.len(head) == 1 {
+        return read_block(stored, fields_at(chains, head), at, into);
     }
-    read_across(strands, blocks, stored, head, at, into)
+    read_across(chains, stored, head, at, into)
 }
 
 // Does what `read_bytes` does, block by block from the one that has byte `at` on.
 #[inline(never)]
 fn read_across(
-    strands: &Strands,
-    blocks: &[Fields],
+    chains: &Chained<Fields>,
     stored: &Data,
     head: u32,
     at: u32,
     into: &mut [u8],
 ) -> usize
-    requires { IsReadable strands.now blocks.now stored.now head }
+    requires { IsReadable chains.now.lists chains.now.loads stored.now head }
     ensures count { result ≡ min (length into.old)
-        (size_of (message_of blocks.now (strand_at strands.now head)) - at) }
+        (size_of (message_of chains.now.loads (chain_of chains.now.lists head)) - at) }
     ensures bytes { into.new ≡ take result
-        (drop at (bytes_of stored.now.store (message_of blocks.now (strand_at strands.now head))))
+        (drop at (bytes_of stored.now.store (message_of chains.now.loads (chain_of chains.now.lists head))))
         ++ drop result into.old }
 {
-    let start = find_byte(strands, blocks, head, at);
+    let start = find_byte(chains, head, at);
     let mut skip = start.at;
     let mut done = 0;
     let mut node = start.node;
-    for _block in start.block..strands.len(head) {
+    for _block in start.block..chains.len(head) {
         if done == into.len() {
             return done;
         }
-        let fields = blocks[node as usize];
+        let fields = fields_at(chains, node);
         done += read_block(stored, fields, skip, &mut into[done..]);
         skip = skip.saturating_sub(fields.len);
-        node = strands.next(node).unwrap_or(u32::MAX);
+        node = chains.next(node).unwrap_or(u32::MAX);
     }
     done
 }
@@ -128,13 +125,8 @@ impl Blocks {
         requires { IsTrue (has self.now token.now) }
         ensures { result ≡ sum_by (len_counted data_alone self.now.store) (message_at self.now token.now.head) }
     {
-        sum_of_lengths(
-            self.chains.strands(),
-            &self.blocks,
-            &self.data,
-            token.head(),
-            data_alone,
-        )
+        self.chains.finds_chains();
+        sum_of_lengths(&self.chains, &self.data, token.head(), data_alone)
     }
 
     /// Returns the number of bytes of a message, over all its blocks. Changes nothing. Takes a step for each block.
@@ -166,13 +158,7 @@ impl Blocks {
         ensures sized { length (bytes_of self.now.store (message_at self.now token.now.head))
             ≡ size_of (message_at self.now token.now.head) }
     {
-        read_bytes(
-            self.chains.strands(),
-            &self.blocks,
-            &self.data,
-            token.head(),
-            at,
-            into,
-        )
+        self.chains.finds_chains();
+        read_bytes(&self.chains, &self.data, token.head(), at, into)
     }
 }

@@ -5,49 +5,46 @@ ghost use Rattle.strm_mblk.specs.Arena.{has, message_at};
 ghost use Rattle.strm_mblk.specs.BlocksLayout.{fields_at, message_of, with_shapes};
 ghost use Rattle.strm_mblk.specs.Calls.{Alters, itself};
 ghost use Rattle.strm_mblk.specs.InPlace as model;
-ghost use Rattle.strm_mblk.specs.NodeLists.{nodes_at};
+ghost use Rattle.strm_links.specs.ChainLists.{nodes_at};
 
-use super::{Blocks, Fields};
+use super::{Blocks, Fields, fields_at, onward};
 use crate::block_place::Shaped;
-use crate::chains::Chains;
 use crate::token::Token;
 use strm_data::{Data, Refusal};
+use strm_links::Chained;
 
 // Gives the first blocks of a message these shapes, and their data blocks the types.
-fn shape_blocks<S: Shaped>(
-    chains: &Chains,
-    blocks: &mut [Fields],
-    stored: &mut Data,
-    head: u32,
-    shapes: &[S],
-)
-    requires begun { slice_get (nodes_at chains.now head) 0 ≡ Some head }
-    requires count { length shapes.now ≤ length (nodes_at chains.now head) }
-    requires listed { length blocks.old ≡ length chains.now.held }
-    requires there { (n : ℕ) → n < length blocks.old → (fields_at blocks.old n).data_number
+fn shape_blocks<S: Shaped>(chains: &mut Chained<Fields>, stored: &mut Data, head: u32, shapes: &[S])
+    requires begun { slice_get (nodes_at chains.old.lists head) 0 ≡ Some head }
+    requires count { length shapes.now ≤ length (nodes_at chains.old.lists head) }
+    requires listed { length chains.old.loads ≡ length chains.old.lists.held }
+    requires there { (n : ℕ) → n < length chains.old.loads → (fields_at chains.old.loads n).data_number
         < length stored.old.store.blocks }
-    requires banded { (n : ℕ) → n < length blocks.old → (fields_at blocks.old n).band < 2 ^ 8 }
+    requires banded { (n : ℕ) → n < length chains.old.loads → (fields_at chains.old.loads n).band < 2 ^ 8 }
     requires kept { IsKept stored.old }
-    ensures fields { blocks.new ≡ with_shapes (map S.shape shapes.now) (nodes_at chains.now head) blocks.old }
-    ensures banded { (n : ℕ) → n < length blocks.new → (fields_at blocks.new n).band < 2 ^ 8 }
+    ensures lists { chains.new.lists ≡ chains.old.lists }
+    ensures fields { chains.new.loads
+        ≡ with_shapes (map S.shape shapes.now) (nodes_at chains.old.lists head) chains.old.loads }
+    ensures banded { (n : ℕ) → n < length chains.new.loads → (fields_at chains.new.loads n).band < 2 ^ 8 }
     ensures after { stored.new ≡ record stored.old {
       store = model.store_retyped (map S.shape shapes.now)
-          (message_of blocks.old (nodes_at chains.now head)) stored.old.store;
+          (message_of chains.old.loads (nodes_at chains.old.lists head)) stored.old.store;
     } }
     ensures kept { IsKept stored.new }
 {
     let mut node = head;
     for shaped in shapes {
         let shape = shaped.shape();
-        let data_number = blocks[node as usize].data_number;
+        let data_number = fields_at(chains, node).data_number;
         stored.set_kind(data_number, shape.kind);
-        blocks[node as usize] = Fields {
+        let fields = Fields {
             data_number,
             offset: shape.at,
             len: shape.len,
             band: shape.band,
         };
-        node = chains.onward(node);
+        chains.set_load(node, fields);
+        node = onward(chains, node);
     }
 }
 
@@ -61,7 +58,7 @@ impl Blocks {
         let mut node = token.head();
         for shaped in shapes {
             let shape = shaped.shape();
-            let data_number = self.blocks[node as usize].data_number;
+            let data_number = fields_at(&self.chains, node).data_number;
             let capacity = self.data.cap(data_number);
             if shape.at > capacity || shape.len > capacity - shape.at {
                 return Err(Refusal::NoRoom);
@@ -69,7 +66,7 @@ impl Blocks {
             if self.data.kind(data_number) != shape.kind && self.data.count(data_number) > 1 {
                 return Err(Refusal::Shared);
             }
-            node = self.chains.onward(node);
+            node = onward(&self.chains, node);
         }
         Ok(())
     }
@@ -91,13 +88,7 @@ impl Blocks {
             return Err(Refusal::NoSuchBlock);
         }
         self.fit(token, shapes)?;
-        shape_blocks(
-            &self.chains,
-            &mut self.blocks,
-            &mut self.data,
-            token.head(),
-            shapes,
-        );
+        shape_blocks(&mut self.chains, &mut self.data, token.head(), shapes);
         Ok(())
     }
 }

@@ -10,7 +10,7 @@ ghost use Rattle.strm_mblk.specs.Shelves as model;
 ghost use Rattle.strm_mblk.specs.Shelves.{head_block, heads_at, shelf_of, shelved_message, is_on};
 
 use super::reading::{read_bytes, sum_of_lengths};
-use super::{BlockNo, Blocks};
+use super::{BlockNo, Blocks, fields_at, len};
 use crate::token::Token;
 use strm_data::MsgType;
 
@@ -36,7 +36,7 @@ impl Blocks {
     pub fn shelf_of(&self, head: BlockNo) -> Option<u32>
         ensures { result ≡ shelf_of self.now head }
     {
-        if head as usize >= self.blocks.len() {
+        if head as usize >= self.chains.node_count() {
             return None;
         }
         self.chains.shelf_of(head)
@@ -89,7 +89,7 @@ impl Blocks {
             (Ok tt) }
     {
         let head = token.spend().head;
-        let blocks = self.chains.len(head);
+        let blocks = len(&self.chains, head);
         self.chains.shelve(u32::from(shelf), before, head);
         self.queued += blocks;
     }
@@ -102,7 +102,7 @@ impl Blocks {
         ensures { Takes itself (Ok (head, model.unshelve shelf head self.old)) self.old self.new (Ok result) }
     {
         self.chains.unshelve(u32::from(shelf), head);
-        let blocks = self.chains.len(head);
+        let blocks = len(&self.chains, head);
         self.queued -= blocks;
         self.token_of(head, blocks)
     }
@@ -112,7 +112,7 @@ impl Blocks {
         requires { IsSome (shelf_of self.now head) }
         ensures { option_map (kind_of self.now.store) (head_block self.now head) ≡ Some result }
     {
-        self.data.kind(self.blocks[head as usize].data_number)
+        self.data.kind(fields_at(&self.chains, head).data_number)
     }
 
     /// Returns the band of the first block of a message on a shelf. Changes nothing.
@@ -120,7 +120,7 @@ impl Blocks {
         requires { IsSome (shelf_of self.now head) }
         ensures { option_map (λ b. b.band) (head_block self.now head) ≡ Some result }
     {
-        self.blocks[head as usize].band
+        fields_at(&self.chains, head).band
     }
 
     /// Returns the number of blocks of a message on a shelf. Changes nothing. Takes constant time.
@@ -128,7 +128,8 @@ impl Blocks {
         requires { IsSome (shelf_of self.now head) }
         ensures { result ≡ length (shelved_message self.now head) }
     {
-        self.chains.strands().len(head)
+        self.chains.finds_chains();
+        self.chains.len(head)
     }
 
     /// Copies the bytes of a message on a shelf, as [`Blocks::read`] copies those of a held message, at the same cost.
@@ -138,14 +139,8 @@ impl Blocks {
         ensures bytes { into.new ≡ take result (drop at (bytes_of self.now.store (shelved_message self.now head)))
             ++ drop result into.old }
     {
-        read_bytes(
-            self.chains.strands(),
-            &self.blocks,
-            &self.data,
-            head,
-            at,
-            into,
-        )
+        self.chains.finds_chains();
+        read_bytes(&self.chains, &self.data, head, at, into)
     }
 
     /// Returns the number of bytes of a message on a shelf. Changes nothing. Takes a step for each block.
@@ -153,6 +148,7 @@ impl Blocks {
         requires { IsSome (shelf_of self.now head) }
         ensures { result ≡ size_of (shelved_message self.now head) }
     {
-        sum_of_lengths(self.chains.strands(), &self.blocks, &self.data, head, false)
+        self.chains.finds_chains();
+        sum_of_lengths(&self.chains, &self.data, head, false)
     }
 }

@@ -9,14 +9,14 @@ ghost use Rattle.strm_mblk.specs.BlocksLayout.{IsPlaced, block_of};
 ghost use Rattle.strm_mblk.specs.Calls.{Gives, Transfers, itself};
 ghost use Rattle.strm_mblk.specs.Copying.{AreCopied, with_copy};
 ghost use Rattle.strm_mblk.specs.Freeing.{with_token_spent};
-ghost use Rattle.strm_mblk.specs.NodeLists.{nodes_at};
+ghost use Rattle.strm_links.specs.ChainLists.{nodes_at};
 
 use super::copying::copies_fit;
-use super::{Blocks, Fields};
-use crate::chains::Chains;
+use super::{Blocks, Fields, fields_at, onward};
 use crate::rejected::Rejected;
 use crate::token::Token;
 use strm_data::{Data, Refusal};
+use strm_links::Chained;
 
 // Takes a data block for a copy of another pool's message block, with the type and the bytes of the old one. Returns the
 // fields of the copy.
@@ -55,11 +55,11 @@ impl Blocks {
     {
         let mut node = token.head();
         for _block in 0..token.blocks() {
-            let size = self.data.cap(self.blocks[node as usize].data_number);
+            let size = self.data.cap(fields_at(&self.chains, node).data_number);
             if !stored.has_class_for(size) {
                 return false;
             }
-            node = self.chains.onward(node);
+            node = onward(&self.chains, node);
         }
         true
     }
@@ -67,31 +67,29 @@ impl Blocks {
     // Copies the blocks of a message, with their data, into those of another pool's message, which has as many. Enough data
     // blocks are free there.
     #[inline(always)]
-    fn copy_into(
-        &self,
-        token: &Token,
-        chains: &Chains,
-        blocks: &mut [Fields],
-        stored: &mut Data,
-        head: u32,
-    )
+    fn copy_into(&self, token: &Token, chains: &mut Chained<Fields>, stored: &mut Data, head: u32)
         requires had { IsTrue (has self.now token.now) }
-        requires begun { slice_get (nodes_at chains.now head) 0 ≡ Some head }
-        requires count { length (nodes_at chains.now head) ≡ token.now.blocks }
-        requires listed { length blocks.old ≡ length chains.now.held }
+        requires begun { slice_get (nodes_at chains.old.lists head) 0 ≡ Some head }
+        requires count { length (nodes_at chains.old.lists head) ≡ token.now.blocks }
+        requires listed { length chains.old.loads ≡ length chains.old.lists.held }
         requires kept { IsKept stored.old }
         requires fit { IsTrue (is_ok (model.blocks_copied (Some self.now.store) (message_at self.now token.now.head)
             stored.old.store)) }
-        ensures after { AreCopied (Some self.now.store) (message_at self.now token.now.head) (nodes_at chains.now head)
-            blocks.old blocks.new stored.old stored.new }
+        ensures lists { chains.new.lists ≡ chains.old.lists }
+        ensures after { AreCopied (Some self.now.store) (message_at self.now token.now.head)
+            (nodes_at chains.old.lists head)
+            chains.old.loads chains.new.loads stored.old stored.new }
         ensures kept { IsKept stored.new }
     {
         let mut read = token.head();
         let mut written = head;
         for _block in 0..token.blocks() {
-            blocks[written as usize] = take_copy(stored, &self.data, self.blocks[read as usize]);
-            read = self.chains.onward(read);
-            written = chains.onward(written);
+            chains.set_load(
+                written,
+                take_copy(stored, &self.data, fields_at(&self.chains, read)),
+            );
+            read = onward(&self.chains, read);
+            written = onward(chains, written);
         }
     }
 
@@ -108,18 +106,11 @@ impl Blocks {
             return Err(Refusal::NoMblk);
         }
         let from = token.head();
-        if !copies_fit(
-            &other.chains,
-            &other.blocks,
-            Some(&other.data),
-            &self.data,
-            from,
-            count,
-        ) {
+        if !copies_fit(&other.chains, Some(&other.data), &self.data, from, count) {
             return Err(Refusal::NoData);
         }
         let head = self.chains.begin_all(count);
-        other.copy_into(token, &self.chains, &mut self.blocks, &mut self.data, head);
+        other.copy_into(token, &mut self.chains, &mut self.data, head);
         Ok(self.token(head))
     }
 

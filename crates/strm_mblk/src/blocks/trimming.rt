@@ -5,14 +5,14 @@ ghost use Rattle.strm_mblk.specs.Block.{size_of};
 ghost use Rattle.strm_mblk.specs.BlocksLayout.{fields_at, message_of};
 ghost use Rattle.strm_mblk.specs.Cutting.{IsRun, IsTail, fields_cut, run_with, with_bytes_cut};
 ghost use Rattle.strm_mblk.specs.Calls.{Alters, itself};
-ghost use Rattle.strm_mblk.specs.NodeLists.{nodes_at};
+ghost use Rattle.strm_links.specs.ChainLists.{nodes_at};
 ghost use Rattle.strm_mblk.specs.Trimming as model;
 ghost use Rattle.strm_mblk.specs.Trimming.{run_of};
 
-use super::{Blocks, Fields};
-use crate::chains::Chains;
+use super::{Blocks, Fields, fields_at, onward};
 use crate::token::Token;
 use strm_data::{Data, MsgType, Refusal};
+use strm_links::Chained;
 
 // A run: blocks of one type that follow each other in a message. It has the first of them, the number of blocks from
 // there to the message's end, the number of the run's bytes, and its type.
@@ -57,23 +57,16 @@ impl Run {
 
 // The run of leading blocks that have the first block's type, or with `from_tail` that of trailing blocks that have the
 // last block's type. Walks from the first block on, at the head only to the end of the run.
-fn run_in(
-    chains: &Chains,
-    blocks: &[Fields],
-    stored: &Data,
-    head: u32,
-    count: u32,
-    from_tail: bool,
-) -> Run
-    requires begun { slice_get (nodes_at chains.now head) 0 ≡ Some head }
-    requires count { count ≡ length (nodes_at chains.now head) }
-    requires blocks { length blocks.now ≡ length chains.now.held }
-    requires there { (n : ℕ) → n < length blocks.now → (fields_at blocks.now n).data_number
+fn run_in(chains: &Chained<Fields>, stored: &Data, head: u32, count: u32, from_tail: bool) -> Run
+    requires begun { slice_get (nodes_at chains.now.lists head) 0 ≡ Some head }
+    requires count { count ≡ length (nodes_at chains.now.lists head) }
+    requires blocks { length chains.now.loads ≡ length chains.now.lists.held }
+    requires there { (n : ℕ) → n < length chains.now.loads → (fields_at chains.now.loads n).data_number
         < length stored.now.store.blocks }
-    requires small { size_of (message_of blocks.now (nodes_at chains.now head)) < 2 ^ 32 }
-    ensures { IsRun from_tail stored.now.store blocks.now (nodes_at chains.now head) result }
+    requires small { size_of (message_of chains.now.loads (nodes_at chains.now.lists head)) < 2 ^ 32 }
+    ensures { IsRun from_tail stored.now.store chains.now.loads (nodes_at chains.now.lists head) result }
 {
-    let data_number = blocks[head as usize].data_number;
+    let data_number = fields_at(chains, head).data_number;
     let mut run = Run {
         first: head,
         blocks: count,
@@ -82,13 +75,13 @@ fn run_in(
     };
     let mut node = head;
     for block in 0..count {
-        let fields = blocks[node as usize];
+        let fields = fields_at(chains, node);
         let kind = stored.kind(fields.data_number);
         if !from_tail && kind != run.kind {
             return run;
         }
         run = run.with(node, count - block, kind, fields.len);
-        node = chains.onward(node);
+        node = onward(chains, node);
     }
     run
 }
@@ -113,14 +106,17 @@ impl Fields {
 
 // Cuts `count` blocks of a held message, from `first` on. The first `bytes` bytes of these blocks are removed, or with
 // `from_tail` all others. Each block loses those that it has.
-fn cut(chains: &Chains, blocks: &mut [Fields], first: u32, count: u32, bytes: u32, from_tail: bool)
-    requires first { first < length chains.now.held }
-    requires tail { IsTail chains.now first count }
-    requires blocks { length blocks.old ≡ length chains.now.held }
-    requires small { (n : ℕ) → n < length blocks.old → (fields_at blocks.old n).offset + (fields_at blocks.old n).len
+fn cut(chains: &mut Chained<Fields>, first: u32, count: u32, bytes: u32, from_tail: bool)
+    requires first { first < length chains.old.lists.held }
+    requires tail { IsTail chains.old.lists first count }
+    requires blocks { length chains.old.loads ≡ length chains.old.lists.held }
+    requires small { (n : ℕ) → n < length chains.old.loads
+        → (fields_at chains.old.loads n).offset + (fields_at chains.old.loads n).len
         < 2 ^ 32 }
-    ensures { (h i : ℕ) → slice_get (nodes_at chains.now h) i ≡ Some first → i + count ≡ length (nodes_at chains.now h)
-        → blocks.new ≡ with_bytes_cut from_tail bytes (drop i (nodes_at chains.now h)) blocks.old }
+    ensures lists { chains.new.lists ≡ chains.old.lists }
+    ensures loads { (h i : ℕ) → slice_get (nodes_at chains.old.lists h) i ≡ Some first
+        → i + count ≡ length (nodes_at chains.old.lists h)
+        → chains.new.loads ≡ with_bytes_cut from_tail bytes (drop i (nodes_at chains.old.lists h)) chains.old.loads }
 {
     let mut left = bytes;
     let mut node = first;
@@ -128,10 +124,10 @@ fn cut(chains: &Chains, blocks: &mut [Fields], first: u32, count: u32, bytes: u3
         if left == 0 && !from_tail {
             return;
         }
-        let fields = blocks[node as usize];
-        blocks[node as usize] = fields.cut(left, from_tail);
+        let fields = fields_at(chains, node);
+        chains.set_load(node, fields.cut(left, from_tail));
         left = left.saturating_sub(fields.len);
-        node = chains.onward(node);
+        node = onward(chains, node);
     }
 }
 
@@ -143,7 +139,6 @@ impl Blocks {
     {
         run_in(
             &self.chains,
-            &self.blocks,
             &self.data,
             token.head(),
             token.blocks(),
@@ -168,7 +163,6 @@ impl Blocks {
         let bytes = count.unsigned_abs();
         let run = run_in(
             &self.chains,
-            &self.blocks,
             &self.data,
             token.head(),
             token.blocks(),
@@ -178,8 +172,7 @@ impl Blocks {
             return Err(Refusal::Short);
         }
         cut(
-            &self.chains,
-            &mut self.blocks,
+            &mut self.chains,
             run.first,
             run.blocks,
             run.ahead(bytes, from_tail),

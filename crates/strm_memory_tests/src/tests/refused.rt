@@ -10,7 +10,7 @@ use std::process::Abort;
 use std::sync::Wait;
 use std::thread::Threads;
 use strm_data::Data;
-use strm_links::{Links, Stacks, Strands};
+use strm_links::{Chained, Links, Stacks};
 use strm_named::NamedPool;
 use strm_pool::{Blocks, ClassSpec, Config, NewFault, Pool, QueueSpec, Queues, Reply};
 use strm_run::{Mode, RunFault, Watched, run};
@@ -69,17 +69,18 @@ fn stacks(rt: &(impl Abort + Print), alloc: Global) {
     assert!(rt; stacks.front(0).is_none() && stacks.front(1) == Some(3));
 }
 
-// The one node begins a strand, and then no node is free.
-fn strands(rt: &(impl Abort + Print), alloc: Global) {
-    let mut strands = made!(rt, AllocError, Strands::new, alloc, 1);
-    assert!(rt; strands.begin() == Some(0) && strands.begin().is_none());
+// The one node becomes a chain, and then no node is free.
+fn chained(rt: &(impl Abort + Print), alloc: Global) {
+    let mut chained = made!(rt, AllocError, Chained::new, alloc, 1, 1, 7);
+    assert!(rt; chained.free_len() == 1);
+    assert!(rt; chained.begin_all(1) == 0 && chained.free_len() == 0);
 }
 
 #[test]
 fn lists(rt: HostRuntime) {
     links(&rt, rt.alloc());
     stacks(&rt, rt.alloc());
-    strands(&rt, rt.alloc());
+    chained(&rt, rt.alloc());
 }
 
 // Four small data blocks, and two large ones.

@@ -141,7 +141,7 @@ few_messages (x ∷ xs) some =
 -- a shelf has at most as many messages as shelves have blocks
 pub few_on_shelf : (a : Arena) → IsParted a → (q n : ℕ) → q < length a.shelves → (census_of a).queued ≤ n → length (shelf_at a q) ≤ n
 few_on_shelf a parted q n within few =
-    omega (arith, few, few_messages (shelf_at a q) (parted.shelved q), flat_map-set_adds length_adds (flat_map (λ x. x)) a.shelves q [] [] within)
+    omega (arith, few, few_messages (shelf_at a q) (parted.chains.shelved q), flat_map-set_adds length_adds (flat_map (λ x. x)) a.shelves q [] [] within)
 
 -- ---- a burst
 

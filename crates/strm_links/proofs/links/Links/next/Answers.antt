@@ -1,14 +1,16 @@
-use Rattle.std.proofs.Common.{ap, sym, ◌∙◌}
-use Rattle.strm_links.specs.declared.links.Node.{Node}
+use Rattle.std.proofs.Common.{ap, arith, sym, ◌∙◌}
+use Rattle.std.proofs.lemmas.List.{length-map}
+use Rattle.strm_links.specs.declared.table.Place.{Place}
 use Rattle.strm_links.proofs.lists.OneList.{IfSome-from}
-use Rattle.strm_links.proofs.linking.Shown.{IsSound-rows, node_read, next_in-at}
+use Rattle.strm_links.proofs.linking.Carried.{place_read}
+use Rattle.strm_links.proofs.linking.Shown.{IsSound-rows, next_in-at}
 use Rattle.strm_links.proofs.linking.Places.{next_neighbour}
 use Rattle.strm_links.proofs.links.Links.next.Goals as goal
 
 pub returns : goal.returns
 returns c =
     let sound = IsSound-rows _ _ _ c.self.view_is c.self.invariant in
-    let is = c.get.ensures ∙ ap (λ (x : Node). x.next) (node_read _ _ _ sound c.args.node _ c.requires c.index.ensures) in
+    let is = c.get.ensures ∙ ap (λ (p : Place). p.next) (place_read _ c.args.node c.index.result.now (omega (arith, sound.node_count, c.requires, length-map c.self.inside.table.nodes.items (λ n. n.place))) c.index.ensures) in
     record {
       value = is ∙ sym (next_in-at _ _ _ sound c.args.node);
       neighbour = IfSome-from c.get.result _ (λ k some. (next_neighbour _ _ _ sound c.args.node k (sym is ∙ some)).0);

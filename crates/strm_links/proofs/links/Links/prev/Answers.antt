@@ -1,14 +1,16 @@
-use Rattle.std.proofs.Common.{ap, sym, ◌∙◌}
-use Rattle.strm_links.specs.declared.links.Node.{Node}
+use Rattle.std.proofs.Common.{ap, arith, sym, ◌∙◌}
+use Rattle.std.proofs.lemmas.List.{length-map}
+use Rattle.strm_links.specs.declared.table.Place.{Place}
 use Rattle.strm_links.proofs.lists.OneList.{IfSome-from}
-use Rattle.strm_links.proofs.linking.Shown.{IsSound-rows, node_read, previous_in-at}
+use Rattle.strm_links.proofs.linking.Carried.{place_read}
+use Rattle.strm_links.proofs.linking.Shown.{IsSound-rows, previous_in-at}
 use Rattle.strm_links.proofs.linking.Places.{previous_neighbour}
 use Rattle.strm_links.proofs.links.Links.prev.Goals as goal
 
 pub returns : goal.returns
 returns c =
     let sound = IsSound-rows _ _ _ c.self.view_is c.self.invariant in
-    let is = c.get.ensures ∙ ap (λ (x : Node). x.previous) (node_read _ _ _ sound c.args.node _ c.requires c.index.ensures) in
+    let is = c.get.ensures ∙ ap (λ (p : Place). p.previous) (place_read _ c.args.node c.index.result.now (omega (arith, sound.node_count, c.requires, length-map c.self.inside.table.nodes.items (λ n. n.place))) c.index.ensures) in
     record {
       value = is ∙ sym (previous_in-at _ _ _ sound c.args.node);
       neighbour = IfSome-from c.get.result _ (λ k some. (previous_neighbour _ _ _ sound c.args.node k (sym is ∙ some)).0);

@@ -1,18 +1,16 @@
-use Rattle.std.proofs.Common.{refl, None, Some, ◌≡◌, ℕ, ◌+◌, ◌≤◌, List, true, ap, subst, sym, ◌∙◌, arith, Err, ◌<◌}
+use Rattle.std.proofs.Common.{refl, None, Some, ◌≡◌, ℕ, ◌+◌, ◌≤◌, List, true, ap, subst, sym, ◌∙◌, arith, Err, ◌<◌, length}
 use Rattle.std.specs.Prelude.{is_some, take}
 use Rattle.std.specs.Result.{is_ok}
-use Rattle.std.specs.Vec.{with_items}
-use Rattle.std.proofs.lemmas.List.{with_items_is}
 use Rattle.strm_data.specs.DataStore.{times}
 use Rattle.strm_data.specs.declared.refusal.Refusal.TheVariants.{NoMblk}
 use Rattle.std.proofs.lemmas.Bool.{cond-true, lt-ltb}
 use Rattle.strm_mblk.specs.declared.blocks.Fields.{Fields}
 use Rattle.strm_mblk.specs.Arena.{Arena, has, message_at}
 use Rattle.strm_mblk.specs.Block.{Block}
-use Rattle.strm_mblk.specs.BlockCalls.{blocks_copied, fits_classes, message_copied}
+use Rattle.strm_mblk.specs.BlockCalls.{blocks_copied, message_copied}
 use Rattle.strm_mblk.specs.BlocksLayout.{arena_in, arena_of, message_of}
 use Rattle.strm_mblk.specs.Copying.{AreCopied}
-use Rattle.strm_mblk.specs.NodeLists.{nodes_at}
+use Rattle.strm_links.specs.ChainLists.{nodes_at, ChainLists}
 use Rattle.strm_mblk.proofs.making.Duplicated.{IsBeside, beside}
 use Rattle.strm_mblk.proofs.making.CopiesCounted.{block_there, fits_each}
 use Rattle.strm_mblk.proofs.making.Copied.{IsCopied, copied_all}
@@ -28,21 +26,20 @@ module _ (c : After-begin_all-head) where
   had : has (arena_in c.self.inside) c.args.token.now ≡ true
   had = subst (λ a. has a c.args.token.now ≡ true) (sym c.self.view_is) c.requires.had
 
-  is_beside : IsBeside c.self.inside.chains c.begin_all-head.new.self c.args.token.now.head c.begin_all-head.result c.args.count
+  is_beside : IsBeside c.self.inside.chains.lists c.begin_all-head.new.self.lists c.args.token.now.head c.begin_all-head.result c.args.count
   is_beside =
-      beside c.self.inside.id c.self.inside.data c.self.inside.blocks.items c.self.inside.chains c.self.invariant.filled c.args.token.now had c.args.count (of_blocks c.args.self.now (parted_inside c.self.inside c.self.invariant c.args.self.now c.self.view_is) c.args.token.now c.requires.had c.args.count c.requires.count).0 (of_blocks c.args.self.now (parted_inside c.self.inside c.self.invariant c.args.self.now c.self.view_is) c.args.token.now c.requires.had c.args.count c.requires.count).1
-      (omega (arith, c.if-free_len-count.false, c.free_len.ensures)) c.begin_all-head.result c.begin_all-head.ensures.answer c.begin_all-head.new.self c.begin_all-head.ensures.after
+      beside c.self.inside.id c.self.inside.data c.self.inside.chains.loads c.self.inside.chains.lists c.self.invariant.filled c.args.token.now had c.args.count (of_blocks c.args.self.now (parted_inside c.self.inside c.self.invariant c.args.self.now c.self.view_is) c.args.token.now c.requires.had c.args.count c.requires.count).0 (of_blocks c.args.self.now (parted_inside c.self.inside c.self.invariant c.args.self.now c.self.view_is) c.args.token.now c.requires.had c.args.count c.requires.count).1
+      (omega (arith, c.if-free_len-count.false, c.free_len.ensures)) c.begin_all-head.result c.begin_all-head.ensures.answer c.begin_all-head.new.self.lists c.begin_all-head.ensures.after
 
 pub copies_fit-requires-clause-classed : goal.copies_fit-requires-clause-classed
 copies_fit-requires-clause-classed c =
     let s = c.self.inside.data in
-    let v = c.self.inside.chains in
-    let fields = c.self.inside.blocks.items in
+    let v = c.self.inside.chains.lists in
+    let fields = c.self.inside.chains.loads in
     let filled = c.self.invariant.filled in
     let head = c.head-from.result in
-    subst (λ fs. fits_classes s.store (take c.args.count (message_of fs (nodes_at v head))) s.store ≡ true) (sym c.deref.ensures.value)
-    (fits_each s filled.kept (take c.args.count (message_of fields (nodes_at v head))) (λ k b at.
-    let of = block_there fields v filled.parted filled.listed head c.args.count k b at in omega (arith, (filled.placed of.0 of.1).there, ap (λ (x : Block). x.data_number) of.2)))
+    fits_each s filled.kept (take c.args.count (message_of fields (nodes_at v head))) (λ k b at.
+    let of = block_there fields v filled.parted filled.listed head c.args.count k b at in omega (arith, (filled.placed of.0 of.1).there, ap (λ (x : Block). x.data_number) of.2))
 
 pub copy_blocks-requires-clause-into : goal.copy_blocks-requires-clause-into
 copy_blocks-requires-clause-into c = (is_beside (goal.at.copy_blocks-requires-clause-into c).After-begin_all-head).into.begun
@@ -52,38 +49,38 @@ copy_blocks-requires-clause-count c = (is_beside (goal.at.copy_blocks-requires-c
 
 pub copy_blocks-requires-clause-apart : goal.copy_blocks-requires-clause-apart
 copy_blocks-requires-clause-apart c n =
-    subst (λ g. times n (nodes_at c.begin_all-head.new.self g) + times n (nodes_at c.begin_all-head.new.self c.begin_all-head.result) ≤ 1) (sym c.head-from.ensures)
+    subst (λ g. times n (nodes_at c.begin_all-head.new.self.lists g) + times n (nodes_at c.begin_all-head.new.self.lists c.begin_all-head.result) ≤ 1) (sym c.head-from.ensures)
     ((is_beside (goal.at.copy_blocks-requires-clause-apart c).After-begin_all-head).apart n)
 
 pub copy_blocks-requires-clause-fit : goal.copy_blocks-requires-clause-fit
 copy_blocks-requires-clause-fit c =
-    let nodes : nodes_at c.begin_all-head.new.self c.head-from.result ≡ nodes_at c.self.inside.chains c.head-from.result =
-    ap (nodes_at c.begin_all-head.new.self) c.head-from.ensures ∙ (is_beside (goal.at.copy_blocks-requires-clause-fit c).After-begin_all-head).from_is
-    ∙ ap (nodes_at c.self.inside.chains) (sym c.head-from.ensures) in
-    (λ i. is_ok (blocks_copied None (take c.args.count (message_of ((c.deref_mut.ensures.value ∙ sym c.deref.ensures.value) i) (nodes i))) c.self.inside.data.store))
+    let nodes : nodes_at c.begin_all-head.new.self.lists c.head-from.result ≡ nodes_at c.self.inside.chains.lists c.head-from.result =
+    ap (nodes_at c.begin_all-head.new.self.lists) c.head-from.ensures ∙ (is_beside (goal.at.copy_blocks-requires-clause-fit c).After-begin_all-head).from_is
+    ∙ ap (nodes_at c.self.inside.chains.lists) (sym c.head-from.ensures) in
+    (λ i. is_ok (blocks_copied None (take c.args.count (message_of (c.begin_all-head.ensures.loads i) (nodes i))) c.self.inside.data.store))
     ∙ sym c.copies_fit.ensures.fit ∙ c.if-not-copies_fit.false
 
 module _ (c : After-copy_blocks) where
-  -- what message blocks say then
+  -- what message blocks say then, and where they are
   abbrev said : List Fields
-  said = (with_items c.self.inside.blocks c.copy_blocks.new.blocks).items
+  said = c.copy_blocks.new.chains.loads
 
-  said_is : said ≡ c.copy_blocks.new.blocks
-  said_is = with_items_is c.self.inside.blocks c.copy_blocks.new.blocks (c.copy_blocks.auto.blocks ∙ c.deref_mut.ensures.len)
+  abbrev lists : ChainLists
+  lists = c.copy_blocks.new.chains.lists
 
   abbrev now : Arena
-  now = arena_of c.self.inside.id c.copy_blocks.new.stored.store said c.begin_all-head.new.self
+  now = arena_of c.self.inside.id c.copy_blocks.new.stored.store said lists
 
-  is_copied : IsCopied c.args.self.now c.copy_blocks.new.stored said c.begin_all-head.new.self c.self.inside.id c.begin_all-head.result c.args.count c.args.token.now
+  is_copied : IsCopied c.args.self.now c.copy_blocks.new.stored said lists c.self.inside.id c.begin_all-head.result c.args.count c.args.token.now
   is_copied =
-      subst (λ a. IsCopied a c.copy_blocks.new.stored said c.begin_all-head.new.self c.self.inside.id c.begin_all-head.result c.args.count c.args.token.now) c.self.view_is
-      (copied_all c.self.inside.id c.self.inside.data c.self.inside.blocks.items c.self.inside.chains c.self.invariant.filled c.args.token.now (subst (λ a. has a c.args.token.now ≡ true) (sym c.self.view_is) c.requires.had)
+      subst (λ (p : Arena × ChainLists). IsCopied p.0 c.copy_blocks.new.stored said p.1 c.self.inside.id c.begin_all-head.result c.args.count c.args.token.now) (λ i. (c.self.view_is i, sym c.copy_blocks.ensures.lists i))
+      (copied_all c.self.inside.id c.self.inside.data c.self.inside.chains.loads c.self.inside.chains.lists c.self.invariant.filled c.args.token.now (subst (λ a. has a c.args.token.now ≡ true) (sym c.self.view_is) c.requires.had)
       c.args.count (of_blocks c.args.self.now (parted_inside c.self.inside c.self.invariant c.args.self.now c.self.view_is) c.args.token.now c.requires.had c.args.count c.requires.count).0 (of_blocks c.args.self.now (parted_inside c.self.inside c.self.invariant c.args.self.now c.self.view_is) c.args.token.now c.requires.had c.args.count c.requires.count).1 (omega (arith, c.if-free_len-count.false, c.free_len.ensures))
-      c.begin_all-head.result c.begin_all-head.ensures.answer c.begin_all-head.new.self c.begin_all-head.ensures.after c.begin_all-head.ensures.parted
+      c.begin_all-head.result c.begin_all-head.ensures.answer c.begin_all-head.new.self.lists c.begin_all-head.ensures.after c.begin_all-head.ensures.parted
       c.copy_blocks.new.stored said c.copy_blocks.ensures.kept
-      (subst (λ (p : List Fields × (ℕ × List Fields)).
-      AreCopied None (take c.args.count (message_of p.0 (nodes_at c.begin_all-head.new.self p.1.0))) (nodes_at c.begin_all-head.new.self c.begin_all-head.result) p.0 p.1.1 c.self.inside.data c.copy_blocks.new.stored)
-      (λ i. (c.deref_mut.ensures.value i, (c.head-from.ensures i, sym said_is i))) c.copy_blocks.ensures.after))
+      (subst (λ (p : List Fields × ℕ).
+      AreCopied None (take c.args.count (message_of p.0 (nodes_at c.begin_all-head.new.self.lists p.1))) (nodes_at c.begin_all-head.new.self.lists c.begin_all-head.result) p.0 said c.self.inside.data c.copy_blocks.new.stored)
+      (λ i. (c.begin_all-head.ensures.loads i, c.head-from.ensures i)) c.copy_blocks.ensures.after))
 
 pub invariant_of-self : goal.invariant_of-self
 invariant_of-self c =
@@ -102,7 +99,14 @@ returns c =
 -- ---- too few message blocks are free
 
 few_free : (c : After-free_len) → c.free_len.result < c.args.count → message_copied None (take c.args.count (message_at c.args.self.now c.args.token.now.head)) c.args.self.now ≡ Err NoMblk
-few_free c few = grind (arith, common_steps, parted_inside, cond-true, lt-ltb, taken_many)
+few_free c few =
+    cond-true _ _ _ (lt-ltb (length c.args.self.now.free) (length (take c.args.count (message_at c.args.self.now c.args.token.now.head))) (omega (
+      arith,
+      few,
+      c.free_len.ensures,
+      ap (λ (a : Arena). length a.free) c.self.view_is,
+      taken_many c.args.self.now (parted_inside c.self.inside c.self.invariant c.args.self.now c.self.view_is) c.args.token.now c.requires.had c.args.count c.requires.count,
+    )))
 
 pub returns-then-free_len-count : goal.returns-then-free_len-count
 returns-then-free_len-count c = grind (arith, common_steps, gives_none, few_free)

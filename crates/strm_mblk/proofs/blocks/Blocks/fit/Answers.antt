@@ -1,7 +1,6 @@
 use Rattle.std.proofs.Common.{◌≡◌, ◌+◌, ◌<◌, ◌≤◌, ℕ, List, Bool, false, ◌&&◌, Some, drop, length, map, refl, sym, ap, ◌∙◌, arith, subst}
 use Rattle.std.specs.Prelude.{nat_lt, not, slice_get}
 use Rattle.std.proofs.lemmas.Bool.{cond-false, cond-true, le-ltb, lt-ltb}
-use Rattle.std.proofs.lemmas.List.{get_or_read}
 use Rattle.strm_data.specs.CountedStore.{count_of}
 use Rattle.strm_data.specs.DataStore.{capacity_of, data_block_at}
 use Rattle.strm_data.specs.MsgType.{same_kind}
@@ -9,24 +8,24 @@ use Rattle.strm_mblk.specs.declared.block_place.Shape.{Shape}
 use Rattle.strm_mblk.specs.declared.blocks.Fields.{Fields}
 use Rattle.strm_mblk.specs.Arena.{Arena, message_at, references_to}
 use Rattle.strm_mblk.specs.Block.{Block, Message, kind_of}
-use Rattle.strm_mblk.specs.BlocksLayout.{block_at, fields_at, no_fields}
+use Rattle.strm_mblk.specs.BlocksLayout.{block_at, fields_at}
 use Rattle.strm_mblk.specs.Given.{and_then}
 use Rattle.strm_mblk.specs.InPlace.{shape_fits, shapes_fit}
-use Rattle.strm_mblk.specs.NodeLists.{nodes_at}
+use Rattle.strm_links.specs.ChainLists.{nodes_at}
 use Rattle.strm_mblk.proofs.Altering.{and_false, fits_next, kind_changes, shape_at}
 use Rattle.strm_mblk.proofs.layout.Places.{IsAt, block_reached}
-use Rattle.strm_mblk.proofs.blocks.Blocks.fit.Goals.{After-index, After-cap-capacity, After-ne, then-shape-capacity-via-then-shape-capacity, then-shape-capacity-via-else-shape-capacity+then-shape-capacity-2, else-ne-via-then-ne+else-count-gt1, else-ne-via-else-ne}
+use Rattle.strm_mblk.proofs.blocks.Blocks.fit.Goals.{After-fields_at-data_number, After-cap-capacity, After-ne, then-shape-capacity-via-then-shape-capacity, then-shape-capacity-via-else-shape-capacity+then-shape-capacity-2, else-ne-via-then-ne+else-count-gt1, else-ne-via-else-ne}
 use Rattle.strm_mblk.proofs.blocks.Blocks.fit.Goals as goal
 
-module _ (g : _) (c : After-index g) where
+module _ (g : _) (c : After-fields_at-data_number g) where
   -- the block at this step
-  is_at : IsAt c.self.inside.data c.self.inside.blocks.items c.self.inside.chains c.args.self.now c.args.token.now.head c.loop-shaped.shaped-index c.loop-shaped.node (nodes_at c.self.inside.chains c.args.token.now.head)
+  is_at : IsAt c.self.inside.data c.self.inside.chains.loads c.self.inside.chains.lists c.args.self.now c.args.token.now.head c.loop-shaped.shaped-index c.loop-shaped.node (nodes_at c.self.inside.chains.lists c.args.token.now.head)
   is_at =
-      block_reached c.self.inside.id c.self.inside.data c.self.inside.blocks.items c.self.inside.chains c.self.invariant.filled c.args.self.now c.self.view_is c.args.token.now.head c.loop-shaped.shaped-index
+      block_reached c.self.inside.id c.self.inside.data c.self.inside.chains.loads c.self.inside.chains.lists c.self.invariant.filled c.args.self.now c.self.view_is c.args.token.now.head c.loop-shaped.shaped-index
       c.args.token.now refl c.requires.had c.loop-shaped.node c.loop-shaped.invariant.at (omega (arith, c.loop-shaped-test.true, c.requires.count))
 
-  read : c.index.result.now ≡ fields_at c.self.inside.blocks.items c.loop-shaped.node
-  read = get_or_read c.self.inside.blocks.items c.loop-shaped.node c.index.result.now is_at.there c.index.ensures no_fields
+  read : c.fields_at-data_number.result ≡ fields_at c.self.inside.chains.loads c.loop-shaped.node
+  read = c.fields_at-data_number.ensures
 
   abbrev xs : List Shape
   xs = map g.S.Shaped.shape c.args.shapes.now
@@ -35,7 +34,7 @@ module _ (g : _) (c : After-index g) where
   m = message_at c.args.self.now c.args.token.now.head
 
   abbrev b : Block
-  b = block_at c.self.inside.blocks.items c.loop-shaped.node
+  b = block_at c.self.inside.chains.loads c.loop-shaped.node
 
   -- its shape
   item : slice_get xs c.loop-shaped.shaped-index ≡ Some c.shape-shape.result
@@ -45,12 +44,12 @@ module _ (g : _) (c : After-index g) where
       ≡ and_then (λ u. shapes_fit c.args.self.now (drop (c.loop-shaped.shaped-index + 1) xs) (drop (c.loop-shaped.shaped-index + 1) m)) (shape_fits c.args.self.now c.shape-shape.result b)
   next = c.loop-shaped.invariant.rest ∙ fits_next xs c.loop-shaped.shaped-index c.shape-shape.result item c.args.self.now m b is_at.block
 
-  counted : (n : ℕ) → n ≡ count_of c.self.inside.data c.index.result.now.data_number → n ≡ references_to c.args.self.now b.data_number
+  counted : (n : ℕ) → n ≡ count_of c.self.inside.data c.fields_at-data_number.result.data_number → n ≡ references_to c.args.self.now b.data_number
   counted n is = is ∙ ap (λ (f : Fields). count_of c.self.inside.data f.data_number) read ∙ is_at.named
 
 module _ (g : _) (c : After-cap-capacity g) where
-  abbrev before : After-index g
-  before = (goal.at.After-cap-capacity g c).After-index
+  abbrev before : After-fields_at-data_number g
+  before = (goal.at.After-cap-capacity g c).After-fields_at-data_number
 
   capacity_is : c.cap-capacity.result ≡ capacity_of c.args.self.now.store (b g before).data_number
   capacity_is =
@@ -58,8 +57,8 @@ module _ (g : _) (c : After-cap-capacity g) where
       ∙ ap (λ (a : Arena). capacity_of a.store (b g before).data_number) c.self.view_is
 
 module _ (g : _) (c : After-ne g) where
-  abbrev here : After-index g
-  here = (goal.at.After-ne g c).After-index
+  abbrev here : After-fields_at-data_number g
+  here = (goal.at.After-ne g c).After-fields_at-data_number
 
   room : c.shape-shape.result.at + c.shape-shape.result.len ≤ capacity_of c.args.self.now.store (b g here).data_number
   room = omega (arith, c.if-shape-capacity.false, c.if-shape-capacity-2.false, capacity_is g (goal.at.After-ne g c).After-cap-capacity)
@@ -77,7 +76,7 @@ cap-capacity-requires g c = subst (λ (f : Fields). f.data_number < length c.sel
 
 pub returns-then-shape-capacity : goal.returns-then-shape-capacity
 returns-then-shape-capacity g c =
-    let at = (goal.at.returns-then-shape-capacity g c).After-index in
+    let at = (goal.at.returns-then-shape-capacity g c).After-fields_at-data_number in
     let is = capacity_is g (goal.at.returns-then-shape-capacity g c).After-cap-capacity in
     let x = c.shape-shape.result in
     let past : capacity_of c.args.self.now.store (b g at).data_number < x.at + x.len =
@@ -96,7 +95,7 @@ returns-then-count-gt1 g c =
     (cond-false _ _ _ (le-ltb _ _ (room g ne)) ∙ cond-true _ _ _ (ap (λ p. p && nat_lt 1 (references_to c.args.self.now (b g at).data_number)) (changes g ne ∙ c.if-ne.true) ∙ lt-ltb 1 _ many)))
 
 pub onward-node-requires : goal.onward-node-requires
-onward-node-requires g c = omega (arith, (is_at g (goal.at.onward-node-requires g c).After-index).there, c.self.invariant.filled.listed)
+onward-node-requires g c = omega (arith, (is_at g (goal.at.onward-node-requires g c).After-fields_at-data_number).there, c.self.invariant.filled.listed)
 
 pub loop-shaped-preserved : goal.loop-shaped-preserved
 loop-shaped-preserved g c =

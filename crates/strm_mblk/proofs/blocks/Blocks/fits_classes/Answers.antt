@@ -1,6 +1,6 @@
 use Rattle.std.proofs.Common.{◌≡◌, ◌+◌, ◌<◌, ◌&&◌, Bool, length, take, drop, refl, sym, ap, ◌∙◌, arith}
 use Rattle.std.specs.List.{list_all}
-use Rattle.std.proofs.lemmas.List.{get_or_read, take-append-drop}
+use Rattle.std.proofs.lemmas.List.{take-append-drop}
 use Rattle.std.proofs.lemmas.List.Folds.{list_all-append, list_all_more}
 use Rattle.std.proofs.lemmas.Option.{get_or_from_slice_get, slice_get_within}
 use Rattle.strm_data.specs.Classes.{fits_a_class}
@@ -8,21 +8,21 @@ use Rattle.strm_data.specs.DataStore.{capacity_of}
 use Rattle.strm_mblk.specs.declared.blocks.Fields.{Fields}
 use Rattle.strm_mblk.specs.Arena.{Arena, message_at}
 use Rattle.strm_mblk.specs.Block.{Block, Message}
-use Rattle.strm_mblk.specs.BlocksLayout.{block_at, fields_at, no_fields}
-use Rattle.strm_mblk.specs.NodeLists.{nodes_at}
+use Rattle.strm_mblk.specs.BlocksLayout.{block_at, fields_at}
+use Rattle.strm_links.specs.ChainLists.{nodes_at}
 use Rattle.strm_mblk.proofs.layout.Places.{IsAt, block_reached}
-use Rattle.strm_mblk.proofs.blocks.Blocks.fits_classes.Goals.{After-has_class_for, After-index, In-loop-block}
+use Rattle.strm_mblk.proofs.blocks.Blocks.fits_classes.Goals.{After-has_class_for, After-fields_at, In-loop-block}
 use Rattle.strm_mblk.proofs.blocks.Blocks.fits_classes.Goals as goal
 
 module _ (c : In-loop-block) where
   -- the block at this step
-  is_at : IsAt c.self.inside.data c.self.inside.blocks.items c.self.inside.chains c.args.self.now c.args.token.now.head c.loop-block._block c.loop-block.node (nodes_at c.self.inside.chains c.args.token.now.head)
+  is_at : IsAt c.self.inside.data c.self.inside.chains.loads c.self.inside.chains.lists c.args.self.now c.args.token.now.head c.loop-block._block c.loop-block.node (nodes_at c.self.inside.chains.lists c.args.token.now.head)
   is_at =
-      block_reached c.self.inside.id c.self.inside.data c.self.inside.blocks.items c.self.inside.chains c.self.invariant.filled c.args.self.now c.self.view_is c.args.token.now.head c.loop-block._block
+      block_reached c.self.inside.id c.self.inside.data c.self.inside.chains.loads c.self.inside.chains.lists c.self.invariant.filled c.args.self.now c.self.view_is c.args.token.now.head c.loop-block._block
       c.args.token.now refl c.requires c.loop-block.node c.loop-block.invariant.at (omega (arith, c.loop-block-test.true, c.blocks-block-end.ensures))
 
-read : (c : After-index) → c.loop-block.node < length c.self.inside.blocks.items → c.index.result.now ≡ fields_at c.self.inside.blocks.items c.loop-block.node
-read c there = get_or_read c.self.inside.blocks.items c.loop-block.node c.index.result.now there c.index.ensures no_fields
+read : (c : After-fields_at) → c.loop-block.node < length c.self.inside.chains.loads → c.fields_at.result ≡ fields_at c.self.inside.chains.loads c.loop-block.node
+read c there = c.fields_at.ensures
 
 pub cap-size-requires : goal.cap-size-requires
 cap-size-requires c =
@@ -35,15 +35,15 @@ module _ (c : After-has_class_for) where
   abbrev fits : Block → Bool
   fits b = fits_a_class (capacity_of c.args.self.now.store b.data_number) c.args.stored.now.store.classes
 
-  here : IsAt c.self.inside.data c.self.inside.blocks.items c.self.inside.chains c.args.self.now c.args.token.now.head c.loop-block._block c.loop-block.node (nodes_at c.self.inside.chains c.args.token.now.head)
+  here : IsAt c.self.inside.data c.self.inside.chains.loads c.self.inside.chains.lists c.args.self.now c.args.token.now.head c.loop-block._block c.loop-block.node (nodes_at c.self.inside.chains.lists c.args.token.now.head)
   here = is_at (goal.at.After-has_class_for c).In-loop-block
 
   abbrev b : Block
-  b = block_at c.self.inside.blocks.items c.loop-block.node
+  b = block_at c.self.inside.chains.loads c.loop-block.node
 
   size_is : c.cap-size.result ≡ capacity_of c.args.self.now.store b.data_number
   size_is =
-      c.cap-size.ensures.answer ∙ ap (λ (f : Fields). capacity_of c.self.inside.data.store f.data_number) (read (goal.at.After-has_class_for c).After-index here.there)
+      c.cap-size.ensures.answer ∙ ap (λ (f : Fields). capacity_of c.self.inside.data.store f.data_number) (read (goal.at.After-has_class_for c).After-fields_at here.there)
       ∙ ap (λ (a : Arena). capacity_of a.store b.data_number) c.self.view_is
 
   -- what is known with this block

@@ -6,4 +6,4 @@ use Rattle.strm_mblk.proofs.blocks.Blocks.last.Goals as goal
 
 pub returns : goal.returns
 returns c =
-    c.last.ensures ∙ ap last (sym (heads_at-seen c.self.inside.id c.self.inside.data.store c.self.inside.blocks.items c.self.inside.chains c.from.result)) ∙ (λ i. last (heads_at (c.self.view_is i) (c.from.ensures i)))
+    c.last.ensures ∙ ap last (sym (heads_at-seen c.self.inside.id c.self.inside.data.store c.self.inside.chains.loads c.self.inside.chains.lists c.from.result)) ∙ (λ i. last (heads_at (c.self.view_is i) (c.from.ensures i)))

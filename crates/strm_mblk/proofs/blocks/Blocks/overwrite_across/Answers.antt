@@ -3,7 +3,7 @@ use Rattle.strm_data.specs.CountedStore.{CountedStore}
 use Rattle.strm_mblk.specs.Arena.{Arena, message_at}
 use Rattle.strm_mblk.specs.BlocksLayout.{arena_of, message_of}
 use Rattle.strm_mblk.specs.InPlace.{store_overwritten}
-use Rattle.strm_mblk.specs.NodeLists.{nodes_at}
+use Rattle.strm_links.specs.ChainLists.{nodes_at}
 use Rattle.strm_mblk.proofs.Altering.{alters_overwritten}
 use Rattle.strm_mblk.proofs.layout.Rooms.{filled-over}
 use Rattle.strm_mblk.proofs.layout.Shown.{message_at-seen}
@@ -12,7 +12,7 @@ use Rattle.strm_mblk.proofs.blocks.Blocks.overwrite_across.Goals as goal
 pub invariant_of-self : goal.invariant_of-self
 invariant_of-self c = record {
   filled =
-      filled-over c.self.inside.id c.self.inside.data c.overwrite_blocks.new.stored c.self.inside.blocks.items c.self.inside.chains c.self.invariant.filled c.overwrite_blocks.ensures.kept
+      filled-over c.self.inside.id c.self.inside.data c.overwrite_blocks.new.stored c.self.inside.chains.loads c.self.inside.chains.lists c.self.invariant.filled c.overwrite_blocks.ensures.kept
       (ap (λ (s : CountedStore). s.counts) c.overwrite_blocks.ensures.after) (record { many = c.overwrite_blocks.ensures.blocks; room = c.overwrite_blocks.ensures.rooms });
   queued = c.self.invariant.queued;
 }
@@ -22,9 +22,9 @@ returns c =
     let h = c.args.token.now.head in
     let a = c.args.self.now in
     let bytes = c.args.bytes.now in
-    let now : arena_of c.self.inside.id c.overwrite_blocks.new.stored.store c.self.inside.blocks.items c.self.inside.chains ≡ record a { store = store_overwritten c.args.at bytes (message_at a h) a.store } =
-    ap (λ (s : CountedStore). arena_of c.self.inside.id s.store c.self.inside.blocks.items c.self.inside.chains) c.overwrite_blocks.ensures.after
-    ∙ (λ i. arena_of c.self.inside.id (store_overwritten c.args.at bytes (message_of (c.deref.ensures.value i) (nodes_at c.self.inside.chains (c.head.ensures i))) c.self.inside.data.store) c.self.inside.blocks.items c.self.inside.chains)
-    ∙ (λ i. arena_of c.self.inside.id (store_overwritten c.args.at bytes (sym (message_at-seen c.self.inside.id c.self.inside.data.store c.self.inside.blocks.items c.self.inside.chains h) i) c.self.inside.data.store) c.self.inside.blocks.items c.self.inside.chains)
+    let now : arena_of c.self.inside.id c.overwrite_blocks.new.stored.store c.self.inside.chains.loads c.self.inside.chains.lists ≡ record a { store = store_overwritten c.args.at bytes (message_at a h) a.store } =
+    ap (λ (s : CountedStore). arena_of c.self.inside.id s.store c.self.inside.chains.loads c.self.inside.chains.lists) c.overwrite_blocks.ensures.after
+    ∙ (λ i. arena_of c.self.inside.id (store_overwritten c.args.at bytes (message_of c.self.inside.chains.loads (nodes_at c.self.inside.chains.lists (c.head.ensures i))) c.self.inside.data.store) c.self.inside.chains.loads c.self.inside.chains.lists)
+    ∙ (λ i. arena_of c.self.inside.id (store_overwritten c.args.at bytes (sym (message_at-seen c.self.inside.id c.self.inside.data.store c.self.inside.chains.loads c.self.inside.chains.lists h) i) c.self.inside.data.store) c.self.inside.chains.loads c.self.inside.chains.lists)
     ∙ ap (λ (x : Arena). record x { store = store_overwritten c.args.at bytes (message_at x h) x.store }) c.self.view_is in
     alters_overwritten a _ c.args.token.now c.requires c.args.at bytes (sym c.is_shorter.ensures ∙ c.if-is_shorter.false) (sym c.touches_shared.ensures ∙ c.if-touches_shared.false) now

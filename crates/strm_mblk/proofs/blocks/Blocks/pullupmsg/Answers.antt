@@ -1,15 +1,15 @@
 use Rattle.std.proofs.Common.{rules, ◌≡◌, ℕ, ◌-◌, ◌<◌, ◌≤◌, true, List, ◌∷◌, Some, Ok, Err, ap, sym, ◌∙◌, arith, subst}
 use Rattle.std.specs.Prelude.{is_some, drop}
 use Rattle.std.proofs.lemmas.Int.{to_z-of_z}
-use Rattle.std.proofs.lemmas.List.{get_or_read, length-map}
+use Rattle.std.proofs.lemmas.List.{length-map}
 use Rattle.strm_mblk.specs.declared.blocks.Fields.{Fields}
 use Rattle.strm_mblk.specs.Arena.{Arena, has, held_at, message_at, token_of}
 use Rattle.strm_mblk.specs.Block.{Block, size_of}
-use Rattle.strm_mblk.specs.BlocksLayout.{block_at, fields_at, message_of, no_fields}
+use Rattle.strm_mblk.specs.BlocksLayout.{block_at, fields_at, message_of}
 use Rattle.strm_mblk.specs.Calls.{Alters, itself}
 use Rattle.strm_mblk.specs.Given.{value_after, answer_of}
 use Rattle.strm_mblk.specs.Messages.{held_in}
-use Rattle.strm_mblk.specs.NodeLists.{nodes_at}
+use Rattle.strm_links.specs.ChainLists.{nodes_at}
 use Rattle.strm_mblk.specs.Pulling.{with_bytes_drained, pull_front}
 use Rattle.strm_mblk.specs.Trimming.{bytes_asked, pullupmsg, run_of}
 use Rattle.strm_mblk.proofs.pulling.Drained.{IsPulled, pull_front_answer, front_pulled_held, pull_had, pulls, run_most}
@@ -20,37 +20,37 @@ use Rattle.strm_mblk.proofs.arena.Counts.{had_message, token_had}
 use Rattle.strm_mblk.proofs.joining.Unlinkb.{token_is}
 use Rattle.strm_mblk.proofs.arena.Frame.{leaves_pullupmsg}
 use Rattle.strm_mblk.proofs.arena.Calls.{alters, alters_kept, alters_none, refused_is}
-use Rattle.strm_mblk.proofs.blocks.Blocks.pullupmsg.Goals.{After-from_residual, After-index, After-set_blocks}
+use Rattle.strm_mblk.proofs.blocks.Blocks.pullupmsg.Goals.{After-from_residual, After-fields_at-front, After-set_blocks}
 use Rattle.strm_mblk.proofs.blocks.Blocks.pullupmsg.Goals as goal
 use Rattle.std.proofs.lemmas.Grind.{common_steps}
 
 -- ---- the message
 
-module _ (c : After-index) where
+module _ (c : After-fields_at-front) where
   abbrev h : ℕ
   h = c.args.token.now.head
 
   abbrev items : List Fields
-  items = c.self.inside.blocks.items
+  items = c.self.inside.chains.loads
 
   -- its first block, and the blocks after it
   abbrev b : Block
   b = block_at items h
 
   abbrev bs : List Block
-  bs = message_of items (drop 1 (nodes_at c.self.inside.chains h))
+  bs = message_of items (drop 1 (nodes_at c.self.inside.chains.lists h))
 
-  head : IsHeldHead items c.self.inside.chains h
+  head : IsHeldHead items c.self.inside.chains.lists h
   head = grind (arith, common_steps, seen_head, had_message)
 
   held : held_at c.args.self.now h ≡ Some (b ∷ bs)
-  held = ap (λ a. held_at a h) (sym c.self.view_is) ∙ head_held c.self.inside.id c.self.inside.data items c.self.inside.chains c.self.invariant.filled h head
+  held = ap (λ a. held_at a h) (sym c.self.view_is) ∙ head_held c.self.inside.id c.self.inside.data items c.self.inside.chains.lists c.self.invariant.filled h head
 
   -- what was read is what the first block says
-  read : c.index.result.now ≡ fields_at items h
-  read = get_or_read items c.head-head.result c.index.result.now (omega (arith, head.there, c.head-head.ensures)) c.index.ensures no_fields ∙ ap (fields_at items) c.head-head.ensures
+  read : c.fields_at-front.result ≡ fields_at items h
+  read = c.fields_at-front.ensures ∙ ap (fields_at items) c.head-head.ensures
 
-  len_is : c.index.result.now.len ≡ b.len
+  len_is : c.fields_at-front.result.len ≡ b.len
   len_is = ap (λ (f : Fields). f.len) read
 
   -- what is asked for is there
@@ -62,12 +62,12 @@ module _ (c : After-index) where
 
 -- ---- it is there already
 
-pub returns-then-wanted-len : goal.returns-then-wanted-len
-returns-then-wanted-len c = grind (arith, common_steps, pull_had, held, asked, enough, len_is, alters_kept, leaves_pullupmsg, parted_inside)
+pub returns-then-wanted-front : goal.returns-then-wanted-front
+returns-then-wanted-front c = grind (arith, common_steps, pull_had, held, asked, enough, len_is, alters_kept, leaves_pullupmsg, parted_inside)
 
 -- ---- no data block is there
 
-more : (c : After-index) → c.index.result.now.len < c.in-Some.wanted → (b c).len < c.in-Some.wanted
+more : (c : After-fields_at-front) → c.fields_at-front.result.len < c.in-Some.wanted → (b c).len < c.in-Some.wanted
 more c many = omega (arith, many, len_is c)
 
 pub pull_front-requires-clause-enough : goal.pull_front-requires-clause-enough
@@ -78,7 +78,7 @@ refused c = search rules
 
 pub returns-in_err-pull_front : goal.returns-in_err-pull_front
 returns-in_err-pull_front c =
-    let d = (goal.at.returns-in_err-pull_front c).After-index in
+    let d = (goal.at.returns-in_err-pull_front c).After-fields_at-front in
     let a = c.args.self.now in
     let t = c.args.token.now in
     let call = pullupmsg t.head c.args.count a in
@@ -86,20 +86,20 @@ returns-in_err-pull_front c =
     let first = sym c.pull_front.ensures.answer ∙ c.in_err-pull_front.was in
     let is =
     refused_is call why
-    (sym (pull_front_answer (h d) c.in-Some.wanted (b d) (bs d) a (held d) c.args.count (asked d) (enough d) (more d c.if-wanted-len.false)) ∙ first) in
+    (sym (pull_front_answer (h d) c.in-Some.wanted (b d) (bs d) a (held d) c.args.count (asked d) (enough d) (more d c.if-wanted-front.false)) ∙ first) in
     subst (Alters itself t t call a c.pull_front.new.self) (sym (refused (goal.at.returns-in_err-pull_front c).After-from_residual))
     (alters_none a c.pull_front.new.self t call why is (c.pull_front.ensures.after ∙ ap (value_after a) (refused_is (pull_front t.head c.in-Some.wanted a) why first)) c.requires)
 
 -- ---- the first block takes a data block, and the others lose the bytes
 
-module _ (c : After-index) (many : c.index.result.now.len < c.in-Some.wanted) (first : Arena) (first_is : first ≡ value_after c.args.self.now (pull_front (h c) c.in-Some.wanted c.args.self.now))
+module _ (c : After-fields_at-front) (many : c.fields_at-front.result.len < c.in-Some.wanted) (first : Arena) (first_is : first ≡ value_after c.args.self.now (pull_front (h c) c.in-Some.wanted c.args.self.now))
     (u : Unit {0}) (given : answer_of (pull_front (h c) c.in-Some.wanted c.args.self.now) ≡ Ok u) where
   still_held : is_some (held_at first c.head-head.result) ≡ true
   still_held =
       ap (λ k. is_some (held_at first k)) c.head-head.ensures
       ∙ ap is_some (front_pulled_held (h c) c.in-Some.wanted (b c) (bs c) c.args.self.now (held c) c.args.count (asked c) (enough c) (more c many) first first_is u given)
 
-  is_pulled : (new : Arena) → new ≡ with_bytes_drained c.head-head.result (c.in-Some.wanted - c.index.result.now.len) (message_at first c.head-head.result) first
+  is_pulled : (new : Arena) → new ≡ with_bytes_drained c.head-head.result (c.in-Some.wanted - c.fields_at-front.result.len) (message_at first c.head-head.result) first
       → IsPulled (h c) c.in-Some.wanted c.args.self.now (pullupmsg (h c) c.args.count c.args.self.now) new
   is_pulled new is =
       pulls (h c) c.in-Some.wanted (b c) (bs c) c.args.self.now (held c) c.args.count (asked c) (enough c) (more c many) first first_is u given new
@@ -107,21 +107,21 @@ module _ (c : After-index) (many : c.index.result.now.len < c.in-Some.wanted) (f
 
 pub drain-requires : goal.drain-requires
 drain-requires c =
-    still_held (goal.at.drain-requires c).After-index c.if-wanted-len.false c.pull_front.new.self c.pull_front.ensures.after c.in_ok-pull_front.field-0
+    still_held (goal.at.drain-requires c).After-fields_at-front c.if-wanted-front.false c.pull_front.new.self c.pull_front.ensures.after c.in_ok-pull_front.field-0
     (sym c.pull_front.ensures.answer ∙ c.in_ok-pull_front.was)
 
 pub len-requires : goal.len-requires
 len-requires c =
     let is =
-    is_pulled (goal.at.len-requires c).After-index c.if-wanted-len.false c.pull_front.new.self c.pull_front.ensures.after c.in_ok-pull_front.field-0
+    is_pulled (goal.at.len-requires c).After-fields_at-front c.if-wanted-front.false c.pull_front.new.self c.pull_front.ensures.after c.in_ok-pull_front.field-0
     (sym c.pull_front.ensures.answer ∙ c.in_ok-pull_front.was) c.drain.new.self c.drain.ensures in
-    ap (λ k. is_some (held_in c.self-2.inside.chains.held k)) c.head-head.ensures
-    ∙ ap is_some (held_nodes c.self-2.inside.id c.self-2.inside.data.store c.self-2.inside.blocks.items c.self-2.inside.chains c.args.token.now.head _ (ap (λ a. held_at a c.args.token.now.head) c.self-2.view_is ∙ is.held)).1.held
+    ap (λ k. is_some (held_in c.self-2.inside.chains.lists.held k)) c.head-head.ensures
+    ∙ ap is_some (held_nodes c.self-2.inside.id c.self-2.inside.data.store c.self-2.inside.chains.loads c.self-2.inside.chains.lists c.args.token.now.head _ (ap (λ a. held_at a c.args.token.now.head) c.self-2.view_is ∙ is.held)).1.held
 
 module _ (c : After-set_blocks) where
   done : IsPulled c.args.token.now.head c.in-Some.wanted c.args.self.now (pullupmsg c.args.token.now.head c.args.count c.args.self.now) c.drain.new.self
   done =
-      is_pulled (goal.at.returns c).After-index c.if-wanted-len.false c.pull_front.new.self c.pull_front.ensures.after c.in_ok-pull_front.field-0
+      is_pulled (goal.at.returns c).After-fields_at-front c.if-wanted-front.false c.pull_front.new.self c.pull_front.ensures.after c.in_ok-pull_front.field-0
       (sym c.pull_front.ensures.answer ∙ c.in_ok-pull_front.was) c.drain.new.self c.drain.ensures
 
   -- the token says how many blocks the message has

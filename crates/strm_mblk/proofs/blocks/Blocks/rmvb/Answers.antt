@@ -13,7 +13,7 @@ use Rattle.strm_mblk.proofs.arena.Counts.{rmvb_first, had_message, token_had}
 use Rattle.strm_mblk.proofs.layout.Places.{token_nodes}
 use Rattle.strm_mblk.proofs.joining.TakenOut.{IsTakenOut, is_taken_out, refused_answer}
 use Rattle.strm_mblk.proofs.arena.Frame.{Leaves, leaves_rmvb, leaves_same}
-use Rattle.strm_mblk.proofs.layout.Shown.{still_whole}
+use Rattle.strm_mblk.proofs.layout.Shown.{still_whole, reloaded, reviewed}
 use Rattle.strm_mblk.proofs.blocks.Blocks.rmvb.Goals.{After-take_out-node, After-token-2, After-unlinkb-rest, Then-place-blocks}
 use Rattle.strm_mblk.specs.Frame.{heads_parted}
 use Rattle.strm_mblk.proofs.blocks.Blocks.rmvb.Goals as goal
@@ -46,14 +46,14 @@ returns-then-place-blocks c = grind (arith, common_steps, leaves_same, value_non
 pub take_out-node-requires-clause-there : goal.take_out-node-requires-clause-there
 take_out-node-requires-clause-there c = grind (arith, common_steps, token_nodes)
 
-is_taken : (c : After-take_out-node) → IsTakenOut c.args.self.now c.self.inside.data c.self.inside.blocks.items c.take_out-node.new.self c.self.inside.id c.args.token.head c.args.place c.take_out-node.result
+is_taken : (c : After-take_out-node) → IsTakenOut c.args.self.now c.self.inside.data c.take_out-node.new.self.loads c.take_out-node.new.self.lists c.self.inside.id c.args.token.head c.args.place c.take_out-node.result
 is_taken c =
-    is_taken_out c.self.inside.id c.self.inside.data c.self.inside.blocks.items c.self.inside.chains c.self.invariant.filled c.args.self.now c.self.view_is c.args.token c.requires
+    is_taken_out c.self.inside.id c.self.inside.data c.take_out-node.new.self.loads c.self.inside.chains.lists (reloaded c.self.inside.id c.self.inside.data c.self.inside.chains.lists c.take_out-node.ensures.loads c.self.invariant.filled) c.args.self.now (reviewed c.self.inside.id c.self.inside.data.store c.self.inside.chains.lists c.take_out-node.ensures.loads c.self.view_is) c.args.token c.requires
     c.spend-head.result.head c.args.place c.take_out-node.result (ap (λ (t : TokenValue). t.head) c.spend-head.ensures) c.take_out-node.ensures.answer (omega (arith, c.if-place-eq0.false))
-    c.take_out-node.new.self c.take_out-node.ensures.after c.take_out-node.ensures.parted
+    c.take_out-node.new.self.lists c.take_out-node.ensures.after c.take_out-node.ensures.parted
 
 abbrev new_arena : After-take_out-node → Arena
-new_arena c = arena_of c.self.inside.id c.self.inside.data.store c.self.inside.blocks.items c.take_out-node.new.self
+new_arena c = arena_of c.self.inside.id c.self.inside.data.store c.take_out-node.new.self.loads c.take_out-node.new.self.lists
 
 rest_held : (c : After-take_out-node) → held_at (new_arena c) c.spend-head.result.head ≡ Some (message_at (new_arena c) c.spend-head.result.head)
 rest_held c = subst (λ h. held_at (new_arena c) h ≡ Some (message_at (new_arena c) h)) (sym (ap (λ (t : TokenValue). t.head) c.spend-head.ensures)) (is_taken c).rest

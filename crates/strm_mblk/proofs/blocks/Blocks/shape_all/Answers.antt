@@ -1,8 +1,6 @@
 use Rattle.std.proofs.Common.{◌≡◌, ◌≤◌, ◌<◌, ◌^◌, ℕ, List, true, [], ◌∷◌, length, map, Ok, sym, ap, ◌∙◌, subst, arith}
-use Rattle.std.specs.Vec.{with_items}
 use Rattle.std.proofs.lemmas.Bool.{cond-false, le-ltb}
-use Rattle.std.proofs.lemmas.Grind.{common_steps}
-use Rattle.std.proofs.lemmas.List.{length-map, with_items_is}
+use Rattle.std.proofs.lemmas.List.{length-map}
 use Rattle.strm_mblk.specs.declared.block_place.Shape.{Shape}
 use Rattle.strm_mblk.specs.declared.blocks.Fields.{Fields}
 use Rattle.strm_mblk.specs.Arena.{Arena, has, message_at, shelved_blocks}
@@ -10,7 +8,7 @@ use Rattle.strm_mblk.specs.BlocksLayout.{IsFilled, arena_of, fields_at, message_
 use Rattle.strm_mblk.specs.Given.{answer_map}
 use Rattle.strm_mblk.specs.InPlace.{shape_all, shapes_fit, store_retyped}
 use Rattle.strm_mblk.specs.Messages.{blocks_of}
-use Rattle.strm_mblk.specs.NodeLists.{nodes_at}
+use Rattle.strm_links.specs.ChainLists.{nodes_at, ChainLists}
 use Rattle.strm_mblk.proofs.Altering.{shaped_filled, shaped_had, shaped_leaves, shaped_shows, with_shaped}
 use Rattle.strm_mblk.proofs.arena.Calls.{alters_to}
 use Rattle.strm_mblk.proofs.arena.Counts.{had_message}
@@ -23,36 +21,36 @@ module _ (g : _) (c : After-shape_blocks g) where
   xs = map g.S.Shaped.shape c.args.shapes.now
 
   abbrev nodes : List ℕ
-  nodes = nodes_at c.self.inside.chains c.args.token.now.head
+  nodes = nodes_at c.self.inside.chains.lists c.args.token.now.head
 
   abbrev now : List Fields
-  now = (with_items c.self.inside.blocks c.shape_blocks.new.blocks).items
+  now = c.shape_blocks.new.chains.loads
+
+  abbrev lists : ChainLists
+  lists = c.shape_blocks.new.chains.lists
 
   fits : shapes_fit c.args.self.now xs (message_at c.args.self.now c.args.token.now.head) ≡ Ok tt
   fits = sym c.in_ok-fit.ensures
 
-  blocks_are : c.shape_blocks.new.blocks ≡ with_shapes xs nodes c.self.inside.blocks.items
-  blocks_are = c.shape_blocks.ensures.fields ∙ (λ i. with_shapes xs (nodes_at c.self.inside.chains (c.head.ensures i)) (c.deref_mut.ensures.value i))
+  now_is : now ≡ with_shapes xs nodes c.self.inside.chains.loads
+  now_is = c.shape_blocks.ensures.fields ∙ ap (λ h. with_shapes xs (nodes_at c.self.inside.chains.lists h) c.self.inside.chains.loads) c.head.ensures
 
-  now_is : now ≡ with_shapes xs nodes c.self.inside.blocks.items
-  now_is = grind (arith, common_steps, with_items_is, blocks_are)
-
-  stored_is : c.shape_blocks.new.stored ≡ record c.self.inside.data { store = store_retyped xs (message_of c.self.inside.blocks.items nodes) c.self.inside.data.store }
+  stored_is : c.shape_blocks.new.stored ≡ record c.self.inside.data { store = store_retyped xs (message_of c.self.inside.chains.loads nodes) c.self.inside.data.store }
   stored_is =
       c.shape_blocks.ensures.after
-      ∙ (λ i. record c.self.inside.data { store = store_retyped xs (message_of (c.deref_mut.ensures.value i) (nodes_at c.self.inside.chains (c.head.ensures i))) c.self.inside.data.store })
+      ∙ ap (λ h. record c.self.inside.data { store = store_retyped xs (message_of c.self.inside.chains.loads (nodes_at c.self.inside.chains.lists h)) c.self.inside.data.store }) c.head.ensures
 
-  filled : IsFilled c.shape_blocks.new.stored now c.self.inside.chains (arena_of c.self.inside.id c.shape_blocks.new.stored.store now c.self.inside.chains)
+  filled : IsFilled c.shape_blocks.new.stored now lists (arena_of c.self.inside.id c.shape_blocks.new.stored.store now lists)
   filled =
-      subst (λ fs. IsFilled c.shape_blocks.new.stored fs c.self.inside.chains (arena_of c.self.inside.id c.shape_blocks.new.stored.store fs c.self.inside.chains)) (sym now_is)
-      (shaped_filled c.self.inside.id c.self.inside.data c.self.inside.blocks.items c.self.inside.chains c.self.invariant.filled c.args.self.now c.self.view_is c.args.token.now c.requires xs
+      subst (λ (p : List Fields × ChainLists). IsFilled c.shape_blocks.new.stored p.0 p.1 (arena_of c.self.inside.id c.shape_blocks.new.stored.store p.0 p.1)) (λ i. (sym now_is i, sym c.shape_blocks.ensures.lists i))
+      (shaped_filled c.self.inside.id c.self.inside.data c.self.inside.chains.loads c.self.inside.chains.lists c.self.invariant.filled c.args.self.now c.self.view_is c.args.token.now c.requires xs
       c.shape_blocks.new.stored stored_is fits c.shape_blocks.ensures.kept
-      (subst (λ fs. (n : ℕ) → n < length fs → (fields_at fs n).band < 2 ^ 8) blocks_are c.shape_blocks.ensures.banded))
+      (subst (λ fs. (n : ℕ) → n < length fs → (fields_at fs n).band < 2 ^ 8) now_is c.shape_blocks.ensures.banded))
 
-  shows : arena_of c.self.inside.id c.shape_blocks.new.stored.store now c.self.inside.chains ≡ with_shaped c.args.token.now.head xs c.args.self.now
+  shows : arena_of c.self.inside.id c.shape_blocks.new.stored.store now lists ≡ with_shaped c.args.token.now.head xs c.args.self.now
   shows =
-      ap (λ fs. arena_of c.self.inside.id c.shape_blocks.new.stored.store fs c.self.inside.chains) now_is
-      ∙ shaped_shows c.self.inside.id c.self.inside.data c.self.inside.blocks.items c.self.inside.chains c.self.invariant.filled c.args.self.now c.self.view_is c.args.token.now c.requires xs c.shape_blocks.new.stored stored_is
+      (λ i. arena_of c.self.inside.id c.shape_blocks.new.stored.store (now_is i) (c.shape_blocks.ensures.lists i))
+      ∙ shaped_shows c.self.inside.id c.self.inside.data c.self.inside.chains.loads c.self.inside.chains.lists c.self.invariant.filled c.args.self.now c.self.view_is c.args.token.now c.requires xs c.shape_blocks.new.stored stored_is
 
 pub invariant_of-self : goal.invariant_of-self
 invariant_of-self g c =

@@ -2,7 +2,7 @@ use Rattle.std.proofs.Common.{[], ◌∷◌, ◌≡◌, ◌<◌, ap, refl, subst
 use Rattle.strm_links.specs.Rows.{has}
 use Rattle.strm_mblk.specs.declared.token.TokenValue.{TokenValue}
 use Rattle.strm_mblk.specs.Arena as arena
-use Rattle.strm_mblk.specs.Arena.{Arena, held_at}
+use Rattle.strm_mblk.specs.Arena.{Arena, held_at, shelved_blocks}
 use Rattle.strm_mblk.specs.Block.{Message}
 use Rattle.strm_mblk.specs.BlocksLayout.{arena_in, arena_of}
 use Rattle.strm_mblk.specs.Frame.{LeavesOthers}
@@ -11,6 +11,7 @@ use Rattle.strm_mblk.proofs.Shelving.{heads_at-seen, shelve_filled, shelve_queue
 use Rattle.strm_mblk.proofs.arena.Counts.{IsHad, had_message}
 use Rattle.strm_mblk.proofs.arena.Frame.{none_at, others_one}
 use Rattle.strm_mblk.proofs.blocks.Blocks.shelve.Goals.{After-len-blocks, After-self-1, After-shelve}
+use Rattle.strm_mblk.proofs.layout.Shown.{reloaded, reviewed}
 use Rattle.strm_mblk.proofs.blocks.Blocks.shelve.Goals as goal
 
 had : (c : After-len-blocks) → (m : Message) × IsHad (arena_in c.self.inside) c.spend-head.result m
@@ -19,11 +20,11 @@ had c = had_message (arena_in c.self.inside) c.spend-head.result (ap (λ (t : To
 pub overflow_add-self : goal.overflow_add-self
 overflow_add-self c =
     let message = had (goal.at.overflow_add-self c).After-len-blocks in
-    omega (arith, shelving_room c.self.inside.id c.self.inside.data c.self.inside.blocks.items c.self.inside.chains c.self.invariant.filled c.spend-head.result.head message.0 message.1.held, c.len-blocks.ensures, c.self.invariant.queued)
+    omega (arith, shelving_room c.self.inside.id c.self.inside.data c.self.inside.chains.loads c.self.inside.chains.lists c.self.invariant.filled c.spend-head.result.head message.0 message.1.held, c.len-blocks.ensures, c.self.invariant.queued)
 
 pub shelve-requires-clause-before : goal.shelve-requires-clause-before
 shelve-requires-clause-before c at is =
-    ap (has at) (sym (heads_at-seen c.self.inside.id c.self.inside.data.store c.self.inside.blocks.items c.self.inside.chains c.from.result))
+    ap (has at) (sym (heads_at-seen c.self.inside.id c.self.inside.data.store c.self.inside.chains.loads c.self.inside.chains.lists c.from.result))
     ∙ (λ i. has at (heads_at (c.self.view_is i) (c.from.ensures i))) ∙ c.requires.before at is
 
 -- the shelf is one of those that there are
@@ -33,26 +34,32 @@ within c = omega (arith, c.requires.shelf, c.from.ensures, ap (λ (a : Arena). l
 pub invariant_of-self : goal.invariant_of-self
 invariant_of-self c =
     let message = had (goal.at.invariant_of-self c).After-len-blocks in
+    let i = c.self.inside in
+    let within = within (goal.at.invariant_of-self c).After-shelve in
     record {
       filled =
-          shelve_filled c.self.inside.id c.self.inside.data c.self.inside.blocks.items c.self.inside.chains c.self.invariant.filled c.spend-head.result.head message.0 message.1.held
-          c.from.result c.args.before c.shelve.new.self (within (goal.at.invariant_of-self c).After-shelve) c.shelve.ensures.after c.shelve.ensures.parted;
+          reloaded i.id i.data c.shelve.new.self.lists c.shelve.ensures.loads
+          (shelve_filled i.id i.data i.chains.loads i.chains.lists c.self.invariant.filled c.spend-head.result.head message.0 message.1.held
+          c.from.result c.args.before c.shelve.new.self.lists within c.shelve.ensures.after c.shelve.ensures.parted);
       queued =
           omega (
             arith,
             c.len-blocks.ensures,
             c.self.invariant.queued,
-            shelve_queued c.self.inside.id c.self.inside.data c.self.inside.blocks.items c.self.inside.chains c.self.invariant.filled c.spend-head.result.head message.0 message.1.held
-                c.from.result c.args.before c.shelve.new.self (within (goal.at.invariant_of-self c).After-shelve) c.shelve.ensures.after c.shelve.ensures.parted,
+            shelve_queued i.id i.data i.chains.loads i.chains.lists c.self.invariant.filled c.spend-head.result.head message.0 message.1.held
+                c.from.result c.args.before c.shelve.new.self.lists within c.shelve.ensures.after c.shelve.ensures.parted,
+            ap (λ fields. length (shelved_blocks (arena_of i.id i.data.store fields c.shelve.new.self.lists))) c.shelve.ensures.loads,
           );
     }
 
-after_is : (c : After-self-1) → arena_of c.self.inside.id c.self.inside.data.store c.self.inside.blocks.items c.shelve.new.self ≡ shelve c.args.shelf c.args.before c.args.token.head c.args.self.now
+after_is : (c : After-self-1) → arena_of c.self.inside.id c.self.inside.data.store c.shelve.new.self.loads c.shelve.new.self.lists ≡ shelve c.args.shelf c.args.before c.args.token.head c.args.self.now
 after_is c =
     let message = had (goal.at.returns c).After-len-blocks in
-    shelve_shows c.self.inside.id c.self.inside.data c.self.inside.blocks.items c.self.inside.chains c.self.invariant.filled c.spend-head.result.head message.0 message.1.held
-    c.from.result c.args.before c.shelve.new.self (within (goal.at.returns c).After-shelve) c.shelve.ensures.after c.shelve.ensures.parted
-    ∙ (λ i. shelve (c.from.ensures i) c.args.before (c.spend-head.ensures i).head (c.self.view_is i))
+    let i = c.self.inside in
+    reviewed i.id i.data.store c.shelve.new.self.lists c.shelve.ensures.loads
+    (shelve_shows i.id i.data i.chains.loads i.chains.lists c.self.invariant.filled c.spend-head.result.head message.0 message.1.held
+    c.from.result c.args.before c.shelve.new.self.lists (within (goal.at.returns c).After-shelve) c.shelve.ensures.after c.shelve.ensures.parted
+    ∙ (λ j. shelve (c.from.ensures j) c.args.before (c.spend-head.ensures j).head (c.self.view_is j)))
 
 pub returns : goal.returns
 returns c =

@@ -1,8 +1,6 @@
 use Rattle.std.proofs.Common.{refl, None, Some, ◌≡◌, ◌<◌, ◌≤◌, ap, subst, sym, ◌∙◌, arith, length, Err, List}
 use Rattle.std.specs.Prelude.{is_some}
-use Rattle.std.specs.Vec.{with_items}
 use Rattle.std.proofs.lemmas.Bool.{cond-true}
-use Rattle.std.proofs.lemmas.List.{with_items_is}
 use Rattle.strm_data.specs.declared.refusal.Refusal.TheVariants.{TooLarge}
 use Rattle.strm_mblk.specs.declared.blocks.Fields.{Fields}
 use Rattle.strm_mblk.specs.Arena.{Arena, message_at}
@@ -11,7 +9,7 @@ use Rattle.strm_mblk.specs.BlockCalls.{fits_classes, message_copied, transfer}
 use Rattle.strm_mblk.specs.BlocksLayout.{arena_of}
 use Rattle.strm_mblk.specs.Copying.{AreCopied}
 use Rattle.strm_mblk.specs.Messages.{blocks_of}
-use Rattle.strm_mblk.specs.NodeLists.{nodes_at}
+use Rattle.strm_links.specs.ChainLists.{nodes_at, ChainLists}
 use Rattle.strm_mblk.proofs.making.Duplicated.{IsInto, into_is}
 use Rattle.strm_mblk.proofs.making.Copied.{IsMade, is_made}
 use Rattle.strm_mblk.proofs.arena.Counts.{some_blocks, had_message}
@@ -26,13 +24,13 @@ module _ (c : After-begin_all-head) where
   some =
       omega (arith, c.blocks-count.ensures, some_blocks c.args.other.now (parted_inside c.other.inside c.other.invariant c.args.other.now c.other.view_is) c.args.token.now c.requires)
 
-  free : c.blocks-count.result ≤ length c.self.inside.chains.free
+  free : c.blocks-count.result ≤ length c.self.inside.chains.lists.free
   free = omega (arith, c.if-free_len-count.false, c.free_len.ensures)
 
   -- the first free message blocks are a message
-  into : IsInto c.self.inside.chains c.begin_all-head.new.self c.begin_all-head.result c.blocks-count.result
+  into : IsInto c.self.inside.chains.lists c.begin_all-head.new.self.lists c.begin_all-head.result c.blocks-count.result
   into =
-      into_is c.self.inside.chains c.self.invariant.filled.parted c.blocks-count.result some free c.begin_all-head.result c.begin_all-head.ensures.answer c.begin_all-head.new.self c.begin_all-head.ensures.after
+      into_is c.self.inside.chains.lists c.self.invariant.filled.parted c.blocks-count.result some free c.begin_all-head.result c.begin_all-head.ensures.answer c.begin_all-head.new.self.lists c.begin_all-head.ensures.after
 
 pub copy_into-requires-clause-begun : goal.copy_into-requires-clause-begun
 copy_into-requires-clause-begun c = (into (goal.at.copy_into-requires-clause-begun c).After-begin_all-head).begun
@@ -49,25 +47,25 @@ module _ (c : After-copy_into) where
       let message = had_message c.args.other.now c.args.token.now c.requires in
       ap (λ o. length (blocks_of o)) message.1.held ∙ message.1.blocks ∙ sym c.blocks-count.ensures
 
-  -- what message blocks say then
+  -- what message blocks say then, and where they are
   abbrev said : List Fields
-  said = (with_items c.self.inside.blocks c.copy_into.new.blocks).items
+  said = c.copy_into.new.chains.loads
 
-  said_is : said ≡ c.copy_into.new.blocks
-  said_is = with_items_is c.self.inside.blocks c.copy_into.new.blocks (c.copy_into.auto.blocks ∙ c.deref_mut.ensures.len)
+  abbrev lists : ChainLists
+  lists = c.copy_into.new.chains.lists
 
   abbrev now : Arena
-  now = arena_of c.self.inside.id c.copy_into.new.stored.store said c.begin_all-head.new.self
+  now = arena_of c.self.inside.id c.copy_into.new.stored.store said lists
 
-  made : IsMade (Some c.args.other.now.store) m c.args.self.now c.copy_into.new.stored said c.begin_all-head.new.self c.self.inside.id c.begin_all-head.result
+  made : IsMade (Some c.args.other.now.store) m c.args.self.now c.copy_into.new.stored said lists c.self.inside.id c.begin_all-head.result
   made =
       let begun = (goal.at.After-copy_into c).After-begin_all-head in
-      subst (λ a. IsMade (Some c.args.other.now.store) m a c.copy_into.new.stored said c.begin_all-head.new.self c.self.inside.id c.begin_all-head.result) c.self.view_is
-      (is_made (Some c.args.other.now.store) m c.blocks-count.result many c.self.inside.id c.self.inside.data c.self.inside.blocks.items c.self.inside.chains c.self.invariant.filled (some begun) (free begun)
-      c.begin_all-head.result c.begin_all-head.ensures.answer c.begin_all-head.new.self c.begin_all-head.ensures.after (into begun).is c.begin_all-head.ensures.parted
+      subst (λ (p : Arena × ChainLists). IsMade (Some c.args.other.now.store) m p.0 c.copy_into.new.stored said p.1 c.self.inside.id c.begin_all-head.result) (λ i. (c.self.view_is i, sym c.copy_into.ensures.lists i))
+      (is_made (Some c.args.other.now.store) m c.blocks-count.result many c.self.inside.id c.self.inside.data c.self.inside.chains.loads c.self.inside.chains.lists c.self.invariant.filled (some begun) (free begun)
+      c.begin_all-head.result c.begin_all-head.ensures.answer c.begin_all-head.new.self.lists c.begin_all-head.ensures.after (into begun).is c.begin_all-head.ensures.parted
       c.copy_into.new.stored said c.copy_into.ensures.kept
-      (subst (λ (p : List Fields × List Fields). AreCopied (Some c.args.other.now.store) m (nodes_at c.begin_all-head.new.self c.begin_all-head.result) p.0 p.1 c.self.inside.data c.copy_into.new.stored)
-      (λ i. (c.deref_mut.ensures.value i, sym said_is i)) c.copy_into.ensures.after))
+      (subst (λ fields. AreCopied (Some c.args.other.now.store) m (nodes_at c.begin_all-head.new.self.lists c.begin_all-head.result) fields said c.self.inside.data c.copy_into.new.stored) c.begin_all-head.ensures.loads
+      c.copy_into.ensures.after))
 
 pub invariant_of-self : goal.invariant_of-self
 invariant_of-self c =

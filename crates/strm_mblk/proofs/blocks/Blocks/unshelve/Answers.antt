@@ -6,11 +6,11 @@ use Rattle.strm_mblk.specs.declared.token.TokenValue.{TokenValue}
 use Rattle.strm_mblk.specs.Arena as arena
 use Rattle.strm_mblk.specs.Arena.{Arena, shelved_blocks}
 use Rattle.strm_mblk.specs.BlocksLayout.{arena_in, arena_of, block_at}
-use Rattle.strm_mblk.specs.NodeLists.{nodes_at}
+use Rattle.strm_links.specs.ChainLists.{nodes_at}
 use Rattle.strm_mblk.specs.Frame.{LeavesOthers}
 use Rattle.strm_mblk.specs.Shelves.{heads_at, unshelve}
 use Rattle.strm_mblk.proofs.layout.Places.{held_nodes}
-use Rattle.strm_mblk.proofs.layout.Shown.{message_at-seen}
+use Rattle.strm_mblk.proofs.layout.Shown.{message_at-seen, reloaded, reviewed}
 use Rattle.strm_mblk.proofs.Shelving.{IsUnshelved, heads_at-seen, unshelves}
 use Rattle.strm_mblk.proofs.arena.Counts.{token_had}
 use Rattle.strm_mblk.proofs.arena.Frame.{others_one}
@@ -23,21 +23,21 @@ there c = (λ i. has c.args.head (heads_at (c.self.view_is i) (c.from.ensures i)
 
 pub unshelve-requires-clause-there : goal.unshelve-requires-clause-there
 unshelve-requires-clause-there c =
-    ap (has c.args.head) (sym (heads_at-seen c.self.inside.id c.self.inside.data.store c.self.inside.blocks.items c.self.inside.chains c.from.result))
+    ap (has c.args.head) (sym (heads_at-seen c.self.inside.id c.self.inside.data.store c.self.inside.chains.loads c.self.inside.chains.lists c.from.result))
     ∙ there (goal.at.unshelve-requires-clause-there c).After-from
 
-is_unshelved : (c : After-unshelve) → IsUnshelved c.args.self.now c.self.inside.data c.self.inside.blocks.items c.unshelve.new.self c.self.inside.id c.args.shelf c.args.head
+is_unshelved : (c : After-unshelve) → IsUnshelved c.args.self.now c.self.inside.data c.unshelve.new.self.loads c.unshelve.new.self.lists c.self.inside.id c.args.shelf c.args.head
 is_unshelved c =
-    subst (λ a. IsUnshelved a c.self.inside.data c.self.inside.blocks.items c.unshelve.new.self c.self.inside.id c.args.shelf c.args.head) c.self.view_is
-    (subst (λ s. IsUnshelved (arena_in c.self.inside) c.self.inside.data c.self.inside.blocks.items c.unshelve.new.self c.self.inside.id s c.args.head) c.from.ensures
-    (unshelves c.self.inside.id c.self.inside.data c.self.inside.blocks.items c.self.inside.chains c.self.invariant.filled c.from.result c.args.head
-    (omega (arith, c.requires.shelf, c.from.ensures, ap (λ (a : Arena). length a.shelves) c.self.view_is)) ((λ i. has c.args.head (heads_at (c.self.view_is i) (c.from.ensures i))) ∙ c.requires.there)
-    c.unshelve.new.self c.unshelve.ensures.after c.unshelve.ensures.parted))
+    subst (λ a. IsUnshelved a c.self.inside.data c.unshelve.new.self.loads c.unshelve.new.self.lists c.self.inside.id c.args.shelf c.args.head) (reviewed c.self.inside.id c.self.inside.data.store c.self.inside.chains.lists c.unshelve.ensures.loads c.self.view_is)
+    (subst (λ s. IsUnshelved (arena_of c.self.inside.id c.self.inside.data.store c.unshelve.new.self.loads c.self.inside.chains.lists) c.self.inside.data c.unshelve.new.self.loads c.unshelve.new.self.lists c.self.inside.id s c.args.head) c.from.ensures
+    (unshelves c.self.inside.id c.self.inside.data c.unshelve.new.self.loads c.self.inside.chains.lists (reloaded c.self.inside.id c.self.inside.data c.self.inside.chains.lists c.unshelve.ensures.loads c.self.invariant.filled) c.from.result c.args.head
+    (omega (arith, c.requires.shelf, c.from.ensures, ap (λ (a : Arena). length a.shelves) (reviewed c.self.inside.id c.self.inside.data.store c.self.inside.chains.lists c.unshelve.ensures.loads c.self.view_is))) ((λ i. has c.args.head (heads_at ((reviewed c.self.inside.id c.self.inside.data.store c.self.inside.chains.lists c.unshelve.ensures.loads c.self.view_is) i) (c.from.ensures i))) ∙ c.requires.there)
+    c.unshelve.new.self.lists c.unshelve.ensures.after c.unshelve.ensures.parted))
 
 pub len-blocks-requires : goal.len-blocks-requires
 len-blocks-requires c =
     let is = is_unshelved (goal.at.len-blocks-requires c).After-unshelve in
-    ap is_some (held_nodes c.self.inside.id c.self.inside.data.store c.self.inside.blocks.items c.unshelve.new.self c.args.head is.message is.held).1.held
+    ap is_some (held_nodes c.self.inside.id c.self.inside.data.store c.unshelve.new.self.loads c.unshelve.new.self.lists c.args.head is.message is.held).1.held
 
 pub overflow_sub-self : goal.overflow_sub-self
 overflow_sub-self c =
@@ -54,13 +54,13 @@ invariant_of-self c =
 
 pub token_of-requires-clause-number : goal.token_of-requires-clause-number
 token_of-requires-clause-number c =
-    let ns = nodes_at c.unshelve.new.self c.args.head in
-    c.len-blocks.ensures.number ∙ sym (ap length (message_at-seen c.self.inside.id c.self.inside.data.store c.self.inside.blocks.items c.unshelve.new.self c.args.head) ∙ length-map ns (block_at c.self.inside.blocks.items))
+    let ns = nodes_at c.unshelve.new.self.lists c.args.head in
+    c.len-blocks.ensures.number ∙ sym (ap length (message_at-seen c.self.inside.id c.self.inside.data.store c.unshelve.new.self.loads c.unshelve.new.self.lists c.args.head) ∙ length-map ns (block_at c.unshelve.new.self.loads))
 
 pub returns : goal.returns
 returns c =
     let is = is_unshelved (goal.at.returns c).After-unshelve in
-    let now = arena_of c.self.inside.id c.self.inside.data.store c.self.inside.blocks.items c.unshelve.new.self in
+    let now = arena_of c.self.inside.id c.self.inside.data.store c.unshelve.new.self.loads c.unshelve.new.self.lists in
     record {
       after = is.after;
       token = ap (λ (t : TokenValue). Ok t) c.token_of.ensures;

@@ -12,7 +12,7 @@ use Rattle.strm_mblk.specs.Block.{Block}
 use Rattle.strm_mblk.specs.declared.blocks.Fields.{Fields}
 use Rattle.strm_mblk.specs.BlocksLayout.{IsPlaced, block_at, fields_at, message_of}
 use Rattle.strm_mblk.specs.Copying.{IsLeft, lent_store}
-use Rattle.strm_mblk.specs.NodeLists.{IsNodesParted, NodeLists, nodes_at}
+use Rattle.strm_links.specs.ChainLists.{IsLawful, ChainLists, nodes_at}
 use Rattle.strm_mblk.proofs.Lists.{slice_get-take}
 use Rattle.strm_mblk.proofs.making.CopiesCounted.{IsAhead, block_there, IsInside, enough_left, next_ahead, next_block, none_ahead}
 use Rattle.strm_mblk.proofs.blocks.copying.copies_fit.Goals.{After-class_left}
@@ -27,7 +27,7 @@ lengths (f ∷ fs) zero = refl
 lengths (f ∷ fs) (suc c) = lengths fs c
 
 -- the places of the blocks lie in their data blocks, and a class fits each
-module _ (fields : List Fields) (v : NodeLists) (s to : DataStore) (h count : ℕ) (parted : IsNodesParted v) (listed : length fields ≡ length v.held) (placed : (n : ℕ) → n < length fields → IsPlaced s (fields_at fields n))
+module _ (fields : List Fields) (v : ChainLists) (s to : DataStore) (h count : ℕ) (parted : IsLawful v) (listed : length fields ≡ length v.held) (placed : (n : ℕ) → n < length fields → IsPlaced s (fields_at fields n))
     (classed : fits_classes s (take count (message_of fields (nodes_at v h))) to ≡ true) where
   pub each_inside : (k : ℕ) (b : Block) → slice_get (take count (message_of fields (nodes_at v h))) k ≡ Some b → IsInside s b × (fits_a_class (capacity_of s b.data_number) to.classes ≡ true)
   each_inside k b at =
@@ -42,19 +42,19 @@ module _ (fields : List Fields) (v : NodeLists) (s to : DataStore) (h count : �
 pub returns-then-free_in_largest-count-clause-fit : goal.returns-then-free_in_largest-count-clause-fit
 returns-then-free_in_largest-count-clause-fit c =
     let o = lent_store c.args.other in
-    let bs = take c.args.count (message_of c.args.blocks.now (nodes_at c.args.chains.now c.args.head)) in
+    let bs = take c.args.count (message_of c.args.chains.now.loads (nodes_at c.args.chains.now.lists c.args.head)) in
     sym (enough_left o bs c.args.stored.now (map length c.args.stored.now.store.free) c.requires.kept (lengths c.args.stored.now.store.free)
-    (each_inside c.args.blocks.now c.args.chains.now (copied_from o c.args.stored.now.store) c.args.stored.now.store c.args.head c.args.count c.requires.parted c.requires.listed c.requires.placed c.requires.classed)
-    (omega (arith, length-take c.args.count (message_of c.args.blocks.now (nodes_at c.args.chains.now c.args.head)), c.free_in_largest.ensures, c.if-free_in_largest-count.true, lengths c.args.stored.now.store.free (length c.args.stored.now.store.classes - 1))))
+    (each_inside c.args.chains.now.loads c.args.chains.now.lists (copied_from o c.args.stored.now.store) c.args.stored.now.store c.args.head c.args.count c.requires.parted c.requires.listed c.requires.placed c.requires.classed)
+    (omega (arith, length-take c.args.count (message_of c.args.chains.now.loads (nodes_at c.args.chains.now.lists c.args.head)), c.free_in_largest.ensures, c.if-free_in_largest-count.true, lengths c.args.stored.now.store.free (length c.args.stored.now.store.classes - 1))))
 
 -- ---- a class for each
 
 module _ (c : After-class_left) where
   abbrev ns : List ℕ
-  ns = nodes_at c.args.chains.now c.args.head
+  ns = nodes_at c.args.chains.now.lists c.args.head
 
   abbrev bs : List Block
-  bs = take c.args.count (message_of c.args.blocks.now ns)
+  bs = take c.args.count (message_of c.args.chains.now.loads ns)
 
   abbrev o : Option DataStore
   o = lent_store c.args.other
@@ -64,19 +64,19 @@ module _ (c : After-class_left) where
   from = copied_from o c.args.stored.now.store
 
   abbrev b : Block
-  b = block_at c.args.blocks.now c.loop-block.node
+  b = block_at c.args.chains.now.loads c.loop-block.node
 
-  at : slice_get (nodes_at c.args.chains.now c.args.head) c.loop-block._block ≡ Some c.loop-block.node
+  at : slice_get (nodes_at c.args.chains.now.lists c.args.head) c.loop-block._block ≡ Some c.loop-block.node
   at = c.loop-block.invariant.at.here (omega (arith, c.loop-block-test.true, c.requires.count))
 
   -- the block of this step, and those after it
   next : drop c.loop-block._block bs ≡ b ∷ drop (c.loop-block._block + 1) bs
-  next = next_block c.args.blocks.now (nodes_at c.args.chains.now c.args.head) c.args.count c.loop-block._block c.loop-block.node c.loop-block-test.true at
+  next = next_block c.args.chains.now.loads (nodes_at c.args.chains.now.lists c.args.head) c.args.count c.loop-block._block c.loop-block.node c.loop-block-test.true at
 
   here : IsInside from b × (fits_a_class (capacity_of from b.data_number) c.args.stored.now.store.classes ≡ true)
   here =
-      each_inside c.args.blocks.now c.args.chains.now from c.args.stored.now.store c.args.head c.args.count c.requires.parted c.requires.listed c.requires.placed c.requires.classed c.loop-block._block b
-      (slice_get-take c.args.count c.loop-block._block (message_of c.args.blocks.now ns) c.loop-block-test.true ∙ slice_get-map (block_at c.args.blocks.now) ns c.loop-block._block ∙ ap (option_map (block_at c.args.blocks.now)) at)
+      each_inside c.args.chains.now.loads c.args.chains.now.lists from c.args.stored.now.store c.args.head c.args.count c.requires.parted c.requires.listed c.requires.placed c.requires.classed c.loop-block._block b
+      (slice_get-take c.args.count c.loop-block._block (message_of c.args.chains.now.loads ns) c.loop-block-test.true ∙ slice_get-map (block_at c.args.chains.now.loads) ns c.loop-block._block ∙ ap (option_map (block_at c.args.chains.now.loads)) at)
 
   -- the size that the class was looked up for
   size_is : c.cap-size.result ≡ capacity_of from b.data_number
