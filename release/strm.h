@@ -2,10 +2,11 @@
  * strm.h: message blocks and queues as in UNIX System V Release 4 STREAMS, for programs in C and
  * C++.
  *
- * A pool has message blocks, data blocks in size classes, and queues. Only strm_open allocates
- * memory. A message is a chain of one or more message blocks; the caller holds it by a name, or it
- * is on a queue. Bytes are copied in and out, or read and written where they are (strm_iov,
- * strm_room). Queues, and places of blocks, messages and bytes, are numbered from 0.
+ * A pool has message blocks, data blocks in size classes, and queues. Only strm_open and
+ * strm_open_with allocate memory. A message is a chain of one or more message blocks; the caller
+ * holds it by a name, or it is on a queue. Bytes are copied in and out, or read and written where
+ * they are (strm_iov, strm_room). Queues, and places of blocks, messages and bytes, are numbered
+ * from 0.
  *
  *     strm_allocb(&pool, 4, &msg);
  *     strm_write(&pool, msg, 0, "lion", 4);
@@ -22,9 +23,9 @@
  *   - place: of a block, counted from 0 in its message; of a message, from 0 on its queue.
  *   - service procedure: your code for an enabled queue, which strm_next_service returns
  *     (examples/c/service.c). It takes messages off the queue until strm_getq returns STRM_NONE,
- *     strm_getq_n gives fewer than `length`, or strm_bcanput sets *yes to 0 and it puts one back. If
- *     it stops for another reason, call strm_qenable when it can go on. strm_serve is a loop over
- *     such procedures.
+ *     strm_getq_n gives fewer than `length`, or strm_bcanput sets *yes to 0 and it puts one back.
+ *     If it stops for another reason, call strm_qenable when it can go on. With strm_serve your
+ *     code needs no such procedures: it gets message by message (examples/c/line.c).
  *   - read place, write place: where the bytes of a message block begin and end in its data block.
  *     Each message block has its own.
  *   - room, headroom: bytes of the data block after the write place, and before the read place.
@@ -34,16 +35,18 @@
  *   - high priority: said of messages of type STRM_M_IOCACK or a type listed after it.
  *   - rank: the band of an ordinary message. High priority ranks above all bands.
  *   - full: said of a band that has at least as many bytes as its high water mark.
- *   - wanted: the mark of a band that strm_bcanput found full; settling clears it.
+ *   - wanted: a mark of a band. strm_bcanput and strm_serve set it if they find the band full; only
+ *     settling clears it.
  *   - settle: to clear the wanted marks of a queue's bands that are at their low water mark or
  *     below. If a mark was cleared, the pool looks at the queue whose next is this queue, at the
  *     queue whose next is that one, and so on. It enables the first that has a service procedure
  *     (back-enabling).
  *   - enable: to append a queue to the run list, whose first queue strm_next_service takes. A queue
- *     already on the list, or without a service procedure, is not appended.
+ *     already on the list, or without a service procedure, is not appended. strm_serve alone puts
+ *     some queues at the front instead.
  *   - enabling: on in a new queue; strm_noenable switches it off, strm_enableok on.
- *   - want-to-read: a mark that a new queue has. strm_getq, strm_getq_n and strm_serve set or clear
- *     it.
+ *   - want-to-read: a mark that a new queue has. strm_getq, strm_getq_n and strm_serve set it if
+ *     they find the queue empty, and clear it if they take a message off. No other call changes it.
  *   - wish (bufcall): a recorded request for a message block and a data block. strm_take_ready
  *     returns the wish, not the blocks.
  *   - look: a call that changes nothing in the pool. Its handle is `const`. Looks are strm_testb,
@@ -85,8 +88,9 @@
  *      no queued message has the head.
  *
  * With STRM_NONE nothing is stored through pointers, except that strm_freeb and strm_unlinkb set
- * *rest to STRM_NO_MSG, and _n calls *count to 0. After any code but STRM_OK and STRM_NONE, the pool, names, and what
- * pointers lead to are unchanged, but *count of strm_takeq, strm_takeq_band and _n calls is 0.
+ * *rest to STRM_NO_MSG, and _n calls *count to 0. After any code but STRM_OK and STRM_NONE, the
+ * pool, names, and what pointers lead to are unchanged, but *count of strm_takeq, strm_takeq_band
+ * and _n calls is 0.
  *
  * A call whose name ends in _n makes `length` single calls, or fewer, up to the first that does not
  * return STRM_OK. It returns the code of the first one, or STRM_OK if `length` is 0, whatever the
@@ -94,25 +98,26 @@
  * returns another code, even STRM_NOT_OPEN. If *count is below `length` with STRM_OK, the next
  * single call returns the code that ended the series.
  *
- * A call takes constant time, plus time for each block, message or byte that it goes over.
+ * A call takes constant time, plus time for each block, message or byte, as often as it goes over
+ * it.
  *
  *
  * Names
  *
  * A name has its pool's id, the number of the message's first block, and a stamp. It is valid from
  * the call that returns it until the message is handed over. These calls hand over: strm_freemsg,
- * strm_freeb, strm_rmvb, strm_transfer, strm_putq, strm_putbq, strm_insq, strm_insq_at, the _n
- * calls that free or put, strm_linkb its tail, and strm_close all.
+ * strm_freeb, strm_rmvb, strm_transfer, strm_putq, strm_putbq, strm_hold, strm_insq, strm_insq_at,
+ * the _n calls that free or put, strm_linkb its tail, and strm_close all.
  *
- * A pool never gives a name a second time: a message that comes off a queue, or is parted from
- * another, has a new one. Only strm_name_at returns a name that was given before. So a caller that
- * frees twice, links twice, or uses a message that is on a queue gets STRM_INVALID. Any bits may be
- * passed as a name. Names may be copied, kept, and compared by strm_same_msg. STRM_NO_MSG, all
- * zeros, is the name of no message, and never valid. Its initialiser is STRM_NO_MSG_INIT.
+ * A pool gives no name a second time, until the stamps of a block start again after 2^64 names: a
+ * message that comes off a queue, or is parted from another, has a new one. Only strm_name_at
+ * returns a name that was given before. So a caller that frees twice, links twice, or uses a
+ * message that is on a queue gets STRM_INVALID. Any bits may be passed as a name. Names may be
+ * copied, kept, and compared by strm_same_msg. STRM_NO_MSG, all zeros, is the name of no message,
+ * and not valid. Its initialiser is STRM_NO_MSG_INIT.
  *
- * Stamps start again after 2^64 names with the same block. Two pools opened with the
- * same id, together or one after the other, can't tell their names apart: give different ids to
- * pools whose names can meet.
+ * Two pools opened with the same id, together or one after the other, can't tell their names apart:
+ * give different ids to pools whose names can meet.
  *
  * A message whose name is lost stays held until the pool is closed. strm_name_at finds its name.
  *
@@ -161,6 +166,32 @@
  *     (overcommit) may end the process instead.
  *
  *
+ * Wake-ups
+ *
+ * In a pool where exactly the queues with a next queue have a service procedure, strm_serve can
+ * serve all of these. Such a queue is awake if its enabling is on, and it is on the run list or
+ * rests for one of two reasons:
+ *
+ *   - It has no message, and has the want-to-read mark: the next message enables it.
+ *   - Its first message is ordinary, and its band is wanted on the next queue: once that band is at
+ *     its low water mark or below there, the queue is enabled.
+ *
+ * In a new pool these queues are awake. While they are, no wake-up is lost. strm_serve and
+ * strm_hold keep them awake; this is proved. It is tested of strm_putq, strm_putq_n, strm_bcanput,
+ * strm_strqset, strm_qenable and strm_enableok, of all calls on a queue without a next queue, and
+ * of calls on held messages and on wishes. Other calls can put a queue to sleep. A message there
+ * may go on, and strm_serve does not give it:
+ *
+ *   - strm_next_service takes the queue off the run list.
+ *   - strm_getq, strm_getq_n, strm_rmvq, strm_rmvq_msg, strm_takeq, strm_takeq_band, strm_flushq
+ *     and strm_flushband take off the message that waits, and leave another one or no mark.
+ *   - strm_putbq, strm_insq and strm_insq_at put a message before the one that waits.
+ *   - strm_noenable: a message that is put does not enable the queue.
+ *
+ * Afterwards call strm_qenable on the queue; while enabling is off, after each message that is put
+ * there. That this wakes the queue is tested.
+ *
+ *
  * Versions
  *
  * STRM_VERSION_NUMBER is the version of this header as a number, for #if: version 1.2.3 is 1002003.
@@ -188,7 +219,8 @@
  * A call strm_NAME is the routine NAME of the UNIX System V Release 4 Programmer's Guide: STREAMS,
  * if that has one. strm_open, strm_close, strm_read and strm_write are no system calls. In all
  * calls names and numbers replace pointers, and codes replace 0, -1 and null pointers. The text on
- * each call ends with what else differs. No call waits, calls back, or runs a service procedure.
+ * each call ends with what else differs. No call waits, or runs a service procedure. Only
+ * strm_open_with, and strm_close of its pools, call functions of yours: those of the allocator.
  */
 #ifndef STRM_H
 #define STRM_H
@@ -201,8 +233,8 @@ extern "C" {
 #endif
 
 /* The version of this header, as a text and as a number. */
-#define STRM_VERSION "0.10.0"
-#define STRM_VERSION_NUMBER 10000
+#define STRM_VERSION "0.11.0"
+#define STRM_VERSION_NUMBER 11000
 
 enum {
 	STRM_OK = 0,			/* done */
@@ -263,9 +295,9 @@ enum {
 
 /*
  * Types of data blocks, named as in STREAMS. A message has the type of its first block. For urgent
- * data of your own, take STRM_M_PCPROTO. The pool looks at types for these things only: the order
- * on a queue and its enabling, what STRM_FLUSHDATA frees, what strm_msgdsize counts, and where
- * strm_adjmsg and strm_pullupmsg stop.
+ * data of your own, take STRM_M_PCPROTO. The pool looks at types for these things only: what high
+ * priority does (its place and band on a queue, enabling, strm_serve), what STRM_FLUSHDATA frees,
+ * what strm_msgdsize counts, and where strm_adjmsg and strm_pullupmsg stop.
  */
 enum {
 	/* ordinary */
@@ -343,7 +375,7 @@ struct strm_config {
 struct strm_allocator {
 	/*
 	 * Returns an address of `bytes` bytes for this pool alone, at a multiple of `align`, or null. It may
-	 * be called from each thread that opens a pool with it, as may the next.
+	 * be called in each thread that opens a pool with it, and `release` also in each that closes one.
 	 */
 	void *(*allocate)(void *context, size_t bytes, size_t align);
 	void (*release)(void *context, void *at, size_t bytes);	/* takes back what allocate returned */
@@ -408,7 +440,7 @@ struct strm_queued {
 struct strm_queue_info {
 	uint32_t msgs;			/* messages on it */
 	uint32_t bytes;			/* bytes of these messages */
-	uint32_t read;			/* the want-to-read mark: 1 if the last strm_getq found the queue empty, or none was made yet */
+	uint32_t read;			/* the want-to-read mark: 1 on a new queue, then as strm_getq, strm_getq_n and strm_serve leave it */
 	uint32_t noenable;		/* 1 if enabling is off */
 	uint32_t enabled;		/* 1 if it is on the run list */
 };
@@ -416,7 +448,7 @@ struct strm_queue_info {
 struct strm_band_info {
 	uint32_t bytes;			/* bytes of its messages; those of high priority count with band 0 */
 	uint32_t full;			/* 1 if bytes is at the high water mark or above */
-	uint32_t wanted;		/* 1 if strm_bcanput found it full, and bytes stayed above the low water mark since */
+	uint32_t wanted;		/* 1 if strm_bcanput or strm_serve found it full, and no settling cleared the mark since */
 };
 
 /* The service of a queue that gave a message. Since 0.6.0. */
@@ -475,9 +507,10 @@ int strm_iov_(const struct strm_pool *pool, struct strm_msg msg, uint32_t from, 
 
 /*
  * Opens a pool, with all blocks free and all queues empty. It allocates all memory, 68 MB for the
- * largest pool, and copies the configuration. It uses 11 KB of stack, far more than other calls.
- * The fields `classes` and `queues` may be null if their count is 0. A count of 0 is refused as
- * STRM_BAD_CLASSES or STRM_BAD_QUEUES, a count above its limit as STRM_BAD_ARGUMENT.
+ * largest pool, and copies the configuration. The bytes of each size class begin at a multiple of
+ * 64. It uses 11 KB of stack, far more than other calls. The fields `classes` and `queues` may be
+ * null if their count is 0. A count of 0 is refused as STRM_BAD_CLASSES or STRM_BAD_QUEUES, a count
+ * above its limit as STRM_BAD_ARGUMENT.
  * Refused as STRM_NOT_OPEN for a null handle, STRM_IS_OPEN, STRM_BAD_ARGUMENT, the first fault from
  * STRM_BAD_MBLKS to STRM_BAD_FIRST_ID, or STRM_NO_MEMORY, in this order. If strm_open fails, an
  * open handle is unchanged, and any other stays closed.
@@ -486,9 +519,9 @@ int strm_open(struct strm_pool *pool, const struct strm_config *config);
 
 /*
  * Opens a pool as strm_open does, in memory of the caller's. It calls `allocate` once, for as many
- * bytes as strm_memory returns and 16 as the alignment. strm_close calls `release` once, and so does
- * this call if it fails after that. The allocator is copied. The bytes of each size class begin at
- * a multiple of 64. Since 0.3.0.
+ * bytes as strm_memory returns and 16 as the alignment. strm_close calls `release` once, and so
+ * does this call if it fails after that. No other call calls either. The allocator is copied.
+ * Since 0.3.0.
  * Refused as strm_open. A null allocator, or a null function in it, is STRM_BAD_ARGUMENT. A null
  * address is STRM_NO_MEMORY, as is one that is no multiple of 16, which is released.
  */
@@ -516,8 +549,10 @@ int strm_is_open(const struct strm_pool *pool);
 
 /*
  * Allocates a message of one message block over a data block of `size` bytes or more. The data
- * block is the first free one of the smallest class that fits and has a free one. The message has
- * no bytes, type STRM_M_DATA and band 0.
+ * block is of the smallest class that fits and has a free one. Of message blocks, and of the data
+ * blocks of a class, each call takes the one that was freed last. Those that were never used come
+ * after these, by rising numbers. A call that takes several begins with those for the first block
+ * of the message. The message has no bytes, type STRM_M_DATA and band 0.
  * Refused as STRM_TOO_LARGE, STRM_NO_MBLK, STRM_NO_DATA.
  * Differs from STREAMS: it has size classes, and no priority.
  */
@@ -692,10 +727,13 @@ int strm_iov(const struct strm_pool *pool, struct strm_msg msg, uint32_t from, s
 int strm_place(const struct strm_pool *pool, struct strm_msg msg, uint32_t place, struct strm_block_place *where);
 
 /*
- * Sets *base to the address of the bytes of all data blocks of the size class at `place`, and *size
- * to their number. Data blocks follow one another, each of *stride bytes. They stay there while the
- * pool is open, so register them once, with a device or io_uring. Within them strm_room says where
- * to write. Returns STRM_NONE if there is no such class. Since 0.4.0.
+ * Sets *base to the address of the bytes of all data blocks of the size class at `place`, *size to
+ * the number of these bytes, and *stride to the class's size. Data blocks follow one another by
+ * rising numbers: number d of strm_place begins at *base + (d - first) * *stride, where `first` is
+ * the sum of `count` over smaller classes. They stay there while the pool is open, so register them
+ * once, with a device or io_uring. The addresses of strm_bytes, strm_iov, strm_room, strm_edit and
+ * strm_window are among them; this is tested, not proved. Returns STRM_NONE if there is no such
+ * class. Since 0.4.0.
  * Not in STREAMS.
  */
 int strm_region(const struct strm_pool *pool, uint32_t place, const uint8_t **base, size_t *size, size_t *stride);
@@ -781,9 +819,10 @@ int strm_shape(struct strm_pool *pool, struct strm_msg msg, uint32_t place, uint
 /*
  * Gives each of the first `length` blocks of a message its places, type and band, or changes none.
  * It takes two steps a block, and writes no byte: see strm_shape. Since 0.5.0.
- * Refused as STRM_BAD_ARGUMENT for a number of no type or band, STRM_NO_SUCH_BLOCK if there are
- * fewer blocks. Then by the first block that does not fit: as STRM_NO_ROOM, or as STRM_SHARED if
- * its type would change.
+ * Refused as STRM_BAD_ARGUMENT for a number of no type or band, before STRM_INVALID. Refused as
+ * STRM_NO_SUCH_BLOCK if there are fewer blocks. Then by the first block that does not fit: as
+ * STRM_NO_ROOM, or else as STRM_SHARED if its type would change. So it is STRM_NO_ROOM for a block
+ * with both faults.
  * STREAMS: setting b_rptr, b_wptr, db_type and b_band.
  */
 int strm_shape_all(struct strm_pool *pool, struct strm_msg msg, const struct strm_block_shape *shapes, size_t length);
@@ -834,10 +873,11 @@ int strm_adjmsg(struct strm_pool *pool, struct strm_msg msg, int32_t count);
 /*
  * Gathers the first `count` bytes of a message in its first block, from its leading blocks of the
  * first block's type; -1 means all bytes of these blocks. If the first block has the bytes already,
- * nothing is done. Otherwise it gets a new data block, allocated as by strm_allocb, with the bytes
- * at its beginning: headroom is lost. Blocks that gave all their bytes are freed, and empty ones
- * before the last byte; empty ones after it stay. Old data blocks, and the rest of the new one,
- * keep what was there: see strm_advance.
+ * nothing is done. Otherwise it gets a new data block, allocated as by strm_allocb, of the same
+ * type, with the bytes at its beginning: headroom is lost. Its old data block is freed, if no other
+ * block refers to that. Then, front to back, blocks that gave all their bytes are freed, and empty
+ * ones before the last byte; empty ones after it stay. Old data blocks, and the rest of the new
+ * one, keep what was there: see strm_advance.
  * Refused as STRM_SHORT if `count` is below -1 or these blocks have fewer bytes, STRM_TOO_LARGE,
  * STRM_NO_DATA.
  * Differs from STREAMS: bytes are not aligned.
@@ -872,7 +912,8 @@ int strm_putq(struct strm_pool *pool, uint32_t queue, struct strm_msg msg);
  * valid. High priority gets band 0, and always enables the queue: a service procedure that puts it
  * back is enabled again for ever. To put back high priority, call strm_insq at place 0: after
  * strm_getq took the message, that does not enable the queue. Any other message enables it only if
- * enabling is on and the queue has a want-to-read mark, whatever the band.
+ * enabling is on and the queue has a want-to-read mark, whatever the band. No call puts several
+ * messages back: call this for each, for the last one first.
  * As in STREAMS.
  */
 int strm_putbq(struct strm_pool *pool, uint32_t queue, struct strm_msg msg);
@@ -888,7 +929,8 @@ int strm_insq(struct strm_pool *pool, uint32_t queue, uint32_t place, struct str
 
 /*
  * Puts a message on a queue as strm_insq does, before the message there whose first block is
- * `before`, or last if that is STRM_NO_HEAD. Since 0.4.0.
+ * `before`, or last if that is STRM_NO_HEAD. As at strm_rmvq_msg, another message may have the
+ * head. Since 0.4.0.
  * Refused as STRM_NO_SUCH_PLACE if no message on this queue begins with that block; STRM_BAD_ORDER.
  * STREAMS: insq; a number replaces the pointer.
  */
@@ -902,14 +944,15 @@ int strm_insq_at(struct strm_pool *pool, uint32_t queue, uint32_t before, struct
 int strm_getq(struct strm_pool *pool, uint32_t queue, struct strm_msg *msg);
 
 /*
- * Takes the message at `place` off a queue, and settles the queue.
+ * Takes the message at `place` off a queue, and settles the queue. The want-to-read mark stays.
  * Refused as STRM_NO_SUCH_PLACE.
  * Differs from STREAMS: you pass a place, and settling differs as at strm_getq.
  */
 int strm_rmvq(struct strm_pool *pool, uint32_t queue, uint32_t place, struct strm_msg *msg);
 
 /*
- * Takes the message with this head off its queue, and settles the queue. Since 0.4.0.
+ * Takes the message with this head off its queue, and settles the queue. The want-to-read mark
+ * stays. A head is no name: if its message was taken off, another one may have it. Since 0.4.0.
  * Refused as STRM_NO_SUCH_PLACE.
  * STREAMS: rmvq, whose caller also passes the queue; settling differs as at strm_getq.
  */
@@ -986,7 +1029,7 @@ int strm_queued_iov(const struct strm_pool *pool, uint32_t head, uint32_t from, 
 
 /*
  * Frees messages of a queue, front to back: all, or those with data (STRM_FLUSHALL,
- * STRM_FLUSHDATA). Then it settles the queue.
+ * STRM_FLUSHDATA). Then it settles the queue. The want-to-read mark stays.
  * Differs from STREAMS: settling differs as at strm_getq, and the queue itself is not enabled.
  */
 int strm_flushq(struct strm_pool *pool, uint32_t queue, uint32_t flush);
@@ -999,8 +1042,9 @@ int strm_flushband(struct strm_pool *pool, uint32_t queue, uint32_t band, uint32
 
 /*
  * Takes messages off a queue that strm_flushq would free, front to back, at most `length`. Stores
- * their number in *count, 0 if refused or there are none, and their names in the array `msgs` of
- * `length` names. The rest of the array is unchanged. Then it settles the queue once. Since 0.5.0.
+ * their number in *count, and their names in the array `msgs` of `length` names. The rest of the
+ * array is unchanged. If there are none, *count is 0, with STRM_OK. Then it settles the queue once.
+ * The want-to-read mark stays. Since 0.5.0.
  * Not in STREAMS.
  */
 int strm_takeq(struct strm_pool *pool, uint32_t queue, uint32_t flush, struct strm_msg *msgs, size_t length, size_t *count);
@@ -1055,9 +1099,10 @@ int strm_getq_n(struct strm_pool *pool, uint32_t queue, struct strm_msg *msgs, s
  * it. If it must be woken, give it a queue that stays empty and has a service procedure, and whose
  * next queue is the one on which it puts. Only one queue may have a given queue as its next, so
  * several senders share one empty queue. Its service procedure calls strm_qenable on the queue of
- * each sender that waits, or wakes it. Threads wait by strm_mt.h. The bytes of high priority
- * messages count with band 0, which they can make full. The call may mark a band, so it is no look,
- * and ends pointers of strm_bytes.
+ * each sender that waits, or wakes it: strm_next_service returns such a queue, while strm_serve
+ * passes over it. Threads wait by strm_mt.h. The bytes of high priority messages count with band 0,
+ * which they can make full. The call may mark a band, so it is no look, and ends pointers of
+ * strm_bytes.
  * As in STREAMS; canput asks for band 0.
  */
 int strm_bcanput(struct strm_pool *pool, uint32_t queue, uint32_t band, uint32_t *yes);
@@ -1079,8 +1124,8 @@ int strm_strqget(const struct strm_pool *pool, uint32_t queue, uint32_t band, st
 int strm_qenable(struct strm_pool *pool, uint32_t queue);
 
 /*
- * Switches enabling off. strm_qenable, back-enabling, and high priority in strm_putq or strm_putbq
- * still enable the queue.
+ * Switches enabling off. strm_qenable, strm_hold, strm_serve, back-enabling, and high priority in
+ * strm_putq or strm_putbq still enable the queue.
  * As in STREAMS.
  */
 int strm_noenable(struct strm_pool *pool, uint32_t queue);
@@ -1095,22 +1140,31 @@ int strm_enableok(struct strm_pool *pool, uint32_t queue);
 int strm_next_service(struct strm_pool *pool, uint32_t *queue);
 
 /*
- * Serves queues until one gives a message that may go on to its next queue: one of high priority,
- * or whose band has room there by strm_bcanput. Takes it off, and enables the queue again, as the
- * last one. Other queues rest. One that this wakes comes first. Then strm_putq on service->next
- * passes the message on, strm_putq on another queue replies, strm_freemsg drops it, strm_hold puts
- * it back. The last `held` queues of the run list are not served: begin with 0, and go on with
- * service->held + 1 if only strm_hold on service->queue and looks were called since, otherwise with
+ * Serves queues, the first of the run list first, until one gives a message that may go on to its
+ * next queue: one of high priority, or whose band has room there by strm_bcanput. Takes it off, and
+ * enables its queue again, as the last one. Then strm_putq on service->next passes the message on,
+ * strm_putq on another queue replies, strm_freemsg drops it, strm_hold puts it back.
+ *
+ * Other queues that it serves rest: they leave the run list. An empty one gets the want-to-read
+ * mark. Of any other, the first message is taken off, and put back, as by strm_getq and strm_putbq,
+ * and its band is wanted where strm_bcanput looked. So the queue settles without this message: it
+ * can lose wanted marks, although it has as many bytes afterwards.
+ *
+ * A queue that is enabled because a message was taken off becomes the first of the run list. If it
+ * is on the list already, it keeps its place.
+ *
+ * The last `held` queues of the run list are not served: begin with 0, and go on with service->held
+ * + 1 if only strm_hold on service->queue and looks were called since, otherwise with
  * 0. Returns STRM_NONE if no other queue is enabled, or the first one has no next queue; it stays
- * there. No wake-up is lost if exactly the queues with a next queue have a service procedure.
+ * there. "Wake-ups" at the top of strm.h lists calls that can leave a message which is never given.
  * Since 0.6.0.
  * Not in STREAMS.
  */
 int strm_serve(struct strm_pool *pool, uint32_t held, struct strm_service *service, struct strm_msg *msg);
 
 /*
- * Puts a message back as strm_putbq does, and enables the queue as strm_qenable does: if no block is
- * free, for instance. Since 0.6.0.
+ * Puts a message back as strm_putbq does, and enables the queue as strm_qenable does: if no block
+ * is free, for instance. `msg` is no longer valid. Since 0.6.0.
  * Not in STREAMS.
  */
 int strm_hold(struct strm_pool *pool, uint32_t queue, struct strm_msg msg);
@@ -1173,15 +1227,17 @@ int strm_class_info(const struct strm_pool *pool, uint32_t place, struct strm_cl
 
 /*
  * Returns the fewest message blocks that were free since the pool was opened, or since
- * strm_reset_least. So a pool with this number fewer would have done. Each call that takes blocks
- * lowers it when it takes them, also if it frees others before it returns. Since 0.4.0.
+ * strm_reset_least. Each call that takes blocks lowers it when it takes them, also if it frees
+ * others before it returns. So for what was allocated since then, a pool with this number fewer
+ * would have done, if one block or more is left. Blocks that were only asked for do not count:
+ * strm_testb and strm_take_ready may need them free. Since 0.4.0.
  * Not in STREAMS.
  */
 int strm_least_free_blocks(const struct strm_pool *pool, uint32_t *fewest);
 
 /*
  * Returns the same for the data blocks of the size class at `place`, or STRM_NONE if there is none.
- * Since 0.4.0.
+ * Each class must keep one data block or more. Since 0.4.0.
  * Not in STREAMS.
  */
 int strm_least_free(const struct strm_pool *pool, uint32_t place, uint32_t *fewest);
