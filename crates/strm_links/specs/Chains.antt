@@ -55,8 +55,8 @@ with_head head h ms = slice_get (filter (λ m. head m == h) ms) 0
 
 -- ---- each item in one place
 
--- items have numbers, and a chain is at the number that `head` gives: each number is once among free ones, chains on shelves and held
--- chains, each held chain is at its head, and no chain is empty
+-- Items have numbers, and `head` gives the number that a chain begins with. Free ones, chains on shelves and held chains together have
+-- each number once. Each held chain is at its head, and no chain is empty.
 pub record AreParted {X : Type 0} (numbers : List X → List ℕ) (head : List X → ℕ) (free : List ℕ) (shelves : List (List (List X))) (held : List (Option (List X))) : Type 0 where
   pub once : (n : ℕ) → times n (free ++ numbers (items_on shelves ++ items_in held)) ≡ (if nat_lt n (length held) then 1 else 0)
   pub heads : (h : ℕ) → IfSome (chain_in held h) (λ m. (0 < length m) × (head m ≡ h))

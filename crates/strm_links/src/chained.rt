@@ -25,10 +25,11 @@ use std::mem::size_of;
 /// named by its first node, its head. The free nodes are in an order, and are taken from its front. The load of a node is the
 /// caller's: only `set_load` changes it, whether the node is free or in a chain.
 ///
-/// Only `new` takes memory: 24 bytes a node beside its load, and 12 bytes a shelf. Every call takes constant time except `new`,
-/// `begin_all`, `take_out`, `free` and `free_behind`, which walk along nodes. Contracts see `LoadedChains`: `lists`, which are the free
-/// nodes in order, for each node the held chain that begins with it, the chains on each shelf, and the fewest nodes that were free;
-/// and `loads`, the load of each node.
+/// Only `new` takes memory: 24 bytes a node, its load and what the load's alignment adds, and 12 bytes a shelf. Every call takes
+/// constant time except `new`, `begin_all`, `take_out`, `free` and `free_behind`, which walk along nodes.
+///
+/// Contracts see `LoadedChains`. It has the load of each node (`loads`), and `lists`: the free nodes in order, for each node the held
+/// chain that begins with it, the chains on each shelf, and the fewest nodes that were free.
 #[derive(Debug, Drop)]
 pub struct Chained<T> {
     // Each node: its place among the heads on a shelf, if it is one; its link in a chain or among the free nodes; its load.

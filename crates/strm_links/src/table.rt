@@ -8,7 +8,7 @@ use crate::slot::Slot;
 use std::alloc::{AllocError, Global};
 use std::mem::size_of;
 
-// A node: its place in a list, its link in a chain, and its load. `()` stands for a link or a load that nobody needs.
+// A node: its place in a list, its link in a chain, and its load. A link or a load that nobody needs is `()`.
 #[derive(Clone, Copy, Debug)]
 pub(crate) struct Node<L, T> {
     pub(crate) place: Place,

@@ -16,8 +16,8 @@ use strm_pool::{Pool, QueuedInfo, Token};
 /// those of high priority, and those whose band has room.
 ///
 /// A module may look whether a band of another queue is full (`Pool::band_info`), but cannot make it wanted, so no call wakes it once
-/// there is room. [`send`](crate::send) asks for no room: it puts a reply, a message for another queue than the next one, a second
-/// message, and one whose band the module changed on a queue even if the band is full there.
+/// there is room. [`send`](crate::send) asks for no room, and puts a message on a queue even if its band is full there. Such messages
+/// are replies, those for another queue than the next one, second messages, and those whose band the module changed.
 pub trait Module {
     // What `need` can return: the module, the pool, the queue, its first message, and what is returned.
     ghost needs: { Self → PoolValue → ℕ → QueuedInfo → NeedValue → Type 0 };
