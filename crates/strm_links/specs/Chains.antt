@@ -1,4 +1,4 @@
--- Chains of items of any kind, each stored at the number of its first item.
+-- Chains of items of any kind. A held one is stored at the number of its first item.
 use Rattle.std.specs.Prelude.{◌≡◌, ℕ, ◌+◌, ◌<◌, ◌==◌, nat_lt, not, length, IfSome, List, [], ◌∷◌, ◌++◌, filter, take, drop, Option, None, Some, unwrap_or, slice_get, slice_index_or, slice_set, if◌then◌else◌}
 use Rattle.std.specs.List.{All, flat_map}
 use Rattle.strm_links.specs.Counting.{times}

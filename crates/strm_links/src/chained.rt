@@ -25,8 +25,8 @@ use std::mem::size_of;
 /// named by its first node, its head. The free nodes are in an order, and are taken from its front. The load of a node is the
 /// caller's: only `set_load` changes it, whether the node is free or in a chain.
 ///
-/// Only `new` takes memory: 24 bytes a node, its load and what the load's alignment adds, and 12 bytes a shelf. Every call takes
-/// constant time except `new`, `begin_all`, `take_out`, `free` and `free_behind`, which walk along nodes.
+/// Only `new` takes memory: 24 bytes a node and its load, rounded up for alignment, and 12 bytes a shelf. Every call takes constant
+/// time except `new`, `begin_all`, `take_out`, `free` and `free_behind`, which walk along nodes.
 ///
 /// Contracts see `LoadedChains`. It has the load of each node (`loads`), and `lists`: the free nodes in order, for each node the held
 /// chain that begins with it, the chains on each shelf, and the fewest nodes that were free.

@@ -19,8 +19,8 @@ pub struct TokenValue {
 /// Calls that make a message, divide one, or take one off a shelf give its token. A token must be spent: it can be
 /// neither copied nor dropped. So a message is freed only by its own token, unless [`Blocks::token`](crate::Blocks::token) made a
 /// second one of an earlier message. This needs pools with different ids, because a token carries the id of its pool, not the
-/// pool. Only `forget`, and `freemsg` of blocks that do not have the token, lose a token: its message stays held. STREAMS passes
-/// a pointer to the message instead.
+/// pool. A message whose only token is lost stays held: by `forget`, or by `freemsg` of blocks that do not have the token. STREAMS
+/// passes a pointer to the message instead.
 #[must_use]
 #[derive(Debug)]
 pub struct Token {
@@ -63,7 +63,8 @@ impl Token {
         self.value.blocks = blocks;
     }
 
-    /// Spends the token and nothing else. Its message stays held, and only `Blocks::token` makes a token of it again.
+    /// Spends the token and nothing else. If its message is held, it stays held; if it has no other token, only `Blocks::token` makes
+    /// one.
     pub fn forget(self) {
         let Token { value: _ } = self;
     }

@@ -23,9 +23,9 @@ use strm_pool::{Config, NewFault, Pool, Token};
 /// A pool in which each held message has a name.
 ///
 /// Calls take and return names instead of tokens, and require nothing of them. A name that is not valid is refused as
-/// `Fault::Invalid`, and nothing changes then; `linkb` of a message to itself is refused so too. Otherwise a call makes the
-/// token of the message, and does what the call of `Pool` does. Only `new` allocates: what `Pool::new` does, and 16 bytes for
-/// each message block.
+/// `Fault::Invalid`, and nothing changes then; `linkb` of a message to itself is refused so too. `has` returns false for it.
+/// Otherwise a call that takes a name makes the token of its message, and does what the call of `Pool` does. Only `new` allocates:
+/// what `Pool::new` does, and 16 bytes for each message block.
 #[derive(Drop)]
 pub struct NamedPool {
     pool: Pool,

@@ -133,7 +133,8 @@ impl Sides {
     }
 
     /// Says whether a queue waits for blocks: those that a module needed for the message that was first there at the end of a run.
-    /// They are not free. The queue rests until they are, unless a message that came since, or room on its next queue, enabled it.
+    /// They are not free. The queue rests until they are, or until the next `run`, `run_with` or `serve`, unless a message that came
+    /// since, or room on its next queue, enabled it.
     pub fn is_short(&self, queue: u8) -> bool
         ensures { result ≡ is_some (need_at self.now.waits queue) }
     {

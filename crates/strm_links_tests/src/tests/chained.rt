@@ -210,6 +210,7 @@ impl Twin {
         assert!(rt; !self.chained.holds(node, self.len(rt, node) + 1));
         if plain.is_empty() {
             assert!(rt; self.shelf_of(rt, node).is_none());
+            assert!(rt; self.chained.len(node) == 0);
         } else {
             assert!(rt; self.is_held(rt, node) == self.shelf_of(rt, node).is_none());
             self.assert_reads(rt, node, plain);

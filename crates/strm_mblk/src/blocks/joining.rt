@@ -12,7 +12,7 @@ use strm_data::Refusal;
 impl Blocks {
     /// Appends the blocks of the message `tail` to the other message, which keeps its token. The blocks keep what they store. If
     /// both tokens are of one message, `tail` is spent, and nothing else changes. That can happen only if two pools have the same
-    /// id, or if [`Blocks::token`] made one of the tokens. Takes constant time.
+    /// id, or if [`Blocks::token`] made a second token of a message. Takes constant time.
     pub fn linkb(&mut self, token: &mut Token, tail: Token)
         requires head { IsTrue (has self.old token.old) }
         requires tail { IsTrue (has self.old tail) }

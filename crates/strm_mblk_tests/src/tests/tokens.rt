@@ -214,8 +214,8 @@ fn spends_a_strange_token(rt: HostRuntime) {
     two.end(&rt);
 }
 
-// A message whose token was lost gets one anew, by its head. Of two tokens of a message, the second is had no more once the first is
-// spent.
+// A message whose token was lost gets one anew, by its head. Of two tokens of a message, the second is had no more once the first has
+// freed the message.
 #[test]
 fn makes_a_token_anew(rt: HostRuntime) {
     let mut bench = Bench::opened(&rt, rt.alloc(), 7);

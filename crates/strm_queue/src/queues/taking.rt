@@ -44,7 +44,8 @@ impl Queues {
     /// Otherwise it does what [`Queues::take_flushed`] does.
     ///
     /// Refused as `NoSuchQueue`; then nothing changes. Takes a step for each message of the band, one for each block that is
-    /// taken, and those to settle. If it takes `most` messages, it looks at none behind the last one taken.
+    /// taken, and those to settle. It looks at no more than one message behind the last one taken if it takes `most`
+    /// messages.
     pub fn take_flushed_band<R: Receiver>(
         &mut self,
         blocks: &mut Blocks,

@@ -501,7 +501,7 @@ impl Walk {
 }
 
 // On lines of 2 to 8 queues no message waits that could go on, and none is lost. Those put on one queue with one type and band arrive in
-// order.
+// order, unless the walk kept them or sent them elsewhere.
 #[test]
 fn message_by_message(rt: HostRuntime) {
     let mut waited = 0;
