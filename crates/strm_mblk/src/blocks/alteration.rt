@@ -31,9 +31,10 @@ impl Blocks {
         if bytes.len() > (capacity - end) as usize {
             return Err(Refusal::NoRoom);
         }
-        self.write_data(fields.data_number, end, bytes);
+        // The places first: behind a copy of bytes, all fields would have to be stored again.
         let len = fields.len + bytes.len() as u32;
         self.set_fields(node, Fields { len, ..fields });
+        self.write_data(fields.data_number, end, bytes);
         Ok(())
     }
 

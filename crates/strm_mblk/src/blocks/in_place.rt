@@ -261,7 +261,6 @@ impl Blocks {
         }
         let count = bytes.len() as u32;
         let offset = fields.offset - count;
-        self.write_data(fields.data_number, offset, bytes);
         let len = fields.len + count;
         self.set_fields(
             node,
@@ -271,6 +270,7 @@ impl Blocks {
                 ..fields
             },
         );
+        self.write_data(fields.data_number, offset, bytes);
         Ok(())
     }
 }
