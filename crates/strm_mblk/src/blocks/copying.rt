@@ -146,7 +146,9 @@ fn copy_blocks(chains: &mut Chained<Fields>, stored: &mut Data, from: u32, into:
 }
 
 impl Blocks {
-    // Copies the first `count` blocks of a message, as `copymsg` copies all of them.
+    // Copies the first `count` blocks of a message, as `copymsg` copies all of them. Compiled into both calls: most messages have one
+    // block.
+    #[inline(always)]
     fn copy(&mut self, token: &Token, count: u32) -> Result<Token, Refusal>
         requires had { IsTrue (has self.old token.now) }
         requires count { (count ≡ 1) ⊎ (count ≡ token.now.blocks) }
