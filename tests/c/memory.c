@@ -168,7 +168,10 @@ static size_t pieces_bytes(void)
 	return bytes;
 }
 
-/* Opens, uses and closes a pool whose pieces are watched. Beside them its memory has what the region takes for itself, and nothing. */
+/*
+ * Opens, uses and closes a pool whose pieces are watched. Beside them its memory has what the region takes for itself and for so many pieces, and
+ * nothing.
+ */
 static void open_watched(const struct strm_config *config, struct arena *arena)
 {
 	struct strm_allocator allocator = allocator_of(arena);
@@ -181,6 +184,8 @@ static void open_watched(const struct strm_config *config, struct arena *arena)
 	ANSWERS(strm_open_with(&pool, config, &allocator), STRM_OK);
 	CHECK(arena->asked_bytes == bytes && arena->kept == 1);
 	CHECK(pieces_bytes() + strm_region_more(config) == bytes);
+	CHECK(strm_region_more(config) == sizeof(struct strm_region) + (size_t)asked * (sizeof(struct strm_region *) + STRM_OF_OTHERS)
+		+ config->class_count * (STRM_OF_BYTES - STRM_OF_OTHERS));
 	watched = 0;
 	ANSWERS(strm_freemsg(&pool, message(&pool, "strm")), STRM_OK);
 	watched = 1;
