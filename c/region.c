@@ -5,7 +5,7 @@
 #include "heap.h"
 
 /* The pieces of a pool, beside one for the bytes of each size class. */
-#define PIECES 12
+#define PIECES 11
 
 size_t strm_region_more(const struct strm_config *config)
 {

@@ -9,13 +9,13 @@ use Rattle.strm_data.specs.Classes.{are_lawful, each_has_blocks, sizes_rise, tot
 use Rattle.strm_data.specs.Limits.{most_classes, most_data_block_bytes, most_data_blocks}
 use Rattle.strm_c.specs.Memory.{bytes_of_class}
 
-classes_few : (below : ℕ) (cs : List ClassSpec) → IsTrue (sizes_rise below cs) → sum_by bytes_of_class cs ≤ 44 * length cs + 4104 * total_of cs
+classes_few : (below : ℕ) (cs : List ClassSpec) → IsTrue (sizes_rise below cs) → sum_by bytes_of_class cs ≤ 44 * length cs + 4112 * total_of cs
 classes_few below [] rise = omega arith
 classes_few below (c ∷ cs) rise =
     let above = and_parts (nat_lt below c.size) _ rise in
     let within = and_parts (nat_le c.size most_data_block_bytes) _ above.1 in
-    let small : c.size + 8 ≤ 4104 = omega (arith, leb-true c.size most_data_block_bytes within.0) in
-    let times : c.count * (c.size + 8) ≤ c.count * 4104 = mul-le-mul_left c.count small in
+    let small : c.size + 16 ≤ 4112 = omega (arith, leb-true c.size most_data_block_bytes within.0) in
+    let times : c.count * (c.size + 16) ≤ c.count * 4112 = mul-le-mul_left c.count small in
     omega (arith, sum_by-cons bytes_of_class c cs, sum_by-cons (λ (d : ClassSpec). d.count) c cs, times, classes_few c.size cs within.1)
 
 -- lawful classes take less than 70 MB

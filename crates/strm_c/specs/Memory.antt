@@ -7,13 +7,13 @@ use Rattle.strm_pool.specs.Config.{fault_of}
 use Rattle.strm_c.specs.declared.code.Code.TheVariants.{BadArgument, BadConfig}
 use Rattle.strm_c.specs.Codes.{Answer}
 
--- the bytes for a size class: for itself, and for each data block its bytes and 8 more
+-- the bytes for a size class: for itself, and for each data block its bytes and 16 more
 abbrev pub bytes_of_class : ClassSpec → ℕ
-bytes_of_class c = 44 + c.count * (c.size + 8)
+bytes_of_class c = 44 + c.count * (c.size + 16)
 
 -- the bytes for a pool: for itself, each message block, each queue, and its size classes
 abbrev pub bytes_of : Config → ℕ
-bytes_of c = 844 + 56 * c.mblks + 5288 * length c.queues + sum_by bytes_of_class c.classes
+bytes_of c = 820 + 56 * c.mblks + 5288 * length c.queues + sum_by bytes_of_class c.classes
 
 -- the same, or the configuration's first fault
 abbrev pub bytes_or_fault : Config → Option Which → Answer ℕ

@@ -13,7 +13,7 @@ use crate::opening::config_of;
 use strm_pool::{ClassSpec, Config};
 
 // The bytes for a pool itself, and for each message block, queue, size class and, beside its own bytes, data block.
-const POOL: usize = 844;
+const POOL: usize = 820;
 
 const MESSAGE_BLOCK: usize = 56;
 
@@ -21,7 +21,7 @@ const QUEUE: usize = 5288;
 
 const CLASS: usize = 44;
 
-const DATA_BLOCK: usize = 8;
+const DATA_BLOCK: usize = 16;
 
 // The bytes for these size classes.
 fn bytes_of_classes(classes: &[ClassSpec]) -> usize

@@ -1,14 +1,12 @@
 -- Plain lists.
 use Rattle.std.proofs.Common.{◌≡◌, ℕ, zero, suc, ◌+◌, List, [], ◌∷◌, ◌++◌, get_or, map, replicate, refl, sym, ap, ◌∙◌, ◌≢◌, ◌-◌, ◌<◌, ◌≤◌, length, set, take, drop, inl, inr, arith, length-set, get_or-set_same, get_or-set_other, length-append, append_assoc}
-use Rattle.std.proofs.lemmas.List.{map-id, append-nil, ext_get_or, length-take, length-take-le, length-drop, take-take, take-append-le, drop-append-le, drop-drop, drop-take}
+use Rattle.std.proofs.lemmas.List.{map-id, ext_get_or, get_or-map, length-map, length-take, length-take-le, length-drop, take-take, take-append-le, drop-append-le, drop-drop, drop-take}
 use Rattle.std.proofs.lemmas.List.FromFn.{map-range_with_len_more, length-map-range_with_len, get_or-map-range_with_len}
 use Rattle.std.specs.List.{flat_map, range_with_len}
 use Rattle.std.proofs.lemmas.Bool.{cases_eq}
 use Rattle.std.proofs.lemmas.Slice.{drop-append-drop}
 use Rattle.std.proofs.Math.Seq.{take-append-add}
 use Rattle.strm_data.specs.DataStore.{bytes_overwritten}
-use Rattle.strm_data.specs.DataLayout.{values_below}
-use Rattle.std.proofs.lemmas.Grind.{replicate_next}
 
 -- ---- lists of one item, repeated, and lists of numbers that rise by one
 
@@ -32,53 +30,30 @@ pub range_with_len_more : (a n k : ℕ) → a + n ≡ k → range_with_len a (n 
 range_with_len_more a n k last =
     sym (map-id (range_with_len a (n + 1))) ∙ map-range_with_len_more (λ (j : ℕ). j) a n k last ∙ ap (λ xs. xs ++ k ∷ []) (map-id (range_with_len a n))
 
--- ---- lists made from a function of the place, and lists with other items written over a part of them
+-- a list, by its items' places
+pub map-get_or : {X : Type 0} (xs : List X) (d : X) → map (λ k. get_or xs k d) (range_with_len 0 (length xs)) ≡ xs
+map-get_or xs d =
+    let long = length-map-range_with_len (λ k. get_or xs k d) 0 (length xs) in
+    ext_get_or d _ xs long (λ i within. get_or-map-range_with_len (λ k. get_or xs k d) 0 (length xs) i i d (omega (arith, long)) (let e : 0 + i ≡ i = omega arith in e))
 
--- ---- tables
-
-pub length-tabulated : {X : Type 0} (f : ℕ → X) (n : ℕ) → length (values_below f n) ≡ n
-length-tabulated f n = length-map-range_with_len f 0 n
-
-pub get_or-tabulated : {X : Type 0} (f : ℕ → X) (n i : ℕ) (d : X) → i < n → get_or (values_below f n) i d ≡ f i
-get_or-tabulated f n i d within = get_or-map-range_with_len f 0 n i i d within (let e : 0 + i ≡ i = omega arith in e)
-
--- a list is the table of its own entries
-pub tabulated-get_or : {X : Type 0} (xs : List X) (d : X) → values_below (λ k. get_or xs k d) (length xs) ≡ xs
-tabulated-get_or xs d =
-    ext_get_or d (values_below (λ k. get_or xs k d) (length xs)) xs (length-tabulated (λ k. get_or xs k d) (length xs))
-    (λ i within. get_or-tabulated (λ k. get_or xs k d) (length xs) i d (omega (arith, length-tabulated (λ k. get_or xs k d) (length xs))))
-
--- two tables with the same entries
-pub tabulated-same : {X : Type 0} (f g : ℕ → X) (n : ℕ) → ((k : ℕ) → k < n → f k ≡ g k) → values_below f n ≡ values_below g n
-tabulated-same f g n same =
-    ext_get_or (f 0) (values_below f n) (values_below g n) (length-tabulated f n ∙ sym (length-tabulated g n))
+-- what a function gives where it differs from another at one item
+pub map-set_but : {X Y : Type 0} (f g : X → Y) (xs : List X) (k : ℕ) (d : X) (y : Y) → k < length xs → f (get_or xs k d) ≡ y
+    → ((i : ℕ) → i < length xs → i ≢ k → f (get_or xs i d) ≡ g (get_or xs i d)) → map f xs ≡ set (map g xs) k y
+map-set_but f g xs k d y there here others =
+    ext_get_or y (map f xs) (set (map g xs) k y) (length-map xs f ∙ sym (length-set (map g xs) k y ∙ length-map xs g))
     (λ i within.
-    let inside : i < n = omega (arith, length-tabulated f n) in
-    get_or-tabulated f n i (f 0) inside ∙ same i inside ∙ sym (get_or-tabulated g n i (f 0) inside))
-
--- two tables that differ in one entry
-pub tabulated-set : {X : Type 0} (f g : ℕ → X) (n d : ℕ) (x : X) → d < n → f d ≡ x → ((k : ℕ) → k < n → k ≢ d → f k ≡ g k) → values_below f n ≡ set (values_below g n) d x
-tabulated-set f g n d x there here others =
-    ext_get_or x (values_below f n) (set (values_below g n) d x) (length-tabulated f n ∙ sym (length-set (values_below g n) d x ∙ length-tabulated g n))
-    (λ i within.
-    let inside : i < n = omega (arith, length-tabulated f n) in
-    get_or-tabulated f n i x inside
-    ∙ elim (cases_eq i d) [
-      | inl same ↦
-          ap f same ∙ here ∙ sym (ap (λ j. get_or (set (values_below g n) d x) j x) same ∙ get_or-set_same (values_below g n) d x x (omega (arith, length-tabulated g n)))
-      | inr other ↦ others i inside other ∙ sym (get_or-set_other (values_below g n) d i x x other ∙ get_or-tabulated g n i x inside)
+    let inside : i < length xs = omega (arith, length-map xs f) in
+    get_or-map f xs i d y inside
+    ∙ elim (cases_eq i k) [
+      | inl same ↦ ap (λ j. f (get_or xs j d)) same ∙ here ∙ sym (ap (λ j. get_or (set (map g xs) k y) j y) same ∙ get_or-set_same (map g xs) k y y (omega (arith, length-map xs g)))
+      | inr other ↦ others i inside other ∙ sym (get_or-set_other (map g xs) k i y y other ∙ get_or-map g xs i d y inside)
     ])
 
--- a table made longer by entries that are all alike
-pub tabulated-more : {X : Type 0} (f g : ℕ → X) (n m : ℕ) (x : X) → ((k : ℕ) → k < n → f k ≡ g k) → ((k : ℕ) → n ≤ k → k < n + m → f k ≡ x) → values_below f (n + m) ≡ values_below g n ++ replicate m x
-tabulated-more f g n zero x same alike =
-    ap (values_below f) (let e : n + 0 ≡ n = omega arith in e) ∙ tabulated-same f g n same ∙ sym (append-nil (values_below g n))
-tabulated-more f g n (suc m) x same alike =
-    ap (values_below f) (let e : n + suc m ≡ n + m + 1 = omega arith in e) ∙ map-range_with_len_more f 0 (n + m) (n + m) (let e : 0 + (n + m) ≡ n + m = omega arith in e)
-    ∙ ap (λ xs. xs ++ f (n + m) ∷ []) (tabulated-more f g n m x same (λ k past within. alike k past (omega arith)))
-    ∙ ap (λ y. (values_below g n ++ replicate m x) ++ y ∷ []) (alike (n + m) (omega arith) (omega arith))
-    ∙ append_assoc (values_below g n) (replicate m x) (x ∷ [])
-    ∙ ap (λ xs. values_below g n ++ xs) (sym (replicate_next m x) ∙ ap (λ j. replicate j x) (let e : m + 1 ≡ suc m = omega arith in e))
+-- the last item of a part at the front is replaced
+pub set-take : {X : Type 0} (n : ℕ) (xs ys : List X) (x : X) → n < length xs → set (take (suc n) xs ++ ys) n x ≡ take n xs ++ x ∷ ys
+set-take n [] ys x within = absurd (omega arith)
+set-take zero (z ∷ zs) ys x within = refl
+set-take (suc n) (z ∷ zs) ys x within = ap (λ l. z ∷ l) (set-take n zs ys x (omega arith))
 
 -- ---- a part of a list
 

@@ -1,7 +1,7 @@
 -- Data blocks, regions and free lists as they lie in memory.
-pub mod Laid
-pub mod Least
+pub mod Extents
+pub mod Seen
 pub mod Alterations
+pub mod Taking
 pub mod Opened
 pub mod Copying
-pub mod Whole

@@ -6,7 +6,7 @@ ghost use Rattle.strm_data.specs.Limits.{most_classes, most_data_block_bytes, mo
 ghost use Rattle.strm_data.specs.declared.msg_type.MsgType.TheVariants.{MData};
 ghost use Rattle.strm_data.specs.Classes.{are_lawful, fits_a_class, total_of};
 ghost use Rattle.strm_data.specs.CountedStore.{count_of, IsInUse, IsKept, IsUnused, opening_counted, after_take, with_reference, without_reference};
-ghost use Rattle.strm_data.specs.DataLayout.{block_at, bytes_of, class_at, region_at, start_in};
+ghost use Rattle.strm_data.specs.DataLayout.{bytes_of, extents_from, extents_in, no_block, region_at, unused_at};
 ghost use Rattle.strm_data.specs.DataStore.{capacity_of, data_block_at, class_infos, fits, take_data, with_data_reset, with_kind, with_bytes_copied, with_bytes_written, free_of, numbers_from, bytes_overwritten, IsClassFor, IsLeast, IsTakenFrom};
 
 mod lending;
@@ -37,31 +37,31 @@ pub struct Data {
     classes: Vec<Class>,
     // For each class the bytes of its data blocks, one block after the other.
     regions: Vec<Vec<u8>>,
-    blocks: Vec<DataBlock>,
-    // For each class a stack of its free data blocks.
-    free: Stacks,
+    // The data blocks, and for each class a stack of its free ones.
+    blocks: Stacks<DataBlock>,
 }
 
-// A size class. Its data blocks have the numbers from `first` on.
 #[derive(Clone, Copy, Debug)]
 struct Class {
     spec: ClassSpec,
-    first: u16,
     // The fewest that were free.
-    least: u16,
+    least: u32,
 }
 
+// A data block. In the region of its class it has `size` bytes, from place `start` on.
 #[derive(Clone, Copy, Debug)]
 struct DataBlock {
-    class: u16,
+    start: u32,
+    size: u32,
+    class: u8,
     kind: MsgType,
     // The number of references.
-    references: u8,
+    references: u16,
 }
 
-const _: () = prove!(size_of::<Class>() == 12 && size_of::<DataBlock>() == 4);
+const _: () = prove!(size_of::<Class>() == 12 && size_of::<DataBlock>() == 12);
 
-const _: () = prove!(size_of::<Data>() == 120 && size_of::<Vec<u8>>() == 24);
+const _: () = prove!(size_of::<Data>() == 96 && size_of::<Vec<u8>>() == 24);
 
 // A place in the region of a class.
 #[derive(Clone, Copy, Debug)]
@@ -70,22 +70,24 @@ struct RegionPlace {
     start: usize,
 }
 
-impl Class {
-    // The place in the region where the bytes of a data block of this class begin.
-    fn start_of(self, number: DataNo) -> usize
-        requires { self.first ≤ number }
-        ensures start { result ≡ start_in self number }
-        ensures low { result + 2 ^ 32 ≤ 2 ^ 64 }
+impl DataBlock {
+    // The place of its byte `at`.
+    fn region_place(self, at: u32) -> RegionPlace
+        ensures place { result ≡ record { class = self.class; start = self.start + at } }
+        ensures low { result.start < 2 ^ 33 }
     {
-        (number - u32::from(self.first)) as usize * self.spec.size as usize
+        RegionPlace {
+            class: usize::from(self.class),
+            start: self.start as usize + at as usize,
+        }
     }
+}
 
+impl Class {
     // Notes that this many of its data blocks are free.
     fn note(&mut self, free: u32)
-        requires { free ≤ most_data_blocks }
         ensures { self.new ≡ record self.old { least = min self.old.least free } }
     {
-        let free = free as u16;
         if free < self.least {
             self.least = free;
         }
@@ -125,22 +127,6 @@ fn overwrite(old: &mut [u8], at: usize, new: &[u8])
     ensures { old.new ≡ bytes_overwritten at new.now old.old }
 {
     old[at..at + new.len()].copy_from_slice(new);
-}
-
-// The place of byte `at` of a data block.
-fn place_of(classes: &[Class], blocks: &[DataBlock], number: DataNo, at: u32) -> RegionPlace
-    requires there { number < length blocks.now }
-    requires class { (block_at blocks.now number).class < length classes.now }
-    requires first { (class_at classes.now (block_at blocks.now number).class).first ≤ number }
-    ensures class { result.class ≡ (block_at blocks.now number).class }
-    ensures start { result.start ≡ start_in (class_at classes.now result.class) number + at }
-    ensures low { result.start + 2 ^ 32 ≤ 2 ^ 64 + at }
-{
-    let class = usize::from(blocks[number as usize].class);
-    RegionPlace {
-        class,
-        start: classes[class].start_of(number) + at as usize,
-    }
 }
 
 // Copies `len` bytes of a region from one place to another. If the places do not overlap, this is one slice copy, as
@@ -186,64 +172,76 @@ fn copy_bytes(regions: &mut [Vec<u8>], from: RegionPlace, into: RegionPlace, len
     }
 }
 
-// Puts `count` free nodes, from `first` on, into an empty list. The last joins first, so `first` ends up at the front.
-fn fill(free: &mut Stacks, list: u32, first: u32, count: u32)
-    requires list { list < length free.old.lists }
-    requires empty { list_at list free.old ≡ [] }
-    requires nodes { first + count ≤ free.old.nodes }
-    requires most { free.old.nodes ≤ most_data_blocks }
-    requires unlinked { (k : ℕ) → first ≤ k → holder k free.old ≡ None }
-    ensures lists { free.new ≡ record free.old { lists = slice_set free.old.lists list (range_with_len first count) } }
-    ensures unlinked { (k : ℕ) → first + count ≤ k → holder k free.new ≡ None }
+// Lays out the data blocks of a class, from `first` on, one after the other in its region, and puts them into its empty list. The last
+// joins first, so `first` ends up at the front.
+fn fill(blocks: &mut Stacks<DataBlock>, class: u8, spec: ClassSpec, first: u32)
+    requires list { class < length blocks.old.rows.lists }
+    requires empty { list_at class blocks.old.rows ≡ [] }
+    requires nodes { first + spec.count ≤ blocks.old.rows.nodes }
+    requires most { blocks.old.rows.nodes ≤ most_data_blocks }
+    requires loads { length blocks.old.loads ≡ blocks.old.rows.nodes }
+    requires size { spec.size ≤ most_data_block_bytes }
+    requires unlinked { (k : ℕ) → first ≤ k → holder k blocks.old.rows ≡ None }
+    ensures lists { blocks.new.rows ≡ record blocks.old.rows {
+      lists = slice_set blocks.old.rows.lists class (range_with_len first spec.count);
+    } }
+    ensures loads { blocks.new.loads ≡ take first blocks.old.loads
+        ++ (map unused_at (extents_in class spec) ++ drop (first + spec.count) blocks.old.loads) }
+    ensures unlinked { (k : ℕ) → first + spec.count ≤ k → holder k blocks.new.rows ≡ None }
 {
-    let mut number = first + count;
+    let mut number = first + spec.count;
     while number > first {
         number -= 1;
-        free.push_front(list, number);
+        let block = DataBlock {
+            start: (number - first) * spec.size,
+            size: spec.size,
+            class,
+            kind: MsgType::MData,
+            references: 0,
+        };
+        blocks.set_load(number, block);
+        blocks.push_front(u32::from(class), number);
     }
 }
 
-// Makes for each class a list of its data blocks, in rising order.
-fn free_lists(alloc: Global, specs: &[ClassSpec]) -> Result<Stacks, AllocError>
-    requires few { length specs.now ≤ most_classes }
-    requires total { total_of specs.now ≤ most_data_blocks }
-    ensures { IfOk result (λ free. free ≡ record { nodes = total_of specs.now; lists = numbers_from 0 specs.now }) }
+// A data block before it is laid out.
+fn no_block() -> DataBlock
+    ensures { result ≡ no_block }
 {
-    let total = total_of(specs);
-    let mut free = Stacks::new(alloc, total, specs.len() as u32)?;
+    DataBlock {
+        start: 0,
+        size: 0,
+        class: 0,
+        kind: MsgType::MData,
+        references: 0,
+    }
+}
+
+// Lays out the data blocks of these classes, and makes for each class a list of its data blocks, in rising order.
+fn lay_out(alloc: Global, specs: &[ClassSpec]) -> Result<Stacks<DataBlock>, AllocError>
+    requires { IsTrue (are_lawful specs.now) }
+    ensures rows { IfOk result (λ s. s.rows ≡ record { nodes = total_of specs.now; lists = numbers_from 0 specs.now }) }
+    ensures loads { IfOk result (λ s. s.loads ≡ map unused_at (extents_from 0 specs.now)) }
+{
+    let mut blocks = Stacks::new(alloc, total_of(specs), specs.len() as u32, no_block())?;
     let mut first = 0;
-    for (number, spec) in specs.iter().enumerate() {
-        fill(&mut free, number as u32, first, spec.count);
+    for (class, spec) in specs.iter().enumerate() {
+        fill(&mut blocks, class as u8, *spec, first);
         first += spec.count;
     }
-    Ok(free)
+    Ok(blocks)
 }
 
 // Makes for each class the fewest that were free those that are free now.
-fn reset(classes: &mut [Class], free: &Stacks)
+fn reset(classes: &mut [Class], blocks: &Stacks<DataBlock>)
     requires few { length classes.old ≤ most_classes }
-    requires lists { length free.now.lists ≡ length classes.old }
-    requires short { (k : ℕ) → k < length classes.old → length (list_at k free.now) ≤ most_data_blocks }
+    requires lists { length blocks.now.rows.lists ≡ length classes.old }
     ensures specs { map (λ k. k.spec) classes.new ≡ map (λ k. k.spec) classes.old }
-    ensures firsts { map (λ k. k.first) classes.new ≡ map (λ k. k.first) classes.old }
-    ensures least { map (λ k. k.least) classes.new ≡ map length free.now.lists }
+    ensures least { map (λ k. k.least) classes.new ≡ map length blocks.now.rows.lists }
 {
     for number in 0..classes.len() {
-        classes[number].least = free.len(number as u32) as u16;
+        classes[number].least = blocks.len(number as u32);
     }
-}
-
-// Adds `count` data blocks of a class, without references.
-fn add_blocks(blocks: &mut Vec<DataBlock>, class: u16, count: u32) -> Result<(), AllocError>
-    ensures { OnOk result (blocks.new.items ≡ blocks.old.items ++ replicate count
-        (record { class = class; kind = MData; references = 0 })) }
-{
-    let block = DataBlock {
-        class,
-        kind: MsgType::MData,
-        references: 0,
-    };
-    blocks.resize(blocks.len() + count as usize, block)
 }
 
 impl Data {
@@ -259,26 +257,20 @@ impl Data {
         ensures opened { IfOk result (λ s. s ≡ opening_counted specs.now) }
         ensures kept { IfOk result IsKept }
     {
-        let free = free_lists(alloc, specs)?;
+        let blocks = lay_out(alloc, specs)?;
         let mut classes = Vec::with_capacity(alloc, specs.len())?;
         let mut regions = Vec::with_capacity(alloc, specs.len())?;
-        let mut blocks = Vec::with_capacity(alloc, total_of(specs) as usize)?;
         for spec in specs {
-            let first = blocks.len() as u16;
-            add_blocks(&mut blocks, classes.len() as u16, spec.count)?;
             regions.push(vec![in alloc; 0; spec.size as usize * spec.count as usize]?)?;
-            let least = spec.count as u16;
             classes.push(Class {
                 spec: *spec,
-                first,
-                least,
+                least: spec.count,
             })?;
         }
         Ok(Data {
             classes,
             regions,
             blocks,
-            free,
         })
     }
 
@@ -294,7 +286,7 @@ impl Data {
     {
         for number in 0..self.classes.len() as u32 {
             let class = &self.classes[number as usize];
-            if class.spec.size >= size && self.free.len(number) > 0 {
+            if class.spec.size >= size && self.blocks.len(number) > 0 {
                 return Ok(number);
             }
         }
@@ -310,7 +302,7 @@ impl Data {
         requires { class < length self.now.store.classes }
         ensures { result ≡ length (free_of self.now.store class) }
     {
-        self.free.len(class)
+        self.blocks.len(class)
     }
 
     /// Takes a data block for `size` bytes and returns its number: the first free one of the smallest class that fits the
@@ -346,12 +338,13 @@ impl Data {
         ensures left { length (free_of self.new.store class) ≡ length (free_of self.old.store class) - 1 }
     {
         let _ = size;
-        let left = self.free.len(class) - 1;
+        let left = self.blocks.len(class) - 1;
         self.classes[class as usize].note(left);
-        let number = self.free.take_front(class);
-        let block = &mut self.blocks[number as usize];
+        let number = self.blocks.take_front(class);
+        let mut block = *self.blocks.load(number);
         block.kind = MsgType::MData;
         block.references = 1;
+        self.blocks.set_load(number, block);
         number
     }
 
@@ -378,7 +371,9 @@ impl Data {
         ensures after { self.new ≡ with_reference number self.old }
         ensures kept { IsKept self.new }
     {
-        self.blocks[number as usize].references += 1;
+        let mut block = *self.blocks.load(number);
+        block.references += 1;
+        self.blocks.set_load(number, block);
     }
 
     /// Removes a reference from a data block that is in use. If that was the last one, the data block becomes free, at
@@ -389,11 +384,11 @@ impl Data {
         ensures after { self.new ≡ without_reference number self.old }
         ensures kept { IsKept self.new }
     {
-        let block = &mut self.blocks[number as usize];
+        let mut block = *self.blocks.load(number);
         block.references -= 1;
+        self.blocks.set_load(number, block);
         if block.references == 0 {
-            let class = u32::from(block.class);
-            self.free.push_front(class, number);
+            self.blocks.push_front(u32::from(block.class), number);
         }
     }
 
@@ -401,7 +396,7 @@ impl Data {
     pub fn len(&self) -> usize
         ensures { result ≡ length self.now.store.blocks }
     {
-        self.blocks.len()
+        self.blocks.node_count()
     }
 
     /// Returns the number of references to a data block, 0 to `MOST_REFERENCES`. Changes nothing.
@@ -409,7 +404,7 @@ impl Data {
         requires { number < length self.now.store.blocks }
         ensures { result ≡ count_of self.now number }
     {
-        self.blocks[number as usize].references
+        self.blocks.load(number).references as u8
     }
 
     /// Returns the capacity of a data block in bytes, 1 to `MOST_DATA_BLOCK_BYTES`. Changes nothing.
@@ -418,8 +413,7 @@ impl Data {
         ensures answer { result ≡ capacity_of self.now.store number }
         ensures range { (1 ≤ result) × (result ≤ most_data_block_bytes) }
     {
-        let class = usize::from(self.blocks[number as usize].class);
-        self.classes[class].spec.size
+        self.blocks.load(number).size
     }
 
     /// Returns the type of a data block. Changes nothing.
@@ -427,7 +421,7 @@ impl Data {
         requires { number < length self.now.store.blocks }
         ensures { result ≡ (data_block_at self.now.store number).kind }
     {
-        self.blocks[number as usize].kind
+        self.blocks.load(number).kind
     }
 
     /// Gives a data block a type. All else stays unchanged, its references and bytes too.
@@ -436,7 +430,9 @@ impl Data {
         ensures after { self.new ≡ record self.old { store = with_kind number kind self.old.store } }
         ensures kept { IsKept self.new }
     {
-        self.blocks[number as usize].kind = kind;
+        let mut block = *self.blocks.load(number);
+        block.kind = kind;
+        self.blocks.set_load(number, block);
     }
 
     /// Copies `len` bytes of data block `from`, from place `at` on, over those of data block `into`, from place `to` on.
@@ -451,8 +447,8 @@ impl Data {
         ensures after { self.new ≡ record self.old { store = with_bytes_copied from at into to len self.old.store } }
         ensures kept { IsKept self.new }
     {
-        let source = place_of(&self.classes, &self.blocks, from, at);
-        let target = place_of(&self.classes, &self.blocks, into, to);
+        let source = self.blocks.load(from).region_place(at);
+        let target = self.blocks.load(into).region_place(to);
         copy_bytes(&mut self.regions, source, target, len as usize);
     }
 
@@ -465,7 +461,7 @@ impl Data {
         let spec = self.classes.get(usize::from(class))?.spec;
         Some(ClassInfo {
             size: spec.size,
-            free: self.free.len(u32::from(class)),
+            free: self.blocks.len(u32::from(class)),
             total: spec.count,
         })
     }
@@ -475,7 +471,7 @@ impl Data {
     pub fn least_free(&self, class: u8) -> Option<u32>
         ensures { result ≡ slice_get self.now.store.least class }
     {
-        Some(u32::from(self.classes.get(usize::from(class))?.least))
+        Some(self.classes.get(usize::from(class))?.least)
     }
 
     /// Makes the data blocks that are free now the fewest that were free, for each class. All else stays unchanged. Takes a
@@ -484,7 +480,7 @@ impl Data {
         ensures after { self.new ≡ record self.old { store = with_data_reset self.old.store } }
         ensures kept { IsKept self.new }
     {
-        reset(&mut self.classes, &self.free);
+        reset(&mut self.classes, &self.blocks);
     }
 
     /// Returns the number of free data blocks of the largest class. This many can be taken in turn, whatever their sizes,
@@ -492,7 +488,7 @@ impl Data {
     pub fn free_in_largest(&self) -> u32
         ensures { result ≡ length (free_of self.now.store (length self.now.store.classes - 1)) }
     {
-        self.free.len(self.classes.len() as u32 - 1)
+        self.blocks.len(self.classes.len() as u32 - 1)
     }
 
     /// Law: every data block is accounted for. There are 1 to `MOST_CLASSES` size classes, and each has its number of data blocks.

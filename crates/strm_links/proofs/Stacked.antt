@@ -1,14 +1,20 @@
 -- How `Stacks` stores the rows that a contract sees, and what a push and a pop leave of them.
-use Rattle.std.proofs.Common.{◌≡◌, ◌≢◌, ℕ, zero, suc, ◌+◌, ◌-◌, ◌<◌, ◌≤◌, ◌^◌, true, false, List, [], ◌∷◌, map, length, get_or, set, drop, replicate, Option, Some, None, IsSome, refl, sym, ap, ◌∙◌, subst, inl, inr, arith, get_or-set_same, get_or-set_other, length-append, length-set}
+use Rattle.std.proofs.Common.{◌≡◌, ◌≢◌, ℕ, zero, suc, ◌+◌, ◌-◌, ◌<◌, ◌≤◌, ◌^◌, true, false, List, [], ◌∷◌, map, length, get_or, set, take, drop, replicate, ◌++◌, Option, Some, None, IsSome, refl, sym, ap, ◌∙◌, subst, inl, inr, arith, get_or-set_same, get_or-set_other, length-append, length-set}
 use Rattle.std.proofs.lemmas.Bool.{cases_eq, cond-true, cond-false, eq-eqb, ne_eqb, false≢true}
 use Rattle.std.proofs.lemmas.Bool.Decides.{nat_tests}
-use Rattle.std.proofs.lemmas.List.{length-map, get_or-map, get_or_default, same_lists, get_or_read, get_or-replicate, length-replicate}
+use Rattle.std.proofs.lemmas.List.{length-map, get_or-map, map-set, get_or_default, same_lists, get_or_read, get_or-replicate, length-replicate}
 use Rattle.std.specs.List.{concat}
+use Rattle.std.specs.Prelude.{slice_get}
+use Rattle.std.proofs.lemmas.Option.{slice_get-get_or}
+use Rattle.std.proofs.Math.Seq.{map-set_same}
+use Rattle.strm_links.specs.declared.stacks.Node.{Node}
 use Rattle.strm_links.specs.declared.stacks.Top.{Top}
+use Rattle.strm_links.specs.LoadedRows.{LoadedRows}
 use Rattle.strm_links.specs.Rows.{Rows, IsParting, has, IsApart, first, without, list_at, holder, linked_nodes}
 use Rattle.strm_links.specs.Layout.{LeadsOn}
 use Rattle.strm_links.specs.Counting.{times}
-use Rattle.strm_links.specs.StackLayout.{no_top, behind_at, top_at, stack, stacked_rows, IsStack, IsSound}
+use Rattle.strm_links.specs.StackLayout.{no_top, behind_at, top_at, stack, stacked_rows, IsStack, IsSound, behind_of, loads_of, loaded_rows, IsLaid}
+use Rattle.strm_links.proofs.linking.Carried.{all_alike}
 use Rattle.strm_links.proofs.lists.OneList.{first_split, has_at, first_has, first-without, is_some_of-same, length_below, some_of}
 use Rattle.strm_links.proofs.lists.AllLists.{All-listed, has-holder, holder_none, holder-insert_here, holder-insert_other, holder-remove, map-without, IsApart-list_at}
 use Rattle.strm_links.proofs.lists.ListLinks.{walk_is, LeadsOn-kept}
@@ -60,12 +66,57 @@ stacked_rows_is behind tops rows sound =
     λ i. record { nodes = sound.node_count i; lists = lists i }
 
 -- the stored invariant holds at the rows that a contract sees
-pub IsSound-rows : (behind : List (Option ℕ)) (tops : List Top) (rows : Rows) → stacked_rows behind tops ≡ rows → IsSound behind tops (stacked_rows behind tops) → IsSound behind tops rows
-IsSound-rows behind tops rows view sound = subst (IsSound behind tops) view sound
+pub IsSound-rows : {T : Type 0} (nodes : List (Node T)) (tops : List Top) (v : LoadedRows T) → loaded_rows nodes tops ≡ v → IsLaid nodes tops → IsSound (behind_of nodes) tops v.rows
+IsSound-rows nodes tops v view laid = subst (IsSound (behind_of nodes) tops) (ap (λ (u : LoadedRows _). u.rows) view) laid
 
 -- and the other way round
 pub IsSound-stored : (behind : List (Option ℕ)) (tops : List Top) (rows : Rows) → IsSound behind tops rows → IsSound behind tops (stacked_rows behind tops)
 IsSound-stored behind tops rows sound = subst (IsSound behind tops) (sym (stacked_rows_is behind tops rows sound)) sound
+
+-- ---- nodes that carry loads
+
+module _ {T : Type 0} (nodes : List (Node T)) (tops : List Top) (v : LoadedRows T) (view : loaded_rows nodes tops ≡ v) where
+  pub rows_are : stacked_rows (behind_of nodes) tops ≡ v.rows
+  rows_are = ap (λ (u : LoadedRows T). u.rows) view
+
+  pub loads_are : loads_of nodes ≡ v.loads
+  loads_are = ap (λ (u : LoadedRows T). u.loads) view
+
+  -- each node has a load
+  pub load_room : length nodes ≡ length v.loads
+  load_room = sym (length-map nodes (λ (n : Node T). n.load)) ∙ ap length loads_are
+
+  -- x is node k
+  module _ (k : ℕ) (x : Node T) (read : x ≡ get_or nodes k x) where
+    pub load_at : k < length nodes → slice_get v.loads k ≡ Some x.load
+    load_at within =
+        ap (λ ls. slice_get ls k) (sym loads_are) ∙ slice_get-get_or (loads_of nodes) k x.load (omega (arith, within, length-map nodes (λ (n : Node T). n.load)))
+        ∙ ap Some (get_or-map (λ (n : Node T). n.load) nodes k x x.load within ∙ sym (ap (λ (n : Node T). n.load) read))
+
+    pub behind_read : k < length nodes → x.behind ≡ get_or (behind_of nodes) k x.behind
+    behind_read within = ap (λ (n : Node T). n.behind) read ∙ sym (get_or-map (λ (n : Node T). n.behind) nodes k x x.behind within)
+
+    -- its link is written, and the loads stay
+    pub behind-relinked : (behind : Option ℕ) → behind_of (set nodes k (record x { behind = behind })) ≡ set (behind_of nodes) k behind
+    behind-relinked behind = map-set (λ (n : Node T). n.behind) nodes k (record x { behind = behind })
+
+    pub loads-relinked : (behind : Option ℕ) → loads_of (set nodes k (record x { behind = behind })) ≡ v.loads
+    loads-relinked behind = map-set_same (λ (n : Node T). n.load) nodes k (record x { behind = behind }) x (ap (λ (n : Node T). n.load) read) ∙ loads_are
+
+    -- its load is written, and the links stay
+    pub behind-reloaded : (load : T) → behind_of (set nodes k (record x { load = load })) ≡ behind_of nodes
+    behind-reloaded load = map-set_same (λ (n : Node T). n.behind) nodes k (record x { load = load }) x (ap (λ (n : Node T). n.behind) read)
+
+    pub loads-reloaded : (load : T) → loads_of (set nodes k (record x { load = load })) ≡ set v.loads k load
+    loads-reloaded load = map-set (λ (n : Node T). n.load) nodes k (record x { load = load }) ∙ ap (λ ls. set ls k load) loads_are
+
+-- nodes that are all alike
+module _ {T : Type 0} (n m : ℕ) (items old : List (Node T)) (x : Node T) (is : items ≡ take n old ++ replicate (n - m) x) (none : old ≡ []) (zero_len : m ≡ 0) where
+  pub behind_alike : behind_of items ≡ replicate n x.behind
+  behind_alike = all_alike (λ (y : Node T). y.behind) n m items old x is none zero_len
+
+  pub loads_alike : loads_of items ≡ replicate n x.load
+  loads_alike = all_alike (λ (y : Node T). y.load) n m items old x is none zero_len
 
 -- a list that is not empty has a first node
 first_there : (xs : List ℕ) → 0 < length xs → IsSome (first xs)

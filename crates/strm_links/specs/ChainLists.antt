@@ -1,5 +1,5 @@
 -- What a contract sees of `Chained`: the free nodes, the chains of the others, and the nodes' loads.
-use Rattle.std.specs.Prelude.{ℕ, ◌+◌, ◌≤◌, min, List, [], ◌++◌, length, map, replicate, reverse, take, drop, Option, None, Some, IfSome, slice_index_or, slice_set, unwrap_or, if◌then◌else◌, refl}
+use Rattle.std.specs.Prelude.{ℕ, ◌+◌, ◌≤◌, min, List, [], ◌++◌, length, map, replicate, reverse, take, drop, Option, None, Some, slice_index_or, slice_set, unwrap_or, refl}
 use Rattle.std.specs.List.{flat_map, position, range_with_len}
 use Rattle.std.specs.Coded.{Coded, code_by, coded×, coded_ℕ, coded_list, coded_option}
 use Rattle.strm_links.specs.Rows.{has}

@@ -3,6 +3,7 @@ pub mod ChainLists
 pub mod Chains
 pub mod Counting
 pub mod Layout
+pub mod LoadedRows
 pub mod Rows
 pub mod Slot
 pub mod StackLayout

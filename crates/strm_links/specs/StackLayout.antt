@@ -3,6 +3,8 @@ use Rattle.std.specs.Prelude.{◌≡◌, ℕ, ◌<◌, ◌≤◌, ◌^◌, List,
 use Rattle.strm_links.specs.Counting.{times}
 use Rattle.strm_links.specs.Rows.{Rows, first, list_at, linked_nodes}
 use Rattle.strm_links.specs.Layout.{walk, LeadsOn}
+use Rattle.strm_links.specs.LoadedRows.{LoadedRows}
+use Rattle.strm_links.specs.declared.stacks.Node.{Node}
 use Rattle.strm_links.specs.declared.stacks.Top.{Top}
 
 -- the top of an empty stack; also the result of a read past the stacks
@@ -41,3 +43,20 @@ pub record IsSound (behind : List (Option ℕ)) (tops : List Top) (rows : Rows) 
   pub once : (k : ℕ) → times k (linked_nodes rows) ≤ 1
   pub within : (k : ℕ) → 0 < times k (linked_nodes rows) → k < rows.nodes
   pub linked : (l : ℕ) → l < length rows.lists → IsStack (behind_at behind) (top_at tops l) (list_at l rows)
+
+-- ---- nodes that carry loads
+
+-- their links, and their loads
+abbrev pub behind_of : {T : Type 0} → List (Node T) → List (Option ℕ)
+behind_of nodes = map (λ n. n.behind) nodes
+
+abbrev pub loads_of : {T : Type 0} → List (Node T) → List T
+loads_of nodes = map (λ n. n.load) nodes
+
+-- the rows and the loads that nodes and tops mean
+abbrev pub loaded_rows : {T : Type 0} → List (Node T) → List Top → LoadedRows T
+loaded_rows nodes tops = record { rows = stacked_rows (behind_of nodes) tops; loads = loads_of nodes }
+
+-- nodes and tops are sound
+abbrev pub IsLaid : {T : Type 0} → List (Node T) → List Top → Type 0
+IsLaid nodes tops = IsSound (behind_of nodes) tops (stacked_rows (behind_of nodes) tops)

@@ -80,7 +80,7 @@ struct Fields {
     band: u8,
 }
 
-const _: () = prove!(size_of::<Fields>() == 16 && size_of::<Blocks>() == 200);
+const _: () = prove!(size_of::<Fields>() == 16 && size_of::<Blocks>() == 176);
 
 impl Fields {
     // A message block over this data block: both places and the band are 0.

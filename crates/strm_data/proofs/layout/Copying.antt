@@ -2,14 +2,17 @@
 use Rattle.std.proofs.Common.{◌≡◌, ℕ, ◌+◌, ◌-◌, ◌<◌, ◌≤◌, List, [], ◌++◌, Vec, Global, length, get_or, set, take, drop, sym, ap, ◌∙◌, arith, length-append}
 use Rattle.std.specs.Vec.{with_items}
 use Rattle.std.proofs.lemmas.List.{get_or-append_right, get_or-map, get_or_append_left, map-set, set-append_left, set-append_right, with_items_is, length-map}
-use Rattle.strm_data.specs.DataLayout.{bytes_of, region_at, block_at, bytes_in, class_at, store_of_parts, store_of, start_in, IsSound, IsPlaced}
-use Rattle.strm_data.specs.DataStore.{bytes_overwritten, capacity_of, data_block_at, with_bytes_written}
-use Rattle.strm_data.specs.declared.data.Class.{Class}
+use Rattle.std.specs.Prelude.{Some, slice_get}
+use Rattle.strm_data.specs.declared.class_spec.ClassSpec.{ClassSpec}
 use Rattle.strm_data.specs.declared.data.Data.TheInside.{Inside}
+use Rattle.strm_data.specs.declared.data.DataBlock.{DataBlock}
 use Rattle.strm_data.specs.declared.data.RegionPlace.{RegionPlace}
 use Rattle.strm_data.specs.CountedStore.{CountedStore}
+use Rattle.strm_data.specs.DataLayout.{block_at, bytes_in, bytes_of, extent_of, region_at, seen_in, store_of_parts, store_of, IsPlaced, IsSound}
+use Rattle.strm_data.specs.DataStore as store
+use Rattle.strm_data.specs.DataStore.{bytes_overwritten, capacity_of, data_block_at, with_bytes_written}
 use Rattle.strm_data.proofs.Lists.{length-overwritten, length-part, part_of}
-use Rattle.strm_data.proofs.layout.Laid.{block_within, in_regions, seen_at, seen_capacity, whole, written_blocks, IsPlaced-written}
+use Rattle.strm_data.proofs.layout.Seen.{block_is, block_within, capacity_is, in_regions, seen_is, seen_written, whole, IsPlaced-written}
 
 -- ---- bytes that are copied from one region to another, or within one
 
@@ -53,60 +56,66 @@ module _ (low high : List (Vec ℕ Global)) (c : ℕ) (r : Vec ℕ Global) where
 
 -- ---- where bytes of a data block are in memory, and what a contract sees once others stand over them
 
--- byte `at` of data block d is at this place
-pub record IsPlaceOf (a : Inside) (d at : ℕ) (p : RegionPlace) : Type 0 where
-  pub class : p.class ≡ (block_at a.blocks.items d).class
-  pub start : p.start ≡ start_in (class_at a.classes.items (block_at a.blocks.items d).class) d + at
-
-module _ (a : Inside) (v : CountedStore) (view : store_of a ≡ v) (laid : IsSound a) (d : ℕ) (there : d < length v.store.blocks) (at : ℕ) (p : RegionPlace) (is : IsPlaceOf a d at p) where
+-- b is data block d, whose byte `at` is at place p
+module _ (a : Inside) (v : CountedStore) (view : store_of a ≡ v) (sound : IsSound a) (d : ℕ) (there : d < length v.store.blocks) (b : DataBlock) (read : slice_get a.blocks.loads d ≡ Some b)
+    (at : ℕ) (p : RegionPlace) (is : p ≡ record { class = b.class; start = b.start + at }) where
   abbrev regions : List (List ℕ)
   regions = bytes_of a.regions.items
 
-  abbrev region : List ℕ
-  region = region_at regions (block_at a.blocks.items d).class
+  abbrev specs : List ClassSpec
+  specs = (store_of a).store.classes
 
-  abbrev k : Class
-  k = class_at a.classes.items (block_at a.blocks.items d).class
+  abbrev x : DataBlock
+  x = block_at a.blocks.loads d
 
-  within : d < length a.blocks.items
+  within : d < length a.blocks.loads
   within = block_within a v view d there
 
-  range : start_in k d + k.spec.size ≤ length region
-  range = whole a.classes.items regions a.blocks.items a.free.lists d within laid.placed
+  place_is : p ≡ record { class = x.class; start = x.start + at }
+  place_is = is ∙ ap (λ (y : DataBlock). record { class = y.class; start = y.start + at }) (sym (block_is a v view d b read))
 
-  capacity : k.spec.size ≡ capacity_of v.store d
-  capacity = cc (seen_capacity a.classes.items regions a.blocks.items a.free.lists d within laid.placed, view)
+  class_is : p.class ≡ x.class
+  class_is = ap (λ (q : RegionPlace). q.class) place_is
 
-  bytes_are : bytes_in k region d ≡ (data_block_at v.store d).bytes
-  bytes_are = cc (seen_at a.classes.items regions a.blocks.items a.free.lists d within, view)
+  start_is : p.start ≡ x.start + at
+  start_is = ap (λ (q : RegionPlace). q.start) place_is
+
+  capacity : x.size ≡ capacity_of v.store d
+  capacity = ap (λ (y : DataBlock). y.size) (block_is a v view d b read) ∙ capacity_is a v view d b read sound there
+
+  bytes_are : bytes_in regions (extent_of x) ≡ (data_block_at v.store d).bytes
+  bytes_are = ap (λ (y : DataBlock). bytes_in regions (extent_of y)) (block_is a v view d b read) ∙ sym (ap (λ (y : store.DataBlock). y.bytes) (seen_is a v view d b read))
 
   pub region_within : p.class < length a.regions.items
-  region_within = rw is.class (omega (arith, in_regions a.classes.items regions a.blocks.items a.free.lists d within laid.placed, length-map a.regions.items (λ r. r.items)))
+  region_within = omega (arith, class_is, in_regions specs regions a.blocks.loads sound.placed d within, length-map a.regions.items (λ r. r.items))
 
   -- the bytes of the vector that the place is in
-  pub region_is : (x : Vec ℕ Global) (bytes : List ℕ) → x ≡ get_or a.regions.items p.class x → bytes ≡ x.items → bytes ≡ region_at regions p.class
-  region_is x bytes read has = has ∙ sym (region_of a.regions.items p.class x x region_within read)
+  pub region_is : (r : Vec ℕ Global) (bytes : List ℕ) → r ≡ get_or a.regions.items p.class r → bytes ≡ r.items → bytes ≡ region_at regions p.class
+  region_is r bytes read has = has ∙ sym (region_of a.regions.items p.class r r region_within read)
 
   -- n bytes from there on are in the region
   module _ (n : ℕ) (few : at + n ≤ capacity_of v.store d) where
     pub in_region : p.start + n ≤ length (region_at regions p.class)
-    in_region = rw is.class (omega (arith, range, capacity, few, is.start))
+    in_region = rw class_is (omega (arith, whole specs regions a.blocks.loads sound.placed d within, capacity, few, start_is))
 
     pub part_is : take n (drop p.start (region_at regions p.class)) ≡ take n (drop at (data_block_at v.store d).bytes)
-    part_is = rw (is.class, is.start) (part_of n at (start_in k d) k.spec.size region (omega (arith, capacity, few)) ∙ ap (λ bs. take n (drop at bs)) bytes_are)
+    part_is = rw (class_is, start_is) (part_of n at x.start x.size (region_at regions x.class) (omega (arith, capacity, few)) ∙ ap (λ bs. take n (drop at bs)) bytes_are)
 
   -- once these bytes are written over them
   module _ (bytes : List ℕ) (room : at + length bytes ≤ capacity_of v.store d) where
     abbrev after : List (List ℕ)
     after = set regions p.class (bytes_overwritten p.start bytes (region_at regions p.class))
 
-    fits : at + length bytes ≤ k.spec.size
+    fits : at + length bytes ≤ x.size
     fits = omega (arith, room, capacity)
 
-    pub overwrites : store_of_parts a.classes.items after a.blocks.items a.free.lists ≡ record v { store = with_bytes_written d at bytes v.store }
+    pub overwrites : store_of_parts a.classes.items after a.blocks.loads a.blocks.rows.lists ≡ record v { store = with_bytes_written d at bytes v.store }
     overwrites =
-        rw (is.class, is.start)
-        (cc (written_blocks a.classes.items regions a.blocks.items a.free.lists d within laid.placed at bytes fits, view))
+        rw (class_is, start_is)
+        ((λ i. record (store_of a) { store = record (store_of a).store { blocks = seen_written specs regions a.blocks.loads sound.placed d within at bytes fits i } })
+        ∙ ap (λ (y : store.DataBlock). record (store_of a) { store = record (store_of a).store { blocks = set (store_of a).store.blocks d (record y { bytes = bytes_overwritten at bytes y.bytes }) } })
+        (ap (seen_in regions) (block_is a v view d b read) ∙ sym (seen_is a v view d b read))
+        ∙ ap (λ (s : CountedStore). record s { store = record s.store { blocks = set s.store.blocks d (record (data_block_at v.store d) { bytes = bytes_overwritten at bytes (data_block_at v.store d).bytes }) } }) view)
 
-    pub IsPlaced-overwrites : IsPlaced a.classes.items after a.blocks.items
-    IsPlaced-overwrites = rw (is.class, is.start) (IsPlaced-written a.classes.items regions a.blocks.items a.free.lists d within laid.placed at bytes fits)
+    pub IsPlaced-overwrites : IsPlaced specs after a.blocks.loads
+    IsPlaced-overwrites = rw (class_is, start_is) (IsPlaced-written specs regions a.blocks.loads sound.placed d within at bytes fits)

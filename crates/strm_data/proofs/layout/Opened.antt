@@ -1,21 +1,21 @@
--- Data blocks laid out and free lists filled, class by class.
-use Rattle.std.proofs.Common.{◌≡◌, ℕ, suc, ◌+◌, ◌-◌, ◌<◌, ◌≤◌, List, [], ◌∷◌, ◌++◌, length, get_or, set, take, replicate, sym, ap, ◌∙◌, arith, length-append, get_or-set_same, append_assoc, ◌≢◌, ◌*◌, map, refl, inl, inr}
+-- Data blocks laid out and free lists filled, class by class: a new store.
+use Rattle.std.proofs.Common.{◌≡◌, ℕ, zero, suc, ◌+◌, ◌-◌, ◌*◌, ◌<◌, ◌≤◌, List, [], ◌∷◌, ◌++◌, length, get_or, set, map, take, drop, replicate, refl, sym, ap, ◌∙◌, arith, append_assoc, get_or-set_same, length-append}
 use Rattle.std.specs.List.{range_with_len}
-use Rattle.std.proofs.lemmas.List.{set-set, set-append_right, get_or-append_right, get_or-replicate, length-replicate, length-take-le, take_more, get_or_append_left, get_or_past, length-map, map_push, map-append, replicate-append-replicate, drop-replicate, take-replicate}
+use Rattle.std.proofs.lemmas.List.{append-nil, drop-replicate, get_or-append_right, get_or-map, get_or-replicate, length-map, length-replicate, length-take-le, map-append, map-id, set-append_right, set-set, take-replicate, take_all, take_more}
 use Rattle.std.proofs.lemmas.List.Sums.{sum_by_push, sum_by_more_le}
-use Rattle.std.proofs.lemmas.Bool.{cases_eq, cases_lt}
+use Rattle.std.proofs.lemmas.Simd.{map-map}
 use Rattle.std.proofs.Math.Nat.{mul-le-mul_right}
+use Rattle.std.proofs.Math.Seq.{drop-append-add, take-append_seam}
 use Rattle.strm_links.specs.Rows.{Rows, list_at}
 use Rattle.strm_data.specs.declared.class_spec.ClassSpec.{ClassSpec}
-use Rattle.strm_data.specs.Classes.{total_of}
-use Rattle.strm_data.specs.DataStore.{numbers_from, fresh_data_block}
 use Rattle.strm_data.specs.declared.data.Class.{Class}
 use Rattle.strm_data.specs.declared.data.DataBlock.{DataBlock}
-use Rattle.strm_data.specs.declared.msg_type.MsgType.TheVariants.{MData}
+use Rattle.strm_data.specs.Classes.{total_of}
 use Rattle.strm_data.specs.CountedStore.{opening_counted}
-use Rattle.strm_data.specs.DataLayout.{no_class, no_block, class_at, block_at, region_at, start_in, bytes_in, data_block_of, values_below, store_of_parts, IsPlaced}
-use Rattle.strm_data.proofs.store.Opening.{length-numbers_from, numbers_from-push, blocks_from, blocks_from-push, length-blocks_from}
-use Rattle.strm_data.proofs.Lists.{length-tabulated, tabulated-more, map-replicate}
+use Rattle.strm_data.specs.DataLayout.{Extent, bytes_in, extent_in, extent_of, extents_from, extents_in, no_block, region_at, seen_in, store_of_parts, unused_at, IsPlaced}
+use Rattle.strm_data.specs.DataStore.{fresh_data_block, no_class_spec, numbers_from}
+use Rattle.strm_data.proofs.store.Opening.{blocks_from, length-numbers_from, numbers_from-push}
+use Rattle.strm_data.proofs.layout.Extents.{extents_from-push, length-extents_from}
 
 -- ---- lists of free data blocks that are filled one by one
 
@@ -76,175 +76,96 @@ total_of_more cs i d within = sum_by_more_le (λ (c : ClassSpec). c.count) cs i 
 
 -- ---- data blocks that are laid out class by class
 
--- the data blocks of these classes are laid out, as new ones
-pub record AreOpened (specs : List ClassSpec) (classes : List Class) (regions : List (List ℕ)) (blocks : List DataBlock) : Type 0 where
-  pub specs_are : map (λ k. k.spec) classes ≡ specs
-  pub least_are : map (λ k. k.least) classes ≡ map (λ c. c.count) specs
-  pub placed : IsPlaced classes regions blocks
-  pub classed : (d : ℕ) → d < length blocks → (block_at blocks d).class < length classes
-  pub fresh : values_below (data_block_of classes regions blocks) (length blocks) ≡ blocks_from 0 specs
-  pub unnamed : map (λ b. b.references) blocks ≡ replicate (length blocks) 0
+-- the data blocks once those of the first i classes are laid out
+abbrev pub laid : List ClassSpec → ℕ → List DataBlock
+laid cs i = map unused_at (extents_from 0 (take i cs)) ++ replicate (total_of cs - total_of (take i cs)) no_block
 
-pub AreOpened-nil : AreOpened [] [] [] []
-AreOpened-nil = record {
-  specs_are = refl;
-  least_are = refl;
-  placed = record {
-    regioned = refl;
-    filled = λ c. refl;
-    from = λ d there. absurd (omega arith);
-    below = λ d there. absurd (omega arith);
-    there = λ c. omega arith;
-    own = λ c d from below. absurd (omega arith);
-  };
-  classed = λ d there. absurd (omega arith);
-  fresh = refl;
-  unnamed = refl;
-}
+length-laid_front : (cs : List ClassSpec) (i : ℕ) → length (map unused_at (extents_from 0 (take i cs))) ≡ total_of (take i cs)
+length-laid_front cs i = length-map (extents_from 0 (take i cs)) unused_at ∙ length-extents_from 0 (take i cs)
 
--- bytes of a data block in a region of zeros
-zeros : (k : Class) (d : ℕ) → k.first ≤ d → d < k.first + k.spec.count → bytes_in k (replicate (k.spec.size * k.spec.count) 0) d ≡ replicate k.spec.size 0
-zeros k d from below =
-    let size = k.spec.size in
-    let next : (d - k.first + 1) * size ≤ k.spec.count * size = mul-le-mul_right size (let l : d - k.first + 1 ≤ k.spec.count = omega arith in l) in
-    let left : size ≤ size * k.spec.count - start_in k d = omega (arith, next) in
-    ap (take size) (drop-replicate (start_in k d) (size * k.spec.count) 0) ∙ take-replicate size (size * k.spec.count - start_in k d) 0 left
+pub length-laid : (cs : List ClassSpec) (i : ℕ) (d : ClassSpec) → i < length cs → length (laid cs i) ≡ total_of cs
+length-laid cs i d within =
+    omega (
+      arith,
+      length-append (map unused_at (extents_from 0 (take i cs))) (replicate (total_of cs - total_of (take i cs)) no_block),
+      length-laid_front cs i,
+      length-replicate (total_of cs - total_of (take i cs)) no_block,
+      total_of_more cs i d within,
+    )
 
--- one class more
-module _ (specs : List ClassSpec) (classes : List Class) (regions : List (List ℕ)) (blocks : List DataBlock) (opened : AreOpened specs classes regions blocks) (spec : ClassSpec) where
-  abbrev n : ℕ
-  n = length blocks
+-- once the next class is laid out too
+pub laid-more : (cs : List ClassSpec) (i : ℕ) (d : ClassSpec) (first : ℕ) → i < length cs → first ≡ total_of (take i cs)
+    → take first (laid cs i) ++ (map unused_at (extents_in i (get_or cs i d)) ++ drop (first + (get_or cs i d).count) (laid cs i)) ≡ laid cs (i + 1)
+laid-more cs i d first within so_far =
+    let front = map unused_at (extents_from 0 (take i cs)) in
+    let here = map unused_at (extents_in i (get_or cs i d)) in
+    let many = (get_or cs i d).count in
+    let rest = total_of cs - total_of (take i cs) in
+    let long : first ≡ length front = so_far ∙ sym (length-laid_front cs i) in
+    let number : 0 + length (take i cs) ≡ i = omega (arith, length-take-le i cs (omega arith)) in
+    let grown : front ++ here ≡ map unused_at (extents_from 0 (take (i + 1) cs)) =
+    ap (λ n. front ++ map unused_at (extents_in n (get_or cs i d))) (sym number) ∙ sym (map-append unused_at (extents_from 0 (take i cs)) (extents_in (0 + length (take i cs)) (get_or cs i d)))
+    ∙ ap (map unused_at) (sym (extents_from-push 0 (take i cs) (get_or cs i d)) ∙ ap (extents_from 0) (sym (take_more cs i d within))) in
+    let left : rest - many ≡ total_of cs - total_of (take (i + 1) cs) = omega (arith, total_of_next cs i d within) in
+    (λ j. take (long j) (laid cs i) ++ (here ++ drop (long j + many) (laid cs i)))
+    ∙ (λ j. take-append_seam front (replicate rest no_block) j ++ (here ++ drop-append-add front (replicate rest no_block) many j))
+    ∙ ap (λ ys. front ++ (here ++ ys)) (drop-replicate many rest no_block)
+    ∙ sym (append_assoc front here (replicate (rest - many) no_block)) ∙ (λ j. grown j ++ replicate (left j) no_block)
 
-  abbrev c : ℕ
-  c = length classes
+pub laid-all : (cs : List ClassSpec) (i : ℕ) → length cs ≤ i → laid cs i ≡ map unused_at (extents_from 0 cs)
+laid-all cs i past =
+    let none : total_of cs - total_of cs ≡ 0 = omega arith in
+    ap (λ xs. map unused_at (extents_from 0 xs) ++ replicate (total_of cs - total_of xs) no_block) (take_all i cs past)
+    ∙ ap (λ n. map unused_at (extents_from 0 cs) ++ replicate n no_block) none ∙ append-nil _
 
-  abbrev class : Class
-  class = record { spec = spec; first = n; least = spec.count }
+-- ---- what a contract sees of new data blocks
 
-  abbrev block : DataBlock
-  block = record { class = c; kind = MData; references = 0 }
+-- the class of this specification, and the bytes of all its data blocks
+abbrev pub class_of_spec : ClassSpec → Class
+class_of_spec spec = record { spec = spec; least = spec.count }
 
-  abbrev classes' : List Class
-  classes' = classes ++ class ∷ []
+abbrev pub zeros_of : ClassSpec → List ℕ
+zeros_of spec = replicate (spec.size * spec.count) 0
 
-  abbrev regions' : List (List ℕ)
-  regions' = regions ++ replicate (spec.size * spec.count) 0 ∷ []
+module _ (regions : List (List ℕ)) where
+  -- of a class whose region has zeros
+  zeros_at : (c : ℕ) (spec : ClassSpec) → region_at regions c ≡ zeros_of spec → (a n : ℕ) → a + n ≤ spec.count
+      → map (seen_in regions) (map unused_at (map (extent_in c spec) (range_with_len a n))) ≡ replicate n (fresh_data_block c spec)
+  zeros_at c spec zero_bytes a zero within = refl
+  zeros_at c spec zero_bytes a (suc n) within =
+      let size = spec.size in
+      let next : (a + 1) * size ≤ spec.count * size = mul-le-mul_right size (let l : a + 1 ≤ spec.count = omega arith in l) in
+      let left : size ≤ size * spec.count - a * size = omega (arith, next) in
+      let bytes : bytes_in regions (extent_in c spec a) ≡ replicate size 0 =
+      ap (λ r. take size (drop (a * size) r)) zero_bytes ∙ ap (take size) (drop-replicate (a * size) (size * spec.count) 0) ∙ take-replicate size (size * spec.count - a * size) 0 left in
+      λ i. record (fresh_data_block c spec) { bytes = bytes i } ∷ zeros_at c spec zero_bytes (a + 1) n (omega arith) i
 
-  abbrev blocks' : List DataBlock
-  blocks' = blocks ++ replicate spec.count block
+  fresh_from : (c : ℕ) (specs : List ClassSpec) → ((k : ℕ) → k < length specs → region_at regions (c + k) ≡ zeros_of (get_or specs k no_class_spec))
+      → map (seen_in regions) (map unused_at (extents_from c specs)) ≡ blocks_from c specs
+  fresh_from c [] each = refl
+  fresh_from c (spec ∷ specs) each =
+      ap (map (seen_in regions)) (map-append unused_at (extents_in c spec) (extents_from (c + 1) specs))
+      ∙ map-append (seen_in regions) (map unused_at (extents_in c spec)) (map unused_at (extents_from (c + 1) specs))
+      ∙ (λ i. zeros_at c spec (ap (region_at regions) (let e : c ≡ c + 0 = omega arith in e) ∙ each 0 (omega arith)) 0 spec.count (omega arith) i
+      ++ fresh_from (c + 1) specs (λ k within. ap (region_at regions) (let e : c + 1 + k ≡ c + suc k = omega arith in e) ∙ each (suc k) (omega arith)) i)
 
-  length_blocks : length blocks' ≡ n + spec.count
-  length_blocks = omega (arith, length-append blocks (replicate spec.count block), length-replicate spec.count block)
+unnamed : (es : List Extent) → map (λ (b : DataBlock). b.references) (map unused_at es) ≡ replicate (length es) 0
+unnamed [] = refl
+unnamed (e ∷ es) = ap (λ ns. 0 ∷ ns) (unnamed es)
 
-  old_class : (e : ℕ) → e < c → class_at classes' e ≡ class_at classes e
-  old_class e within = get_or_append_left classes (class ∷ []) no_class e within
+module _ (specs : List ClassSpec) where
+  pub specs_are : map (λ (k : Class). k.spec) (map class_of_spec specs) ≡ specs
+  specs_are = map-map (λ (k : Class). k.spec) class_of_spec specs ∙ map-id specs
 
-  old_region : (e : ℕ) → e < c → region_at regions' e ≡ region_at regions e
-  old_region e within = get_or_append_left regions (replicate (spec.size * spec.count) 0 ∷ []) [] e (omega (arith, opened.placed.regioned))
+  pub opened_is : store_of_parts (map class_of_spec specs) (map zeros_of specs) (map unused_at (extents_from 0 specs)) (numbers_from 0 specs) ≡ opening_counted specs
+  opened_is =
+      let fresh = fresh_from (map zeros_of specs) 0 specs (λ k within. ap (region_at (map zeros_of specs)) (let e : 0 + k ≡ k = omega arith in e) ∙ get_or-map zeros_of specs k no_class_spec [] within) in
+      let many : length (extents_from 0 specs) ≡ length (blocks_from 0 specs) = sym (length-map (extents_from 0 specs) unused_at) ∙ sym (length-map (map unused_at (extents_from 0 specs)) (seen_in (map zeros_of specs))) ∙ ap length fresh in
+      cc (specs_are, map-map (λ (k : Class). k.least) class_of_spec specs, fresh, unnamed (extents_from 0 specs), many)
 
-  old_block : (d : ℕ) → d < n → block_at blocks' d ≡ block_at blocks d
-  old_block d within = get_or_append_left blocks (replicate spec.count block) no_block d within
-
-  new_class : class_at classes' c ≡ class
-  new_class = get_or-append_right classes (class ∷ []) c c no_class refl (omega arith) ∙ ap (λ j. get_or (class ∷ []) j no_class) (let e : c - c ≡ 0 = omega arith in e)
-
-  new_region : region_at regions' c ≡ replicate (spec.size * spec.count) 0
-  new_region =
-      cc (get_or-append_right regions (replicate (spec.size * spec.count) 0 ∷ []) c c [] opened.placed.regioned (omega arith), (let e : c - c ≡ 0 = omega arith in e))
-
-  none_past : (e : ℕ) → c ≤ e → e ≢ c → class_at classes' e ≡ no_class
-  none_past e past other = get_or_past classes' e no_class (omega (arith, length-append classes (class ∷ []), other))
-
-  new_block : (d : ℕ) → n ≤ d → d < n + spec.count → block_at blocks' d ≡ block
-  new_block d past within = get_or-append_right blocks (replicate spec.count block) n d no_block refl past ∙ get_or-replicate spec.count (d - n) block no_block (omega arith)
-
-  class_of_old : (d : ℕ) → d < n → class_at classes' (block_at blocks' d).class ≡ class_at classes (block_at blocks d).class
-  class_of_old d within = ap (λ (x : DataBlock). class_at classes' x.class) (old_block d within) ∙ old_class (block_at blocks d).class (opened.classed d within)
-
-  class_of_new : (d : ℕ) → n ≤ d → d < n + spec.count → class_at classes' (block_at blocks' d).class ≡ class
-  class_of_new d past within = ap (λ (x : DataBlock). class_at classes' x.class) (new_block d past within) ∙ new_class
-
-  -- a data block of an earlier class is seen as before
-  seen_old : (d : ℕ) → d < n → data_block_of classes' regions' blocks' d ≡ data_block_of classes regions blocks d
-  seen_old d within =
-      let b = block_at blocks d in
-      cc (old_block d within, old_class b.class (opened.classed d within), old_region b.class (opened.classed d within))
-
-  seen_new : (d : ℕ) → n ≤ d → d < n + spec.count → data_block_of classes' regions' blocks' d ≡ fresh_data_block c spec
-  seen_new d past within = cc (new_block d past within, new_class, new_region, zeros class d past within)
-
-  pub AreOpened-push : AreOpened (specs ++ spec ∷ []) classes' regions' blocks'
-  AreOpened-push = record {
-    specs_are = map_push (λ (k : Class). k.spec) classes class ∙ ap (λ xs. xs ++ spec ∷ []) opened.specs_are;
-    least_are =
-        map_push (λ (k : Class). k.least) classes class ∙ ap (λ xs. xs ++ spec.count ∷ []) opened.least_are
-        ∙ sym (map_push (λ (x : ClassSpec). x.count) specs spec);
-    placed = record {
-      regioned = omega (arith, length-append regions (replicate (spec.size * spec.count) 0 ∷ []), length-append classes (class ∷ []), opened.placed.regioned);
-      filled = λ e. elim (cases_lt e c) [
-        | inl before ↦ ap length (old_region e before) ∙ opened.placed.filled e ∙ ap (λ (k : Class). k.spec.size * k.spec.count) (sym (old_class e before))
-        | inr past ↦
-            elim (cases_eq e c) [
-              | inl same ↦
-                  ap (λ j. length (region_at regions' j)) same ∙ ap length new_region ∙ length-replicate (spec.size * spec.count) 0
-                  ∙ ap (λ (k : Class). k.spec.size * k.spec.count) (sym new_class) ∙ ap (λ j. (class_at classes' j).spec.size * (class_at classes' j).spec.count) (sym same)
-              | inr other ↦
-                  ap length (get_or_past regions' e [] (omega (arith, length-append regions (replicate (spec.size * spec.count) 0 ∷ []), opened.placed.regioned, other)))
-                  ∙ ap (λ (k : Class). k.spec.size * k.spec.count) (sym (none_past e past other))
-            ]
-      ];
-      from = λ d there. elim (cases_lt d n) [
-        | inl before ↦ omega (arith, ap (λ (k : Class). k.first) (class_of_old d before), opened.placed.from d before)
-        | inr past ↦ omega (arith, ap (λ (k : Class). k.first) (class_of_new d past (omega (arith, length_blocks))))
-      ];
-      below = λ d there. elim (cases_lt d n) [
-        | inl before ↦ omega (arith, ap (λ (k : Class). k.first + k.spec.count) (class_of_old d before), opened.placed.below d before)
-        | inr past ↦ omega (arith, ap (λ (k : Class). k.first + k.spec.count) (class_of_new d past (omega (arith, length_blocks))), length_blocks)
-      ];
-      there = λ e. elim (cases_lt e c) [
-        | inl before ↦ omega (arith, ap (λ (k : Class). k.first + k.spec.count) (old_class e before), opened.placed.there e, length_blocks)
-        | inr past ↦ elim (cases_eq e c) [
-          | inl same ↦ omega (arith, ap (λ j. (class_at classes' j).first + (class_at classes' j).spec.count) same, ap (λ (k : Class). k.first + k.spec.count) new_class, length_blocks)
-          | inr other ↦ omega (arith, ap (λ (k : Class). k.first + k.spec.count) (none_past e past other))
-        ]
-      ];
-      own = λ e d from below. elim (cases_lt e c) [
-        | inl before ↦
-            let is = old_class e before in
-            let low : (class_at classes e).first ≤ d = omega (arith, ap (λ (k : Class). k.first) is) in
-            let high : d < (class_at classes e).first + (class_at classes e).spec.count = omega (arith, ap (λ (k : Class). k.first + k.spec.count) is) in
-            ap (λ (x : DataBlock). x.class) (old_block d (omega (arith, opened.placed.there e, high))) ∙ opened.placed.own e d low high
-        | inr past ↦ elim (cases_eq e c) [
-          | inl same ↦
-              let is : class_at classes' e ≡ class = ap (class_at classes') same ∙ new_class in
-              ap (λ (x : DataBlock). x.class) (new_block d (omega (arith, ap (λ (k : Class). k.first) is)) (omega (arith, ap (λ (k : Class). k.first + k.spec.count) is))) ∙ sym same
-          | inr other ↦ absurd (omega (arith, ap (λ (k : Class). k.first + k.spec.count) (none_past e past other)))
-        ]
-      ];
-    };
-    classed = λ d there. elim (cases_lt d n) [
-      | inl before ↦ omega (arith, ap (λ (x : DataBlock). x.class) (old_block d before), opened.classed d before, length-append classes (class ∷ []))
-      | inr past ↦ omega (arith, ap (λ (x : DataBlock). x.class) (new_block d past (omega (arith, length_blocks))), length-append classes (class ∷ []))
-    ];
-    fresh =
-        ap (values_below (data_block_of classes' regions' blocks')) length_blocks
-        ∙ tabulated-more (data_block_of classes' regions' blocks') (data_block_of classes regions blocks) n spec.count (fresh_data_block c spec) seen_old seen_new
-        ∙ ap (λ bs. bs ++ replicate spec.count (fresh_data_block c spec)) opened.fresh
-        ∙ ap (λ m. blocks_from 0 specs ++ replicate spec.count (fresh_data_block m spec)) (let e : c ≡ 0 + length specs = omega (arith, ap length opened.specs_are, length-map classes (λ (k : Class). k.spec)) in e)
-        ∙ sym (blocks_from-push 0 specs spec);
-    unnamed =
-        map-append (λ (b : DataBlock). b.references) blocks (replicate spec.count block)
-        ∙ (λ i. opened.unnamed i ++ map-replicate (λ (b : DataBlock). b.references) spec.count block i)
-        ∙ replicate-append-replicate n spec.count 0 ∙ ap (λ m. replicate m 0) (sym length_blocks);
-  }
-
--- all classes
-module _ (specs : List ClassSpec) (classes : List Class) (regions : List (List ℕ)) (blocks : List DataBlock) (opened : AreOpened specs classes regions blocks) where
-  pub length_opened : length blocks ≡ total_of specs
-  length_opened = sym (length-tabulated (data_block_of classes regions blocks) (length blocks)) ∙ ap length opened.fresh ∙ length-blocks_from 0 specs
-
-  pub classes_opened : length classes ≡ length specs
-  classes_opened = omega (arith, ap length opened.specs_are, length-map classes (λ (k : Class). k.spec))
-
-  pub opened_is : store_of_parts classes regions blocks (numbers_from 0 specs) ≡ opening_counted specs
-  opened_is = cc (opened.unnamed, opened.specs_are, opened.least_are, opened.fresh, length_opened, length-blocks_from 0 specs)
+  pub IsPlaced-opened : IsPlaced specs (map zeros_of specs) (map unused_at (extents_from 0 specs))
+  IsPlaced-opened = record { filled = zeros_long specs; laid = map-map extent_of unused_at (extents_from 0 specs) ∙ map-id (extents_from 0 specs) }
+    where
+      zeros_long : (cs : List ClassSpec) → map length (map zeros_of cs) ≡ map (λ c. c.size * c.count) cs
+      zeros_long [] = refl
+      zeros_long (c ∷ cs) = λ i. length-replicate {A = ℕ} (c.size * c.count) 0 i ∷ zeros_long cs i

@@ -1,7 +1,7 @@
 -- A data block is taken, gets or loses a reference, or is written to: what still holds, and the fewest that were free.
 use Rattle.std.proofs.Common.{◌≡◌, ◌≢◌, ℕ, ◌+◌, ◌-◌, ◌<◌, ◌≤◌, true, false, ◌&&◌, ◌==◌, List, [], ◌∷◌, length, get_or, set, drop, Ok, refl, sym, ap, ◌∙◌, inl, inr, subst, arith, if◌then◌else◌, length-set, get_or-set_same, get_or-set_other, count_by, suc, zero, min, map}
 use Rattle.std.specs.Prelude.{nat_lt}
-use Rattle.std.specs.List.{zip, range_with_len}
+use Rattle.std.specs.List.{zip}
 use Rattle.std.proofs.lemmas.Bool.{cases_eq, cases_lt, cond-true, cond-false, cond_both, eq-eqb, ne_eqb, lt-ltb, and_left, and_right, and_parts, ltb-true, eqb-true}
 use Rattle.std.proofs.lemmas.List.{length-map, set_past, set-get_or}
 use Rattle.std.proofs.lemmas.Slice.Zip.{length-zip}
@@ -14,7 +14,7 @@ use Rattle.strm_data.specs.DataStore.{class_infos, times, DataBlock, no_data_blo
 use Rattle.strm_data.specs.Classes.{are_lawful}
 use Rattle.strm_data.specs.Limits.{most_data_block_bytes, most_references}
 use Rattle.strm_data.specs.declared.class_spec.ClassSpec.{ClassSpec}
-use Rattle.strm_data.proofs.Lists.{tabulated-get_or}
+use Rattle.strm_data.proofs.Lists.{map-get_or}
 use Rattle.strm_data.proofs.store.Lawful.{lawful_size}
 
 -- ---- a data block is taken, gets or loses a reference, or is written to: `IsKept` still holds
@@ -85,7 +85,7 @@ module _ (s : CountedStore) (kept : IsKept s) where
             (λ _. listed_once c d)
             (λ differs. omega (arith, unlisted c d (and_right (nat_lt d (length bs)) _ (and_left _ _ differs)))))
             (listed_within c),
-        ap (count_by (λ (b : DataBlock). b.class == c)) (tabulated-get_or bs no_data_block),
+        ap (count_by (λ (b : DataBlock). b.class == c)) (map-get_or bs no_data_block),
       )
 
   -- and no more than the class says

@@ -17,7 +17,7 @@ use Rattle.strm_links.proofs.lists.Counting.{times-range_with_len}
 abbrev pub blocks_from : ℕ → List ClassSpec → List DataBlock
 blocks_from n cs = flat_map (λ p. replicate p.1.count (fresh_data_block p.0 p.1)) (enumerate_from n cs)
 
-total_of-cons : (c : ClassSpec) (cs : List ClassSpec) → total_of (c ∷ cs) ≡ c.count + total_of cs
+pub total_of-cons : (c : ClassSpec) (cs : List ClassSpec) → total_of (c ∷ cs) ≡ c.count + total_of cs
 total_of-cons c cs = sum_by-cons (λ (x : ClassSpec). x.count) c cs
 
 pub length-blocks_from : (n : ℕ) (cs : List ClassSpec) → length (blocks_from n cs) ≡ total_of cs

@@ -5,7 +5,7 @@ ghost use Rattle.strm_data.specs.CountedStore.{IsKept};
 ghost use Rattle.strm_data.specs.DataStore.{bytes_at, bytes_overwritten, capacity_of, class_region, with_bytes_written};
 ghost use Rattle.strm_data.specs.Lending.{Edits};
 
-use super::{Data, DataNo, place_of};
+use super::{Data, DataNo};
 
 // Lends `len` bytes of a region, from place `at` on.
 fn part_of(region: &[u8], at: usize, len: usize) -> &[u8]
@@ -33,7 +33,7 @@ impl Data {
         requires room { at + len ≤ capacity_of self.now.store number }
         ensures { result.now ≡ bytes_at number at len self.now.store }
     {
-        let place = place_of(&self.classes, &self.blocks, number, at);
+        let place = self.blocks.load(number).region_place(at);
         part_of(&self.regions[place.class], place.start, len)
     }
 
@@ -62,7 +62,7 @@ impl Data {
             (λ bytes. self.new ≡ record self.old { store = with_bytes_written number at bytes self.old.store }) }
         ensures kept { IsKept self.new }
     {
-        let place = place_of(&self.classes, &self.blocks, number, at);
+        let place = self.blocks.load(number).region_place(at);
         edit_part(&mut self.regions[place.class], place.start, len, change)
     }
 

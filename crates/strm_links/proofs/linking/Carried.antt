@@ -32,21 +32,22 @@ module _ {L T : Type 0} (nodes : List (Node L T)) (k : ℕ) (old : Node L T) (pl
   pub carried-set : old ≡ get_or nodes k old → carried_by (set nodes k (record old { place = place })) ≡ carried_by nodes
   carried-set read = map-set_same (λ (y : Node L T). (y.link, y.load)) nodes k (record old { place = place }) old (ap (λ (y : Node L T). (y.link, y.load)) read)
 
--- ---- nodes that are all alike
+-- ---- items that are all alike
 
 pub alike : {X Y : Type 0} (f : X → Y) (n : ℕ) (x : X) → map f (replicate n x) ≡ replicate n (f x)
 alike f zero x = refl
 alike f (suc n) x = ap (λ ys. f x ∷ ys) (alike f n x)
 
-module _ {L T : Type 0} (n m : ℕ) (items old : List (Node L T)) (x : Node L T) (place : Place) (is : items ≡ take n old ++ replicate (n - m) x) (none : old ≡ []) (zero_len : m ≡ 0) where
-  all_alike : items ≡ replicate n x
-  all_alike =
-      let all : n - m ≡ n = omega arith in
-      is ∙ (λ i. take n (none i) ++ replicate (all i) x) ∙ ap (λ ys. ys ++ replicate n x) (take-nil n)
+-- once none became n
+pub all_alike : {X Y : Type 0} (f : X → Y) (n m : ℕ) (items old : List X) (x : X) → items ≡ take n old ++ replicate (n - m) x → old ≡ [] → m ≡ 0 → map f items ≡ replicate n (f x)
+all_alike f n m items old x is none zero_len =
+    let all : n - m ≡ n = omega arith in
+    ap (map f) (is ∙ (λ i. take n (none i) ++ replicate (all i) x) ∙ ap (λ ys. ys ++ replicate n x) (take-nil n)) ∙ alike f n x
 
-  -- their places, and what they carry
-  pub places_alike : x.place ≡ place → places_of items ≡ replicate n place
-  places_alike same = ap places_of all_alike ∙ alike (λ (y : Node L T). y.place) n x ∙ ap (replicate n) same
+-- nodes, by their places, and by what they carry
+module _ {L T : Type 0} (n m : ℕ) (items old : List (Node L T)) (x : Node L T) (is : items ≡ take n old ++ replicate (n - m) x) (none : old ≡ []) (zero_len : m ≡ 0) where
+  pub places_alike : places_of items ≡ replicate n x.place
+  places_alike = all_alike (λ (y : Node L T). y.place) n m items old x is none zero_len
 
   pub carried_alike : carried_by items ≡ replicate n (x.link, x.load)
-  carried_alike = ap carried_by all_alike ∙ alike (λ (y : Node L T). (y.link, y.load)) n x
+  carried_alike = all_alike (λ (y : Node L T). (y.link, y.load)) n m items old x is none zero_len

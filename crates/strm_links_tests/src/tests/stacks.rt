@@ -15,28 +15,29 @@ const LISTS: u32 = 7;
 // The same stacks twice: as `Stacks`, and as plain lists that end with the front.
 #[derive(Drop)]
 struct Twin {
-    stacks: Stacks,
+    stacks: Stacks<u32>,
     plain: Plain,
     lists: u32,
-    ghost list_count: { length stacks.lists ≡ lists },
+    ghost list_count: { length stacks.rows.lists ≡ lists },
 }
 
-// Makes stacks, with the nodes put on them in turn.
-fn dealt(alloc: Global) -> Result<Stacks, AllocError>
-    ensures { IfOk result (λ s. length s.lists ≡ 7) }
+// Makes stacks, with the nodes put on them in turn. The load of each node is its number.
+fn dealt(alloc: Global) -> Result<Stacks<u32>, AllocError>
+    ensures { IfOk result (λ s. length s.rows.lists ≡ 7) }
 {
-    let mut stacks = Stacks::new(alloc, NODES, LISTS)?;
+    let mut stacks = Stacks::new(alloc, NODES, LISTS, 0)?;
     for node in 0..NODES {
+        stacks.set_load(node, node);
         stacks.push_front(node % LISTS, node);
     }
     Ok(stacks)
 }
 
 // Makes two stacks over four nodes, one of which is free.
-fn stacked(alloc: Global) -> Result<Stacks, AllocError>
-    ensures { IfOk result (λ s. length s.lists ≡ 2) }
+fn stacked(alloc: Global) -> Result<Stacks<u32>, AllocError>
+    ensures { IfOk result (λ s. length s.rows.lists ≡ 2) }
 {
-    let mut stacks = Stacks::new(alloc, 4, 2)?;
+    let mut stacks = Stacks::new(alloc, 4, 2, 7)?;
     stacks.push_front(0, 1);
     stacks.push_front(0, 3);
     stacks.push_front(1, 0);
@@ -72,8 +73,8 @@ impl Twin {
 
     // Removes the front of a stack.
     fn pop_front(&mut self, rt: &impl Abort, list: u32) -> Option<u32>
-        ensures range { IfSome result (λ node. node < self.new.stacks.nodes) }
-        ensures freed { IfSome result (λ node. holder node self.new.stacks ≡ None) }
+        ensures range { IfSome result (λ node. node < self.new.stacks.rows.nodes) }
+        ensures freed { IfSome result (λ node. holder node self.new.stacks.rows ≡ None) }
     {
         assert!(rt; list < self.lists);
         let node = self.stacks.pop_front(list);
@@ -93,12 +94,14 @@ impl Twin {
         }
     }
 
-    // Removes all nodes of a stack.
+    // Removes all nodes of a stack. The load of each is its number.
     fn drain(&mut self, rt: &impl Abort, list: u32) {
         assert!(rt; list < self.lists);
         for _ in 0..self.stacks.len(list) {
             let node = self.stacks.take_front(list);
             assert!(rt; self.plain.pop(rt, list) == Some(node));
+            assert!(rt; (node as usize) < self.stacks.node_count());
+            assert!(rt; *self.stacks.load(node) == node);
         }
         self.compare(rt, list);
     }
@@ -134,6 +137,9 @@ fn worked_rows(rt: HostRuntime) {
     twin.assert_top(&rt, 0, (None, 0));
     twin.assert_popped(&rt, 1, Some(3));
     twin.assert_top(&rt, 1, (Some(0), 1));
+    assert!(rt; twin.stacks.node_count() == 4);
+    twin.stacks.set_load(2, 40);
+    assert!(rt; *twin.stacks.load(2) == 40 && *twin.stacks.load(3) == 7);
 }
 
 #[test]

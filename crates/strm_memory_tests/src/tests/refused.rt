@@ -64,7 +64,7 @@ fn links(rt: &(impl Abort + Print), alloc: Global) {
 
 // A node goes onto one of two stacks.
 fn stacks(rt: &(impl Abort + Print), alloc: Global) {
-    let mut stacks = made!(rt, AllocError, Stacks::new, alloc, 4, 2);
+    let mut stacks = made!(rt, AllocError, Stacks::new, alloc, 4, 2, 7);
     stacks.push_front(1, 3);
     assert!(rt; stacks.front(0).is_none() && stacks.front(1) == Some(3));
 }

@@ -2,13 +2,13 @@ use Rattle.std.proofs.Common.{◌≡◌, ◌+◌, ◌-◌, ◌<◌, ◌∷◌, �
 use Rattle.std.proofs.lemmas.List.{drop_more, length-map, length-take-le, map_push, set-append_right, take_more}
 use Rattle.strm_data.specs.declared.data.Class.{Class}
 use Rattle.strm_data.specs.DataLayout.{no_class}
-use Rattle.strm_data.proofs.layout.Least.{AreAlike-noted, least_noted}
+use Rattle.strm_data.proofs.layout.Taking.{least_noted, specs_noted}
 use Rattle.strm_data.proofs.data.reset.Goals as goal
 
 pub loop-number-preserved : goal.loop-number-preserved
 loop-number-preserved c =
     let old = map (λ (k : Class). k.least) c.args.classes.now in
-    let lists = c.args.free.now.lists in
+    let lists = c.args.blocks.now.rows.lists in
     let now = c.loop-number.classes in
     let i = c.loop-number.number in
     let many : length now ≡ length c.args.classes.now =
@@ -24,10 +24,8 @@ loop-number-preserved c =
     let k = get_or now i no_class in
     let front = map length (take i lists) in
     let long : length front ≡ i = length-map (take i lists) length ∙ length-take-le i lists (omega arith) in
-    let alike = AreAlike-noted now i k refl c.len.result in
     record {
-      specs = alike.specs ∙ c.loop-number.invariant.specs;
-      firsts = alike.firsts ∙ c.loop-number.invariant.firsts;
+      specs = specs_noted now i k refl c.len.result ∙ c.loop-number.invariant.specs;
       least =
           least_noted now i k refl c.len.result ∙ ap (λ ns. set ns i c.len.result) c.loop-number.invariant.least
           ∙ set-append_right front (drop i old) i i c.len.result long (omega arith)

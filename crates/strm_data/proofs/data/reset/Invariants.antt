@@ -5,6 +5,5 @@ use Rattle.strm_data.proofs.data.reset.Given as goal
 abbrev pub invariant-loop-number : goal.invariant-loop-number
 invariant-loop-number l = record {
   specs : map (λ k. k.spec) l.classes ≡ map (λ k. k.spec) l.initial.classes;
-  firsts : map (λ k. k.first) l.classes ≡ map (λ k. k.first) l.initial.classes;
-  least : map (λ k. k.least) l.classes ≡ map length (take l.number l.free.lists) ++ drop l.number (map (λ k. k.least) l.initial.classes);
+  least : map (λ k. k.least) l.classes ≡ map length (take l.number l.blocks.rows.lists) ++ drop l.number (map (λ k. k.least) l.initial.classes);
 }

@@ -2,21 +2,15 @@ use Rattle.std.proofs.Common.{◌≡◌, ℕ, ◌+◌, ◌≤◌, List, Vec, Glo
 use Rattle.std.specs.Vec.{with_items}
 use Rattle.std.proofs.lemmas.List.{with_items_is}
 use Rattle.strm_data.specs.CountedStore.{IsKept}
-use Rattle.strm_data.specs.DataLayout.{bytes_of, store_of_parts, region_at, IsPlaced}
+use Rattle.strm_data.specs.DataLayout.{bytes_of, store_of, store_of_parts, region_at, IsPlaced}
 use Rattle.strm_data.specs.DataStore.{capacity_of, data_block_at, bytes_overwritten, with_bytes_written}
-use Rattle.strm_data.proofs.layout.Copying.{IsPlaceOf, in_region, overwrites, part_is, IsPlaced-overwrites}
+use Rattle.strm_data.proofs.layout.Copying.{in_region, overwrites, part_is, IsPlaced-overwrites}
 use Rattle.strm_data.proofs.store.Kept.{IsKept-altered, capacity_range}
 use Rattle.strm_data.proofs.Lists.{length-overwritten, length-part}
 use Rattle.strm_data.proofs.data.Data.copy.Goals as goal
 use Rattle.strm_data.proofs.data.Data.copy.Goals.{After-deref_mut}
 
 module _ (c : After-deref_mut) where
-  source : IsPlaceOf c.self.inside c.args.from c.args.at c.place_of-source.result
-  source = record { class = cc; start = cc }
-
-  target : IsPlaceOf c.self.inside c.args.into c.args.to c.place_of-target.result
-  target = record { class = cc; start = cc }
-
   -- the bytes that are copied
   abbrev bytes : List ℕ
   bytes = take c.args.len (drop c.args.at (data_block_at c.args.self.now.store c.args.from).bytes)
@@ -26,15 +20,15 @@ module _ (c : After-deref_mut) where
 
 pub copy_bytes-requires-clause-low : goal.copy_bytes-requires-clause-low
 copy_bytes-requires-clause-low c =
-    omega (arith, c.place_of-source.ensures.low, c.requires.there, (capacity_range c.args.self.now c.args.from (subst IsKept c.self.view_is c.self.invariant.kept) c.requires.from).1)
+    omega (arith, c.region_place-source.ensures.low, c.requires.there, (capacity_range c.args.self.now c.args.from (subst IsKept c.self.view_is c.self.invariant.kept) c.requires.from).1)
 
 pub copy_bytes-requires-clause-there : goal.copy_bytes-requires-clause-there
 copy_bytes-requires-clause-there c =
     let at = (goal.at.copy_bytes-requires-clause-there c).After-deref_mut in
     omega (
       arith,
-      ap (λ rs. length (region_at (bytes_of rs) c.place_of-source.result.class)) c.deref_mut.ensures.value,
-      in_region c.self.inside c.args.self.now c.self.view_is c.self.invariant c.args.from c.requires.from c.args.at _ (source at) c.args.len c.requires.there,
+      ap (λ rs. length (region_at (bytes_of rs) c.region_place-source.result.class)) c.deref_mut.ensures.value,
+      in_region c.self.inside c.args.self.now c.self.view_is c.self.invariant c.args.from c.requires.from c.load.result.now c.load.ensures c.args.at _ c.region_place-source.ensures.place c.args.len c.requires.there,
     )
 
 pub copy_bytes-requires-clause-room : goal.copy_bytes-requires-clause-room
@@ -42,8 +36,8 @@ copy_bytes-requires-clause-room c =
     let at = (goal.at.copy_bytes-requires-clause-room c).After-deref_mut in
     omega (
       arith,
-      ap (λ rs. length (region_at (bytes_of rs) c.place_of-target.result.class)) c.deref_mut.ensures.value,
-      in_region c.self.inside c.args.self.now c.self.view_is c.self.invariant c.args.into c.requires.into c.args.to _ (target at) c.args.len c.requires.room,
+      ap (λ rs. length (region_at (bytes_of rs) c.region_place-target.result.class)) c.deref_mut.ensures.value,
+      in_region c.self.inside c.args.self.now c.self.view_is c.self.invariant c.args.into c.requires.into c.load-2.result.now c.load-2.ensures c.args.to _ c.region_place-target.ensures.place c.args.len c.requires.room,
     )
 
 module _ (c : After-deref_mut) where
@@ -55,28 +49,28 @@ module _ (c : After-deref_mut) where
 
   -- the regions then
   module _ (new : List (Vec ℕ Global)) (many : length new ≡ length c.deref_mut.result.now)
-      (is : bytes_of new ≡ set (bytes_of c.deref_mut.result.now) c.place_of-target.result.class
-      (bytes_overwritten c.place_of-target.result.start (take c.args.len (drop c.place_of-source.result.start (region_at (bytes_of c.deref_mut.result.now) c.place_of-source.result.class)))
-      (region_at (bytes_of c.deref_mut.result.now) c.place_of-target.result.class))) where
+      (is : bytes_of new ≡ set (bytes_of c.deref_mut.result.now) c.region_place-target.result.class
+      (bytes_overwritten c.region_place-target.result.start (take c.args.len (drop c.region_place-source.result.start (region_at (bytes_of c.deref_mut.result.now) c.region_place-source.result.class)))
+      (region_at (bytes_of c.deref_mut.result.now) c.region_place-target.result.class))) where
     regions_are : bytes_of (with_items c.self.inside.regions new).items
-        ≡ set regions c.place_of-target.result.class (bytes_overwritten c.place_of-target.result.start (bytes c) (region_at regions c.place_of-target.result.class))
+        ≡ set regions c.region_place-target.result.class (bytes_overwritten c.region_place-target.result.start (bytes c) (region_at regions c.region_place-target.result.class))
     regions_are =
         ap bytes_of (with_items_is c.self.inside.regions new (many ∙ c.deref_mut.ensures.len)) ∙ is
-        ∙ ap (λ rs. set (bytes_of rs) c.place_of-target.result.class
-        (bytes_overwritten c.place_of-target.result.start (take c.args.len (drop c.place_of-source.result.start (region_at (bytes_of rs) c.place_of-source.result.class))) (region_at (bytes_of rs) c.place_of-target.result.class)))
+        ∙ ap (λ rs. set (bytes_of rs) c.region_place-target.result.class
+        (bytes_overwritten c.region_place-target.result.start (take c.args.len (drop c.region_place-source.result.start (region_at (bytes_of rs) c.region_place-source.result.class))) (region_at (bytes_of rs) c.region_place-target.result.class)))
         c.deref_mut.ensures.value
-        ∙ ap (λ bs. set regions c.place_of-target.result.class (bytes_overwritten c.place_of-target.result.start bs (region_at regions c.place_of-target.result.class)))
-        (part_is c.self.inside c.args.self.now c.self.view_is c.self.invariant c.args.from c.requires.from c.args.at _ (source c) c.args.len c.requires.there)
+        ∙ ap (λ bs. set regions c.region_place-target.result.class (bytes_overwritten c.region_place-target.result.start bs (region_at regions c.region_place-target.result.class)))
+        (part_is c.self.inside c.args.self.now c.self.view_is c.self.invariant c.args.from c.requires.from c.load.result.now c.load.ensures c.args.at _ c.region_place-source.ensures.place c.args.len c.requires.there)
 
-    copied : store_of_parts c.self.inside.classes.items (bytes_of (with_items c.self.inside.regions new).items) c.self.inside.blocks.items c.self.inside.free.lists
+    copied : store_of_parts c.self.inside.classes.items (bytes_of (with_items c.self.inside.regions new).items) c.self.inside.blocks.loads c.self.inside.blocks.rows.lists
         ≡ record c.args.self.now { store = with_bytes_written c.args.into c.args.to (bytes c) c.args.self.now.store }
     copied =
-        cc (regions_are, overwrites c.self.inside c.args.self.now c.self.view_is c.self.invariant c.args.into c.requires.into c.args.to _ (target c) (bytes c) room)
+        cc (regions_are, overwrites c.self.inside c.args.self.now c.self.view_is c.self.invariant c.args.into c.requires.into c.load-2.result.now c.load-2.ensures c.args.to _ c.region_place-target.ensures.place (bytes c) room)
 
-    placed : IsPlaced c.self.inside.classes.items (bytes_of (with_items c.self.inside.regions new).items) c.self.inside.blocks.items
+    placed : IsPlaced (store_of c.self.inside).store.classes (bytes_of (with_items c.self.inside.regions new).items) c.self.inside.blocks.loads
     placed =
-        subst (λ rs. IsPlaced c.self.inside.classes.items rs c.self.inside.blocks.items) (sym regions_are)
-        (IsPlaced-overwrites c.self.inside c.args.self.now c.self.view_is c.self.invariant c.args.into c.requires.into c.args.to _ (target c) (bytes c) room)
+        subst (λ rs. IsPlaced (store_of c.self.inside).store.classes rs c.self.inside.blocks.loads) (sym regions_are)
+        (IsPlaced-overwrites c.self.inside c.args.self.now c.self.view_is c.self.invariant c.args.into c.requires.into c.load-2.result.now c.load-2.ensures c.args.to _ c.region_place-target.ensures.place (bytes c) room)
 
 pub returns-clause-after : goal.returns-clause-after
 returns-clause-after c = copied (goal.at.returns-clause-after c).After-deref_mut c.copy_bytes.new.regions c.copy_bytes.auto.regions c.copy_bytes.ensures

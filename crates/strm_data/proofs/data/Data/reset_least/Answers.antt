@@ -1,11 +1,10 @@
-use Rattle.std.proofs.Common.{◌≡◌, List, ℕ, arith, length, map, sym, ap, ◌∙◌, subst}
+use Rattle.std.proofs.Common.{◌≡◌, List, ℕ, map, sym, ap, ◌∙◌, subst}
 use Rattle.std.specs.Vec.{with_items}
-use Rattle.std.proofs.lemmas.List.{length-map, with_items_is}
+use Rattle.std.proofs.lemmas.List.{with_items_is}
 use Rattle.strm_data.specs.declared.data.Class.{Class}
 use Rattle.strm_data.specs.CountedStore.{CountedStore, IsKept}
 use Rattle.strm_data.specs.DataLayout.{bytes_of, store_of, store_of_parts, IsPlaced}
 use Rattle.strm_data.specs.DataStore.{IsLeast, with_data_reset}
-use Rattle.strm_data.proofs.layout.Least.{AreAlike, free_limited, IsPlaced-alike, seen_alike}
 use Rattle.strm_data.proofs.store.Kept.{IsKept-least, IsLeast-reset}
 use Rattle.strm_data.proofs.data.Data.reset_least.Goals as goal
 use Rattle.strm_data.proofs.data.Data.reset_least.Goals.{After-reset}
@@ -20,18 +19,14 @@ module _ (c : After-reset) where
   is : (with_items c.self.inside.classes now).items ≡ now
   is = with_items_is c.self.inside.classes now (c.reset.auto.classes ∙ c.deref_mut.ensures.len)
 
-  alike : AreAlike now c.self.inside.classes.items
-  alike = record {
-    specs = c.reset.ensures.specs ∙ ap (map (λ (k : Class). k.spec)) c.deref_mut.ensures.value;
-    firsts = c.reset.ensures.firsts ∙ ap (map (λ (k : Class). k.first)) c.deref_mut.ensures.value;
-  }
+  specs : map (λ (k : Class). k.spec) now ≡ map (λ (k : Class). k.spec) c.self.inside.classes.items
+  specs = c.reset.ensures.specs ∙ ap (map (λ (k : Class). k.spec)) c.deref_mut.ensures.value
 
-  after : store_of_parts (with_items c.self.inside.classes now).items regions c.self.inside.blocks.items c.self.inside.free.lists
+  after : store_of_parts (with_items c.self.inside.classes now).items regions c.self.inside.blocks.loads c.self.inside.blocks.rows.lists
       ≡ record c.args.self.now { store = with_data_reset c.args.self.now.store }
   after =
-      ap (λ ks. store_of_parts ks regions c.self.inside.blocks.items c.self.inside.free.lists) is
-      ∙ seen_alike now c.self.inside.classes.items alike regions c.self.inside.blocks.items c.self.inside.free.lists
-      ∙ ap (λ ns. record (store_of c.self.inside) { store = record (store_of c.self.inside).store { least = ns } }) c.reset.ensures.least
+      ap (λ ks. store_of_parts ks regions c.self.inside.blocks.loads c.self.inside.blocks.rows.lists) is
+      ∙ (λ i. record (store_of c.self.inside) { store = record (store_of c.self.inside).store { classes = specs i; least = c.reset.ensures.least i } })
       ∙ ap (λ (s : CountedStore). record s { store = with_data_reset s.store }) c.self.view_is
 
   kept_before : IsKept c.args.self.now
@@ -40,14 +35,8 @@ module _ (c : After-reset) where
   kept : IsKept (record c.args.self.now { store = with_data_reset c.args.self.now.store })
   kept = IsKept-least c.args.self.now (with_data_reset c.args.self.now.store).least kept_before
 
-  placed : IsPlaced (with_items c.self.inside.classes now).items regions c.self.inside.blocks.items
-  placed = subst (λ ks. IsPlaced ks regions c.self.inside.blocks.items) (sym is) (IsPlaced-alike now c.self.inside.classes.items alike regions c.self.inside.blocks.items c.self.invariant.placed)
-
--- no class has more free data blocks than there are
-pub reset-requires-clause-short : goal.reset-requires-clause-short
-reset-requires-clause-short c k within =
-    let s = store_of c.self.inside in
-    free_limited s c.self.invariant.kept k (omega (arith, within, length-map c.self.inside.classes.items (λ (x : Class). x.spec), ap length c.deref_mut.ensures.value))
+  placed : IsPlaced (map (λ (k : Class). k.spec) (with_items c.self.inside.classes now).items) regions c.self.inside.blocks.loads
+  placed = subst (λ ss. IsPlaced ss regions c.self.inside.blocks.loads) (sym (ap (map (λ (k : Class). k.spec)) is ∙ specs)) c.self.invariant.placed
 
 pub returns-clause-after : goal.returns-clause-after
 returns-clause-after c = after (goal.at.returns-clause-after c).After-reset

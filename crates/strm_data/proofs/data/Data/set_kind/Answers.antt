@@ -1,11 +1,13 @@
-use Rattle.std.proofs.Common.{refl, sym, subst}
+use Rattle.std.proofs.Common.{refl, sym, ap, subst}
+use Rattle.strm_links.specs.Rows.{Rows}
 use Rattle.strm_data.specs.CountedStore.{IsKept}
 use Rattle.strm_data.proofs.layout.Alterations.{retyped, IsSound-altered}
 use Rattle.strm_data.proofs.store.Kept.{IsKept-altered}
 use Rattle.strm_data.proofs.data.Data.set_kind.Goals as goal
 
 pub returns-clause-after : goal.returns-clause-after
-returns-clause-after c = retyped c.self.inside _ c.self.view_is c.self.invariant c.args.number c.requires c.index_mut.result.now c.index_mut.ensures.value c.args.kind
+returns-clause-after c =
+    retyped c.self.inside _ c.self.view_is c.args.number c.load-block.result.now c.load-block.ensures c.set_load.new.self c.args.kind c.set_load.ensures.rows c.set_load.ensures.loads
 
 pub returns-clause-kept : goal.returns-clause-kept
 returns-clause-kept c =
@@ -14,5 +16,6 @@ returns-clause-kept c =
 
 pub invariant_of-self : goal.invariant_of-self
 invariant_of-self c =
-    IsSound-altered c.self.inside _ c.self.view_is c.self.invariant c.args.number c.requires c.index_mut.result.now c.index_mut.ensures.value _ refl c.self.inside.free refl (returns-clause-kept c)
-    (record { each = c.self.invariant.least.each; fewest = c.self.invariant.least.fewest })
+    IsSound-altered c.self.inside _ c.self.view_is c.args.number c.load-block.result.now c.load-block.ensures _ refl c.set_load.new.self c.set_load.ensures.loads c.self.invariant
+    (ap (λ (r : Rows). r.nodes) c.set_load.ensures.rows) (returns-clause-kept c)
+    (rw c.set_load.ensures.rows (record { each = c.self.invariant.least.each; fewest = c.self.invariant.least.fewest }))

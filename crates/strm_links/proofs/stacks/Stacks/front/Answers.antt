@@ -4,7 +4,7 @@ use Rattle.strm_links.proofs.Stacked.{here, IsSound-rows, front_holder, front_wi
 use Rattle.strm_links.proofs.stacks.Stacks.front.Goals as goal
 
 pub returns : goal.returns
-returns c =
+returns g c =
     let sound = IsSound-rows _ _ _ c.self.view_is c.self.invariant in
     record {
       value = c.get.ensures ∙ (here _ _ _ sound c.args.list c.requires _ c.index.ensures).front;
