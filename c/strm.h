@@ -233,8 +233,8 @@ extern "C" {
 #endif
 
 /* The version of this header, as a text and as a number. */
-#define STRM_VERSION "0.11.0"
-#define STRM_VERSION_NUMBER 11000
+#define STRM_VERSION "0.12.0"
+#define STRM_VERSION_NUMBER 12000
 
 enum {
 	STRM_OK = 0,			/* done */

@@ -108,7 +108,7 @@ abbrev pub text_at : ℤ → List ℕ
 text_at n = if int_eq n (pos 0) then codes "done" else option_map_or text_of (code_at n) no_text
 
 abbrev pub version : List ℕ
-version = codes "0.11.0"
+version = codes "0.12.0"
 
 -- a buffer after as much of a text as fits was copied into it
 abbrev pub buffer_with_text : List ℕ → List ℕ → List ℕ

@@ -213,5 +213,5 @@ pub extern "C" fn strm_c_version(text: &mut [u8]) -> usize
     ensures length { result ≡ length version }
     ensures text { text.new ≡ buffer_with_text version text.old }
 {
-    copy("0.11.0", text)
+    copy("0.12.0", text)
 }

@@ -17,7 +17,7 @@ strm [OPTIONS] <SCRIPT
 The script comes from standard input: strm <mine.strm";
 
 // The version, as the file VERSION has it.
-const VERSION: &str = "0.11.0";
+const VERSION: &str = "0.12.0";
 
 // What the help says after the options.
 const AFTER_OPTIONS: &str = "\
