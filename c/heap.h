@@ -44,7 +44,7 @@ void strm_region_left(struct strm_region *region);
 void **strm_opening(void);
 
 /* The bytes that a region needs beside those of its pieces. */
-size_t strm_region_more(const struct strm_config *config);
+size_t strm_region_more(void);
 
 #pragma GCC visibility pop
 

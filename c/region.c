@@ -4,15 +4,13 @@
  */
 #include "heap.h"
 
-/* The pieces of a pool, beside one for the bytes of each size class. */
+/* The pieces of a pool. One has the bytes of data blocks. */
 #define PIECES 11
 
-size_t strm_region_more(const struct strm_config *config)
+size_t strm_region_more(void)
 {
-	size_t lines = config->class_count, pieces = PIECES + lines;
-
-	return sizeof(struct strm_region) + pieces * (sizeof(struct strm_region *) + STRM_OF_OTHERS)
-		+ lines * (STRM_OF_BYTES - STRM_OF_OTHERS);
+	return sizeof(struct strm_region) + PIECES * (sizeof(struct strm_region *) + STRM_OF_OTHERS)
+		+ STRM_OF_BYTES - STRM_OF_OTHERS;
 }
 
 int strm_region_begin(const struct strm_allocator *allocator, size_t size)

@@ -161,7 +161,7 @@ int strm_memory(const struct strm_config *config, size_t *bytes)
 	code = strm_c_memory(config->id, config->mblks, classes_of(config), config->class_count, queues_of(config),
 		config->queue_count, config->bufcalls, config->first_id, bytes);
 	if (code == STRM_OK)
-		*bytes += strm_region_more(config);
+		*bytes += strm_region_more();
 	return code;
 }
 

@@ -183,9 +183,9 @@ static void open_watched(const struct strm_config *config, struct arena *arena)
 	ANSWERS(strm_memory(config, &bytes), STRM_OK);
 	ANSWERS(strm_open_with(&pool, config, &allocator), STRM_OK);
 	CHECK(arena->asked_bytes == bytes && arena->kept == 1);
-	CHECK(pieces_bytes() + strm_region_more(config) == bytes);
-	CHECK(strm_region_more(config) == sizeof(struct strm_region) + (size_t)asked * (sizeof(struct strm_region *) + STRM_OF_OTHERS)
-		+ config->class_count * (STRM_OF_BYTES - STRM_OF_OTHERS));
+	CHECK(pieces_bytes() + strm_region_more() == bytes);
+	CHECK(strm_region_more() == sizeof(struct strm_region) + (size_t)asked * (sizeof(struct strm_region *) + STRM_OF_OTHERS)
+		+ STRM_OF_BYTES - STRM_OF_OTHERS);
 	watched = 0;
 	ANSWERS(strm_freemsg(&pool, message(&pool, "strm")), STRM_OK);
 	watched = 1;

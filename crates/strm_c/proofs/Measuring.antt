@@ -1,22 +1,22 @@
 -- The bytes of lawful size classes are few.
 use Rattle.std.proofs.Common.{ℕ, ◌+◌, ◌*◌, ◌≤◌, List, [], ◌∷◌, arith, length}
 use Rattle.std.specs.Prelude.{IsTrue, nat_le, nat_lt, sum_by}
-use Rattle.std.proofs.Math.Nat.{mul-le-mul_left}
+use Rattle.std.proofs.Math.Nat.{div-mul-le_self, mul-le-mul_left}
 use Rattle.std.proofs.lemmas.Bool.{and_parts, leb-true}
 use Rattle.std.proofs.lemmas.List.Sums.{sum_by-cons}
 use Rattle.strm_data.specs.declared.class_spec.ClassSpec.{ClassSpec}
 use Rattle.strm_data.specs.Classes.{are_lawful, each_has_blocks, sizes_rise, total_of}
 use Rattle.strm_data.specs.Limits.{most_classes, most_data_block_bytes, most_data_blocks}
-use Rattle.strm_c.specs.Memory.{bytes_of_class}
+use Rattle.strm_c.specs.Memory.{bytes_of_class, in_lines}
 
-classes_few : (below : ℕ) (cs : List ClassSpec) → IsTrue (sizes_rise below cs) → sum_by bytes_of_class cs ≤ 44 * length cs + 4112 * total_of cs
+classes_few : (below : ℕ) (cs : List ClassSpec) → IsTrue (sizes_rise below cs) → sum_by bytes_of_class cs ≤ 87 * length cs + 4112 * total_of cs
 classes_few below [] rise = omega arith
 classes_few below (c ∷ cs) rise =
     let above = and_parts (nat_lt below c.size) _ rise in
     let within = and_parts (nat_le c.size most_data_block_bytes) _ above.1 in
-    let small : c.size + 16 ≤ 4112 = omega (arith, leb-true c.size most_data_block_bytes within.0) in
-    let times : c.count * (c.size + 16) ≤ c.count * 4112 = mul-le-mul_left c.count small in
-    omega (arith, sum_by-cons bytes_of_class c cs, sum_by-cons (λ (d : ClassSpec). d.count) c cs, times, classes_few c.size cs within.1)
+    let times : c.count * c.size ≤ c.count * 4096 = mul-le-mul_left c.count (leb-true c.size most_data_block_bytes within.0) in
+    let lines : in_lines (c.count * c.size) ≤ c.count * c.size + 63 = div-mul-le_self (c.count * c.size + 63) 64 in
+    omega (arith, sum_by-cons bytes_of_class c cs, sum_by-cons (λ (d : ClassSpec). d.count) c cs, times, lines, classes_few c.size cs within.1)
 
 -- lawful classes take less than 70 MB
 pub lawful_few : (cs : List ClassSpec) → IsTrue (are_lawful cs) → sum_by bytes_of_class cs ≤ 70000000

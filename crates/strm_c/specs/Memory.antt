@@ -1,5 +1,5 @@
 -- The memory that opening a pool allocates. No proof ties these numbers to what the code asks for; a test in C compares them.
-use Rattle.std.specs.Prelude.{ℕ, ◌+◌, ◌*◌, length, Option, None, Some, Ok, Err, sum_by}
+use Rattle.std.specs.Prelude.{ℕ, ◌+◌, ◌*◌, ◌/◌, length, Option, None, Some, Ok, Err, sum_by}
 use Rattle.strm_data.specs.declared.class_spec.ClassSpec.{ClassSpec}
 use Rattle.strm_pool.specs.declared.config.Config.{Config}
 use Rattle.strm_pool.specs.declared.config.Which.{Which}
@@ -7,9 +7,13 @@ use Rattle.strm_pool.specs.Config.{fault_of}
 use Rattle.strm_c.specs.declared.code.Code.TheVariants.{BadArgument, BadConfig}
 use Rattle.strm_c.specs.Codes.{Answer}
 
--- the bytes for a size class: for itself, and for each data block its bytes and 16 more
+-- a number of bytes, made up to a multiple of 64
+abbrev pub in_lines : ℕ → ℕ
+in_lines bytes = (bytes + 63) / 64 * 64
+
+-- the bytes for a size class: for itself, those of its data blocks, made up to a multiple of 64, and 16 for each
 abbrev pub bytes_of_class : ClassSpec → ℕ
-bytes_of_class c = 44 + c.count * (c.size + 16)
+bytes_of_class c = 24 + in_lines (c.count * c.size) + c.count * 16
 
 -- the bytes for a pool: for itself, each message block, each queue, and its size classes
 abbrev pub bytes_of : Config → ℕ

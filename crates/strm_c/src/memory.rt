@@ -3,7 +3,7 @@ ghost use Rattle.std.specs.Prelude.{◌≡◌, ◌≤◌, IsTrue, None, sum_by};
 ghost use Rattle.strm_data.specs.Classes.{are_lawful};
 ghost use Rattle.strm_pool.specs.Config.{fault_of};
 ghost use Rattle.strm_c.specs.Codes.{number_returned, value_written};
-ghost use Rattle.strm_c.specs.Memory.{answer_of_memory, bytes_of, bytes_of_class};
+ghost use Rattle.strm_c.specs.Memory.{answer_of_memory, bytes_of, bytes_of_class, in_lines};
 ghost use Rattle.strm_c.specs.Opening.{config_of};
 
 use crate::answer::put;
@@ -12,16 +12,24 @@ use crate::layout::{StrmClassSpec, StrmQueueSpec};
 use crate::opening::config_of;
 use strm_pool::{ClassSpec, Config};
 
-// The bytes for a pool itself, and for each message block, queue, size class and, beside its own bytes, data block.
+// The bytes for a pool itself, and for each message block, queue, and, beside its own bytes, size class and data block.
 const POOL: usize = 820;
 
 const MESSAGE_BLOCK: usize = 56;
 
 const QUEUE: usize = 5288;
 
-const CLASS: usize = 44;
+const CLASS: usize = 24;
 
 const DATA_BLOCK: usize = 16;
+
+// A number of bytes, made up to a multiple of 64.
+fn in_lines(bytes: usize) -> usize
+    requires { bytes < 2 ^ 32 }
+    ensures { result ≡ in_lines bytes }
+{
+    (bytes + 63) / 64 * 64
+}
 
 // The bytes for these size classes.
 fn bytes_of_classes(classes: &[ClassSpec]) -> usize
@@ -31,7 +39,8 @@ fn bytes_of_classes(classes: &[ClassSpec]) -> usize
 {
     let mut bytes = 0;
     for class in classes {
-        bytes += CLASS + class.count as usize * (class.size as usize + DATA_BLOCK);
+        let own = in_lines(class.count as usize * class.size as usize);
+        bytes += CLASS + own + class.count as usize * DATA_BLOCK;
     }
     bytes
 }

@@ -6,7 +6,7 @@ ghost use Rattle.strm_data.specs.Limits.{most_classes, most_data_block_bytes, mo
 ghost use Rattle.strm_data.specs.declared.msg_type.MsgType.TheVariants.{MData};
 ghost use Rattle.strm_data.specs.Classes.{are_lawful, fits_a_class, total_of};
 ghost use Rattle.strm_data.specs.CountedStore.{count_of, IsInUse, IsKept, IsUnused, opening_counted, after_take, with_reference, without_reference};
-ghost use Rattle.strm_data.specs.DataLayout.{bytes_of, extents_from, extents_in, no_block, region_at, unused_at};
+ghost use Rattle.strm_data.specs.DataLayout.{extents_in, no_block, room_of, unused_at};
 ghost use Rattle.strm_data.specs.DataStore.{capacity_of, data_block_at, class_infos, fits, take_data, with_data_reset, with_kind, with_bytes_copied, with_bytes_written, free_of, numbers_from, bytes_overwritten, IsClassFor, IsLeast, IsTakenFrom};
 
 mod lending;
@@ -35,20 +35,22 @@ pub type DataNo = u32;
 #[derive(Debug, Drop)]
 pub struct Data {
     classes: Vec<Class>,
-    // For each class the bytes of its data blocks, one block after the other.
-    regions: Vec<Vec<u8>>,
+    // The bytes of all data blocks, class by class.
+    bytes: Vec<u8>,
     // The data blocks, and for each class a stack of its free ones.
     blocks: Stacks<DataBlock>,
 }
 
+// A size class. Its data blocks have the bytes from place `start` on, one block after the other.
 #[derive(Clone, Copy, Debug)]
 struct Class {
     spec: ClassSpec,
+    start: u32,
     // The fewest that were free.
     least: u32,
 }
 
-// A data block. In the region of its class it has `size` bytes, from place `start` on.
+// A data block. It has `size` bytes, from place `start` on.
 #[derive(Clone, Copy, Debug)]
 struct DataBlock {
     start: u32,
@@ -59,27 +61,20 @@ struct DataBlock {
     references: u16,
 }
 
-const _: () = prove!(size_of::<Class>() == 12 && size_of::<DataBlock>() == 12);
+const _: () = prove!(size_of::<Class>() == 16 && size_of::<DataBlock>() == 12);
 
-const _: () = prove!(size_of::<Data>() == 96 && size_of::<Vec<u8>>() == 24);
+const _: () = prove!(size_of::<Data>() == 96);
 
-// A place in the region of a class.
-#[derive(Clone, Copy, Debug)]
-struct RegionPlace {
-    class: usize,
-    start: usize,
-}
+// A class begins at a multiple of this: a cache line.
+const LINE: u32 = 64;
 
 impl DataBlock {
     // The place of its byte `at`.
-    fn region_place(self, at: u32) -> RegionPlace
-        ensures place { result ≡ record { class = self.class; start = self.start + at } }
-        ensures low { result.start < 2 ^ 33 }
+    fn place_of(self, at: u32) -> usize
+        ensures place { result ≡ self.start + at }
+        ensures low { result < 2 ^ 33 }
     {
-        RegionPlace {
-            class: usize::from(self.class),
-            start: self.start as usize + at as usize,
-        }
+        self.start as usize + at as usize
     }
 }
 
@@ -129,78 +124,64 @@ fn overwrite(old: &mut [u8], at: usize, new: &[u8])
     old[at..at + new.len()].copy_from_slice(new);
 }
 
-// Copies `len` bytes of a region from one place to another. If the places do not overlap, this is one slice copy, as
-// between two regions. `copy_within` allows overlap, and goes byte by byte.
+// Copies `len` bytes from one place to another. If the places do not overlap, this is one slice copy. `copy_within` allows overlap,
+// and goes byte by byte.
 #[inline(always)]
-fn copy_inside(region: &mut [u8], from: usize, into: usize, len: usize)
-    requires there { from + len ≤ length region.old }
-    requires room { into + len ≤ length region.old }
-    ensures { region.new ≡ bytes_overwritten into (take len (drop from region.old)) region.old }
+fn copy_inside(bytes: &mut [u8], from: usize, into: usize, len: usize)
+    requires there { from + len ≤ length bytes.old }
+    requires room { into + len ≤ length bytes.old }
+    ensures { bytes.new ≡ bytes_overwritten into (take len (drop from bytes.old)) bytes.old }
 {
     if from + len <= into {
-        let (low, high) = region.split_at_mut(into);
+        let (low, high) = bytes.split_at_mut(into);
         overwrite(high, 0, &low[from..from + len]);
     } else if into + len <= from {
-        let (low, high) = region.split_at_mut(from);
+        let (low, high) = bytes.split_at_mut(from);
         overwrite(low, into, &high[..len]);
     } else {
-        region.copy_within(from..from + len, into);
+        bytes.copy_within(from..from + len, into);
     }
 }
 
-// Copies `len` bytes from one place to another, in one region or between two.
-#[inline(always)]
-fn copy_bytes(regions: &mut [Vec<u8>], from: RegionPlace, into: RegionPlace, len: usize)
-    requires from_class { from.class < length regions.old }
-    requires into_class { into.class < length regions.old }
-    requires low { from.start + len < 2 ^ 64 }
-    requires there { from.start + len ≤ length (region_at (bytes_of regions.old) from.class) }
-    requires room { into.start + len ≤ length (region_at (bytes_of regions.old) into.class) }
-    ensures { bytes_of regions.new ≡ slice_set (bytes_of regions.old) into.class
-        (bytes_overwritten into.start (take len (drop from.start (region_at (bytes_of regions.old) from.class)))
-        (region_at (bytes_of regions.old) into.class)) }
+// The first multiple of `LINE` that is not below `end`.
+fn line_after(end: u32) -> u32
+    requires { end < 2 ^ 31 }
+    ensures after { end ≤ result }
+    ensures near { result ≤ end + 63 }
 {
-    let bytes = from.start..from.start + len;
-    if from.class == into.class {
-        copy_inside(&mut regions[into.class], from.start, into.start, len);
-    } else if from.class < into.class {
-        let (low, high) = regions.split_at_mut(into.class);
-        overwrite(&mut high[0], into.start, &low[from.class][bytes]);
-    } else {
-        let (low, high) = regions.split_at_mut(from.class);
-        overwrite(&mut low[into.class], into.start, &high[0][bytes]);
-    }
+    (end + (LINE - 1)) / LINE * LINE
 }
 
-// Lays out the data blocks of a class, from `first` on, one after the other in its region, and puts them into its empty list. The last
-// joins first, so `first` ends up at the front.
-fn fill(blocks: &mut Stacks<DataBlock>, class: u8, spec: ClassSpec, first: u32)
-    requires list { class < length blocks.old.rows.lists }
-    requires empty { list_at class blocks.old.rows ≡ [] }
-    requires nodes { first + spec.count ≤ blocks.old.rows.nodes }
+// Lays out the data blocks of a class, from `first` on, and puts them into its empty list. The last joins first, so `first` ends up at
+// the front.
+fn fill(blocks: &mut Stacks<DataBlock>, number: u8, class: Class, first: u32)
+    requires list { number < length blocks.old.rows.lists }
+    requires empty { list_at number blocks.old.rows ≡ [] }
+    requires nodes { first + class.spec.count ≤ blocks.old.rows.nodes }
     requires most { blocks.old.rows.nodes ≤ most_data_blocks }
     requires loads { length blocks.old.loads ≡ blocks.old.rows.nodes }
-    requires size { spec.size ≤ most_data_block_bytes }
+    requires size { class.spec.size ≤ most_data_block_bytes }
+    requires low { class.start < 2 ^ 31 }
     requires unlinked { (k : ℕ) → first ≤ k → holder k blocks.old.rows ≡ None }
     ensures lists { blocks.new.rows ≡ record blocks.old.rows {
-      lists = slice_set blocks.old.rows.lists class (range_with_len first spec.count);
+      lists = slice_set blocks.old.rows.lists number (range_with_len first class.spec.count);
     } }
     ensures loads { blocks.new.loads ≡ take first blocks.old.loads
-        ++ (map unused_at (extents_in class spec) ++ drop (first + spec.count) blocks.old.loads) }
-    ensures unlinked { (k : ℕ) → first + spec.count ≤ k → holder k blocks.new.rows ≡ None }
+        ++ (map unused_at (extents_in number (room_of class)) ++ drop (first + class.spec.count) blocks.old.loads) }
+    ensures unlinked { (k : ℕ) → first + class.spec.count ≤ k → holder k blocks.new.rows ≡ None }
 {
-    let mut number = first + spec.count;
-    while number > first {
-        number -= 1;
+    let mut at = first + class.spec.count;
+    while at > first {
+        at -= 1;
         let block = DataBlock {
-            start: (number - first) * spec.size,
-            size: spec.size,
-            class,
+            start: class.start + (at - first) * class.spec.size,
+            size: class.spec.size,
+            class: number,
             kind: MsgType::MData,
             references: 0,
         };
-        blocks.set_load(number, block);
-        blocks.push_front(u32::from(class), number);
+        blocks.set_load(at, block);
+        blocks.push_front(u32::from(number), at);
     }
 }
 
@@ -217,26 +198,11 @@ fn no_block() -> DataBlock
     }
 }
 
-// Lays out the data blocks of these classes, and makes for each class a list of its data blocks, in rising order.
-fn lay_out(alloc: Global, specs: &[ClassSpec]) -> Result<Stacks<DataBlock>, AllocError>
-    requires { IsTrue (are_lawful specs.now) }
-    ensures rows { IfOk result (λ s. s.rows ≡ record { nodes = total_of specs.now; lists = numbers_from 0 specs.now }) }
-    ensures loads { IfOk result (λ s. s.loads ≡ map unused_at (extents_from 0 specs.now)) }
-{
-    let mut blocks = Stacks::new(alloc, total_of(specs), specs.len() as u32, no_block())?;
-    let mut first = 0;
-    for (class, spec) in specs.iter().enumerate() {
-        fill(&mut blocks, class as u8, *spec, first);
-        first += spec.count;
-    }
-    Ok(blocks)
-}
-
 // Makes for each class the fewest that were free those that are free now.
 fn reset(classes: &mut [Class], blocks: &Stacks<DataBlock>)
     requires few { length classes.old ≤ most_classes }
     requires lists { length blocks.now.rows.lists ≡ length classes.old }
-    ensures specs { map (λ k. k.spec) classes.new ≡ map (λ k. k.spec) classes.old }
+    ensures rooms { map room_of classes.new ≡ map room_of classes.old }
     ensures least { map (λ k. k.least) classes.new ≡ map length blocks.now.rows.lists }
 {
     for number in 0..classes.len() {
@@ -257,19 +223,24 @@ impl Data {
         ensures opened { IfOk result (λ s. s ≡ opening_counted specs.now) }
         ensures kept { IfOk result IsKept }
     {
-        let blocks = lay_out(alloc, specs)?;
+        let mut blocks = Stacks::new(alloc, total_of(specs), specs.len() as u32, no_block())?;
         let mut classes = Vec::with_capacity(alloc, specs.len())?;
-        let mut regions = Vec::with_capacity(alloc, specs.len())?;
-        for spec in specs {
-            regions.push(vec![in alloc; 0; spec.size as usize * spec.count as usize]?)?;
-            classes.push(Class {
+        let mut first = 0;
+        let mut start = 0;
+        for (number, spec) in specs.iter().enumerate() {
+            let class = Class {
                 spec: *spec,
+                start,
                 least: spec.count,
-            })?;
+            };
+            fill(&mut blocks, number as u8, class, first);
+            classes.push(class)?;
+            first += spec.count;
+            start = line_after(start + spec.size * spec.count);
         }
         Ok(Data {
             classes,
-            regions,
+            bytes: vec![in alloc; 0; start as usize]?,
             blocks,
         })
     }
@@ -447,9 +418,9 @@ impl Data {
         ensures after { self.new ≡ record self.old { store = with_bytes_copied from at into to len self.old.store } }
         ensures kept { IsKept self.new }
     {
-        let source = self.blocks.load(from).region_place(at);
-        let target = self.blocks.load(into).region_place(to);
-        copy_bytes(&mut self.regions, source, target, len as usize);
+        let source = self.blocks.load(from).place_of(at);
+        let target = self.blocks.load(into).place_of(to);
+        copy_inside(&mut self.bytes, source, target, len as usize);
     }
 
     /// Returns the size of a class, the number of its free data blocks and that of all of them, or none if there is no

@@ -1,94 +1,106 @@
--- Where the bytes of data blocks are laid out: within the region of their class, apart, and one data block after the other.
-use Rattle.std.proofs.Common.{◌≡◌, ℕ, zero, suc, ◌+◌, ◌-◌, ◌*◌, ◌<◌, ◌≤◌, List, [], ◌∷◌, ◌++◌, ◌≢◌, length, get_or, map, take, drop, refl, sym, ap, ◌∙◌, subst, inl, inr, arith, if◌then◌else◌, ◌==◌, append_assoc, length-append}
+-- Where the bytes of data blocks are laid out: among the bytes of their class, apart, and one data block after the other.
+use Rattle.std.proofs.Common.{◌≡◌, ℕ, zero, suc, ◌+◌, ◌-◌, ◌*◌, ◌<◌, ◌≤◌, List, [], ◌∷◌, ◌++◌, ◌≢◌, length, get_or, map, take, drop, refl, sym, ap, ◌∙◌, inl, inr, arith, if◌then◌else◌, ◌==◌, append_assoc, length-append}
 use Rattle.std.specs.List.{flat_map, range_with_len}
 use Rattle.std.proofs.lemmas.Bool.{cases_lt, cond-true, cond-false, eq-eqb, ne_eqb}
 use Rattle.std.proofs.lemmas.Grind.{flat_map-append}
-use Rattle.std.proofs.lemmas.List.{append-nil, drop-drop, get_or-append_right, get_or_append_left, take_all}
+use Rattle.std.proofs.lemmas.List.{append-nil, drop-drop, get_or-append_right, get_or_append_left}
 use Rattle.std.proofs.lemmas.List.FromFn.{length-map-range_with_len, get_or-map-range_with_len}
 use Rattle.std.proofs.Math.Nat.{mul-le-mul_right}
 use Rattle.std.proofs.Math.Seq.{take-add}
-use Rattle.strm_data.specs.declared.class_spec.ClassSpec.{ClassSpec}
 use Rattle.strm_data.specs.Classes.{total_of}
-use Rattle.strm_data.specs.DataLayout.{Extent, bytes_in, extent_in, extent_of, extents_from, extents_in, no_block, region_at}
-use Rattle.strm_data.specs.DataStore.{no_class_spec}
+use Rattle.strm_data.specs.DataLayout.{Extent, FitFrom, Room, bytes_in, end_of, extent_in, extent_of, extents_from, extents_in, no_block, no_class, room_of}
 use Rattle.strm_data.proofs.store.Opening.{total_of-cons}
 
--- extent d
+-- extent d, and the room of class k
 abbrev pub extent_at : List Extent → ℕ → Extent
 extent_at es d = get_or es d (extent_of no_block)
 
-pub length-extents_in : (c : ℕ) (spec : ClassSpec) → length (extents_in c spec) ≡ spec.count
-length-extents_in c spec = length-map-range_with_len (extent_in c spec) 0 spec.count
+abbrev pub room_at : List Room → ℕ → Room
+room_at rooms k = get_or rooms k (room_of no_class)
 
-pub length-extents_from : (c : ℕ) (specs : List ClassSpec) → length (extents_from c specs) ≡ total_of specs
+length-extents_in : (c : ℕ) (room : Room) → length (extents_in c room) ≡ room.spec.count
+length-extents_in c room = length-map-range_with_len (extent_in c room) 0 room.spec.count
+
+pub length-extents_from : (c : ℕ) (rooms : List Room) → length (extents_from c rooms) ≡ total_of (map (λ r. r.spec) rooms)
 length-extents_from c [] = refl
-length-extents_from c (spec ∷ specs) =
-    omega (arith, length-append (extents_in c spec) (extents_from (c + 1) specs), length-extents_in c spec, length-extents_from (c + 1) specs, total_of-cons spec specs)
+length-extents_from c (room ∷ rooms) =
+    omega (
+      arith,
+      length-append (extents_in c room) (extents_from (c + 1) rooms),
+      length-extents_in c room,
+      length-extents_from (c + 1) rooms,
+      total_of-cons room.spec (map (λ r. r.spec) rooms),
+    )
 
 -- those of one class more
-pub extents_from-push : (c : ℕ) (specs : List ClassSpec) (spec : ClassSpec) → extents_from c (specs ++ spec ∷ []) ≡ extents_from c specs ++ extents_in (c + length specs) spec
-extents_from-push c [] spec = append-nil _ ∙ ap (λ n. extents_in n spec) (let e : c ≡ c + 0 = omega arith in e)
-extents_from-push c (x ∷ xs) spec =
-    ap (λ es. extents_in c x ++ es) (extents_from-push (c + 1) xs spec) ∙ sym (append_assoc (extents_in c x) (extents_from (c + 1) xs) (extents_in (c + 1 + length xs) spec))
-    ∙ ap (λ n. extents_from c (x ∷ xs) ++ extents_in n spec) (let e : c + 1 + length xs ≡ c + length (x ∷ xs) = omega arith in e)
+pub extents_from-push : (c : ℕ) (rooms : List Room) (room : Room) → extents_from c (rooms ++ room ∷ []) ≡ extents_from c rooms ++ extents_in (c + length rooms) room
+extents_from-push c [] room = append-nil _ ∙ ap (λ n. extents_in n room) (let e : c ≡ c + 0 = omega arith in e)
+extents_from-push c (x ∷ xs) room =
+    ap (λ es. extents_in c x ++ es) (extents_from-push (c + 1) xs room) ∙ sym (append_assoc (extents_in c x) (extents_from (c + 1) xs) (extents_in (c + 1 + length xs) room))
+    ∙ ap (λ n. extents_from c (x ∷ xs) ++ extents_in n room) (let e : c + 1 + length xs ≡ c + length (x ∷ xs) = omega arith in e)
+
+-- ---- how classes fit
+
+pub fit_ends : (at end : ℕ) (rooms : List Room) → FitFrom at rooms end → at ≤ end
+fit_ends at end [] fit = fit
+fit_ends at end (room ∷ rooms) fit = omega (arith, fit.0, fit_ends (end_of room) end rooms fit.1)
+
+pub FitFrom-push : (at end next : ℕ) (rooms : List Room) (room : Room) → FitFrom at rooms end → end ≤ room.start → end_of room ≤ next → FitFrom at (rooms ++ room ∷ []) next
+FitFrom-push at end next [] room fit start past = (omega (arith, fit, start), past)
+FitFrom-push at end next (x ∷ xs) room fit start past = (fit.0, FitFrom-push (end_of x) end next xs room fit.1 start past)
+
+pub room_fits : (at end : ℕ) (rooms : List Room) (k : ℕ) → k < length rooms → FitFrom at rooms end → end_of (room_at rooms k) ≤ end
+room_fits at end [] k within fit = absurd (omega arith)
+room_fits at end (room ∷ rooms) zero within fit = fit_ends (end_of room) end rooms fit.1
+room_fits at end (room ∷ rooms) (suc k) within fit = room_fits (end_of room) end rooms k (omega arith) fit.1
 
 -- a data block of the first class, and one of a later class
-module _ (c : ℕ) (spec : ClassSpec) (specs : List ClassSpec) (d : ℕ) where
-  extent_here : d < spec.count → extent_at (extents_from c (spec ∷ specs)) d ≡ extent_in c spec d
+module _ (c : ℕ) (room : Room) (rooms : List Room) (d : ℕ) where
+  extent_here : d < room.spec.count → extent_at (extents_from c (room ∷ rooms)) d ≡ extent_in c room d
   extent_here within =
-      get_or_append_left (extents_in c spec) (extents_from (c + 1) specs) (extent_of no_block) d (omega (arith, length-extents_in c spec))
-      ∙ get_or-map-range_with_len (extent_in c spec) 0 spec.count d d (extent_of no_block) within (let e : 0 + d ≡ d = omega arith in e)
+      get_or_append_left (extents_in c room) (extents_from (c + 1) rooms) (extent_of no_block) d (omega (arith, length-extents_in c room))
+      ∙ get_or-map-range_with_len (extent_in c room) 0 room.spec.count d d (extent_of no_block) within (let e : 0 + d ≡ d = omega arith in e)
 
-  extent_past : spec.count ≤ d → extent_at (extents_from c (spec ∷ specs)) d ≡ extent_at (extents_from (c + 1) specs) (d - spec.count)
-  extent_past past = get_or-append_right (extents_in c spec) (extents_from (c + 1) specs) spec.count d (extent_of no_block) (length-extents_in c spec) past
+  extent_past : room.spec.count ≤ d → extent_at (extents_from c (room ∷ rooms)) d ≡ extent_at (extents_from (c + 1) rooms) (d - room.spec.count)
+  extent_past past = get_or-append_right (extents_in c room) (extents_from (c + 1) rooms) room.spec.count d (extent_of no_block) (length-extents_in c room) past
 
--- the extent is in the region of one of these classes, which are numbered from c on
-pub record IsWithin (c : ℕ) (specs : List ClassSpec) (e : Extent) : Type 0 where
-  pub low : c ≤ e.class
-  pub high : e.class < c + length specs
-  pub whole : e.start + e.size ≤ (get_or specs (e.class - c) no_class_spec).size * (get_or specs (e.class - c) no_class_spec).count
-
--- data block j of a class ends before the region does, and before a later one begins
-ends_within : (size j count : ℕ) → j < count → j * size + size ≤ size * count
+-- data block j of a class ends before the class does
+pub ends_within : (size j count : ℕ) → j < count → j * size + size ≤ size * count
 ends_within size j count below =
     let next : (j + 1) * size ≤ count * size = mul-le-mul_right size (let l : j + 1 ≤ count = omega arith in l) in
     omega (arith, next)
 
-pub extents_within : (c : ℕ) (specs : List ClassSpec) (d : ℕ) → d < length (extents_from c specs) → IsWithin c specs (extent_at (extents_from c specs) d)
-extents_within c [] d within = absurd (omega arith)
-extents_within c (spec ∷ specs) d within = elim (cases_lt d spec.count) [
+pub extents_within : (c at end : ℕ) (rooms : List Room) (d : ℕ) → FitFrom at rooms end → d < length (extents_from c rooms)
+    → (at ≤ (extent_at (extents_from c rooms) d).start) × ((extent_at (extents_from c rooms) d).start + (extent_at (extents_from c rooms) d).size ≤ end)
+extents_within c at end [] d fit within = absurd (omega arith)
+extents_within c at end (room ∷ rooms) d fit within = elim (cases_lt d room.spec.count) [
   | inl here ↦
-      let first : c - c ≡ 0 = omega arith in
-      subst (IsWithin c (spec ∷ specs)) (sym (extent_here c spec specs d here))
-      (record { low = omega arith; high = omega arith; whole = rw first (ends_within spec.size d spec.count here) })
+      rw (extent_here c room rooms d here)
+      (omega (arith, fit.0), omega (arith, ends_within room.spec.size d room.spec.count here, fit_ends (end_of room) end rooms fit.1))
   | inr past ↦
-      let e = extent_at (extents_from (c + 1) specs) (d - spec.count) in
-      let later = extents_within (c + 1) specs (d - spec.count) (omega (arith, length-append (extents_in c spec) (extents_from (c + 1) specs), length-extents_in c spec)) in
-      let place : e.class - c ≡ suc (e.class - (c + 1)) = omega (arith, later.low) in
-      subst (IsWithin c (spec ∷ specs)) (sym (extent_past c spec specs d past))
-      (record { low = omega (arith, later.low); high = omega (arith, later.high); whole = rw place later.whole })
+      let later = extents_within (c + 1) (end_of room) end rooms (d - room.spec.count) fit.1
+      (omega (arith, length-append (extents_in c room) (extents_from (c + 1) rooms), length-extents_in c room)) in
+      rw (extent_past c room rooms d past) (omega (arith, fit.0, later.0), later.1)
 ]
 
--- data blocks of one class are apart
-pub extents_apart : (c : ℕ) (specs : List ClassSpec) (d e : ℕ) → d < e → e < length (extents_from c specs)
-    → (extent_at (extents_from c specs) d).class ≡ (extent_at (extents_from c specs) e).class
-    → (extent_at (extents_from c specs) d).start + (extent_at (extents_from c specs) d).size ≤ (extent_at (extents_from c specs) e).start
-extents_apart c [] d e before within same = absurd (omega arith)
-extents_apart c (spec ∷ specs) d e before within same = elim (cases_lt e spec.count) [
+-- data blocks are apart
+pub extents_apart : (c at end : ℕ) (rooms : List Room) (d e : ℕ) → FitFrom at rooms end → d < e → e < length (extents_from c rooms)
+    → (extent_at (extents_from c rooms) d).start + (extent_at (extents_from c rooms) d).size ≤ (extent_at (extents_from c rooms) e).start
+extents_apart c at end [] d e fit before within = absurd (omega arith)
+extents_apart c at end (room ∷ rooms) d e fit before within = elim (cases_lt e room.spec.count) [
   | inl here ↦
       let l : d + 1 ≤ e = omega arith in
-      let next : (d + 1) * spec.size ≤ e * spec.size = mul-le-mul_right spec.size l in
-      rw (extent_here c spec specs d (omega arith), extent_here c spec specs e here) (omega (arith, next))
+      let next : (d + 1) * room.spec.size ≤ e * room.spec.size = mul-le-mul_right room.spec.size l in
+      rw (extent_here c room rooms d (omega arith), extent_here c room rooms e here) (omega (arith, next))
   | inr past ↦
-      let is = ap (λ (x : Extent). x.class) (extent_past c spec specs e past) in
-      let there : e - spec.count < length (extents_from (c + 1) specs) = omega (arith, length-append (extents_in c spec) (extents_from (c + 1) specs), length-extents_in c spec) in
-      elim (cases_lt d spec.count) [
+      let there : e - room.spec.count < length (extents_from (c + 1) rooms) = omega (arith, length-append (extents_in c room) (extents_from (c + 1) rooms), length-extents_in c room) in
+      elim (cases_lt d room.spec.count) [
         | inl first ↦
-            absurd (omega (arith, same, is, ap (λ (x : Extent). x.class) (extent_here c spec specs d first), (extents_within (c + 1) specs (e - spec.count) there).low))
+            rw (extent_here c room rooms d first, extent_past c room rooms e past)
+            (omega (arith, ends_within room.spec.size d room.spec.count first, (extents_within (c + 1) (end_of room) end rooms (e - room.spec.count) fit.1 there).0))
         | inr later ↦
-            rw (extent_past c spec specs d later, extent_past c spec specs e past)
-            (extents_apart (c + 1) specs (d - spec.count) (e - spec.count) (omega arith) there
-            (ap (λ (x : Extent). x.class) (sym (extent_past c spec specs d later)) ∙ same ∙ is))
+            rw (extent_past c room rooms d later, extent_past c room rooms e past)
+            (extents_apart (c + 1) (end_of room) end rooms (d - room.spec.count) (e - room.spec.count) fit.1 (omega arith) there)
       ]
 ]
 
@@ -113,34 +125,33 @@ module _ {X : Type 0} (g : X → List ℕ) (f : ℕ → X) where
       (λ i. first i ++ rest i) ∙ ap (λ ys. take size (drop start xs) ++ take (n * size) ys) (sym (drop-drop size start xs))
       ∙ sym (take-add size (n * size) (drop start xs)) ∙ ap (λ k. take k (drop start xs)) (let e : size + n * size ≡ suc n * size = omega arith in e)
 
-module _ (regions : List (List ℕ)) (m : ℕ) where
+module _ (bytes : List ℕ) (m : ℕ) where
   -- the bytes of an extent of class m
   abbrev pub given : Extent → List ℕ
-  given e = if e.class == m then bytes_in regions e else []
+  given e = if e.class == m then bytes_in bytes e else []
 
   -- another class gives none
-  none_of : (c : ℕ) (spec : ClassSpec) → c ≢ m → flat_map given (extents_in c spec) ≡ []
-  none_of c spec other = nothing given (extent_in c spec) 0 spec.count (λ d. cond-false (c == m) (bytes_in regions (extent_in c spec d)) [] (ne_eqb c m other))
+  none_of : (c : ℕ) (room : Room) → c ≢ m → flat_map given (extents_in c room) ≡ []
+  none_of c room other = nothing given (extent_in c room) 0 room.spec.count (λ d. cond-false (c == m) (bytes_in bytes (extent_in c room d)) [] (ne_eqb c m other))
 
-  none_later : (c : ℕ) (specs : List ClassSpec) → m < c → flat_map given (extents_from c specs) ≡ []
+  none_later : (c : ℕ) (rooms : List Room) → m < c → flat_map given (extents_from c rooms) ≡ []
   none_later c [] after = refl
-  none_later c (spec ∷ specs) after =
-      flat_map-append given (extents_in c spec) (extents_from (c + 1) specs)
-      ∙ (λ i. none_of c spec (λ same. absurd (omega (arith, same))) i ++ none_later (c + 1) specs (omega arith) i)
+  none_later c (room ∷ rooms) after =
+      flat_map-append given (extents_in c room) (extents_from (c + 1) rooms)
+      ∙ (λ i. none_of c room (λ same. absurd (omega (arith, same))) i ++ none_later (c + 1) rooms (omega arith) i)
 
   -- class m has number k among these
-  pub region_bytes : (c k : ℕ) (specs : List ClassSpec) → m ≡ c + k → k < length specs
-      → length (region_at regions m) ≡ (get_or specs k no_class_spec).size * (get_or specs k no_class_spec).count → flat_map given (extents_from c specs) ≡ region_at regions m
-  region_bytes c k [] is within long = absurd (omega arith)
-  region_bytes c zero (spec ∷ specs) is within long =
+  pub class_given : (c k : ℕ) (rooms : List Room) → m ≡ c + k → k < length rooms
+      → flat_map given (extents_from c rooms) ≡ take ((room_at rooms k).spec.size * (room_at rooms k).spec.count) (drop (room_at rooms k).start bytes)
+  class_given c k [] is within = absurd (omega arith)
+  class_given c zero (room ∷ rooms) is within =
       let same : c ≡ m = omega (arith, is) in
-      let own = parts given (extent_in c spec) 0 spec.count 0 spec.size (region_at regions m)
+      let own = parts given (extent_in c room) 0 room.spec.count room.start room.spec.size bytes
       (λ j below.
-      ap (λ n. given (extent_in c spec n)) (let e : 0 + j ≡ j = omega arith in e)
-      ∙ cond-true (c == m) (bytes_in regions (extent_in c spec j)) [] (eq-eqb c m same) ∙ ap (λ n. take spec.size (drop (j * spec.size) (region_at regions n))) same
-      ∙ ap (λ n. take spec.size (drop n (region_at regions m))) (let e : j * spec.size ≡ 0 + j * spec.size = omega arith in e)) in
-      flat_map-append given (extents_in c spec) (extents_from (c + 1) specs) ∙ (λ i. own i ++ none_later (c + 1) specs (omega (arith, same)) i) ∙ append-nil _
-      ∙ take_all (spec.count * spec.size) (region_at regions m) (omega (arith, long))
-  region_bytes c (suc k) (spec ∷ specs) is within long =
-      flat_map-append given (extents_in c spec) (extents_from (c + 1) specs)
-      ∙ (λ i. none_of c spec (λ same. absurd (omega (arith, same, is))) i ++ region_bytes (c + 1) k specs (omega (arith, is)) (omega arith) long i)
+      ap (λ n. given (extent_in c room n)) (let e : 0 + j ≡ j = omega arith in e)
+      ∙ cond-true (c == m) (bytes_in bytes (extent_in c room j)) [] (eq-eqb c m same)) in
+      flat_map-append given (extents_in c room) (extents_from (c + 1) rooms) ∙ (λ i. own i ++ none_later (c + 1) rooms (omega (arith, same)) i) ∙ append-nil _
+      ∙ ap (λ n. take n (drop room.start bytes)) (let e : room.spec.count * room.spec.size ≡ room.spec.size * room.spec.count = omega arith in e)
+  class_given c (suc k) (room ∷ rooms) is within =
+      flat_map-append given (extents_in c room) (extents_from (c + 1) rooms)
+      ∙ (λ i. none_of c room (λ same. absurd (omega (arith, same, is))) i ++ class_given (c + 1) k rooms (omega (arith, is)) (omega arith) i)

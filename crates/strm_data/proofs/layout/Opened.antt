@@ -1,21 +1,24 @@
 -- Data blocks laid out and free lists filled, class by class: a new store.
-use Rattle.std.proofs.Common.{◌≡◌, ℕ, zero, suc, ◌+◌, ◌-◌, ◌*◌, ◌<◌, ◌≤◌, List, [], ◌∷◌, ◌++◌, length, get_or, set, map, take, drop, replicate, refl, sym, ap, ◌∙◌, arith, append_assoc, get_or-set_same, length-append}
+use Rattle.std.proofs.Common.{◌≡◌, ℕ, zero, suc, ◌+◌, ◌-◌, ◌*◌, ◌^◌, ◌<◌, ◌≤◌, List, [], ◌∷◌, ◌++◌, length, get_or, set, map, take, drop, replicate, refl, sym, ap, ◌∙◌, subst, arith, append_assoc, get_or-set_same, length-append}
 use Rattle.std.specs.List.{range_with_len}
-use Rattle.std.proofs.lemmas.List.{append-nil, drop-replicate, get_or-append_right, get_or-map, get_or-replicate, length-map, length-replicate, length-take-le, map-append, map-id, set-append_right, set-set, take-replicate, take_all, take_more}
+use Rattle.std.proofs.lemmas.List.{append-nil, drop-replicate, get_or-append_right, get_or-replicate, length-map, length-replicate, length-take-le, map-append, map-id, map_push, set-append_right, set-set, take-replicate, take_all, take_more}
 use Rattle.std.proofs.lemmas.List.Sums.{sum_by_push, sum_by_more_le}
 use Rattle.std.proofs.lemmas.Simd.{map-map}
-use Rattle.std.proofs.Math.Nat.{mul-le-mul_right}
 use Rattle.std.proofs.Math.Seq.{drop-append-add, take-append_seam}
 use Rattle.strm_links.specs.Rows.{Rows, list_at}
 use Rattle.strm_data.specs.declared.class_spec.ClassSpec.{ClassSpec}
 use Rattle.strm_data.specs.declared.data.Class.{Class}
 use Rattle.strm_data.specs.declared.data.DataBlock.{DataBlock}
-use Rattle.strm_data.specs.Classes.{total_of}
+use Rattle.std.specs.Prelude.{IsTrue}
+use Rattle.std.proofs.Math.Nat.{mul-le-mul_right}
+use Rattle.strm_data.specs.Classes.{are_lawful, total_of}
+use Rattle.strm_data.specs.Limits.{most_data_block_bytes}
+use Rattle.strm_data.proofs.store.Lawful.{lawful_few, lawful_size, lawful_total}
 use Rattle.strm_data.specs.CountedStore.{opening_counted}
-use Rattle.strm_data.specs.DataLayout.{Extent, bytes_in, extent_in, extent_of, extents_from, extents_in, no_block, region_at, seen_in, store_of_parts, unused_at, IsPlaced}
+use Rattle.strm_data.specs.DataLayout.{Extent, FitFrom, Room, bytes_in, end_of, extent_in, extent_of, extents_from, extents_in, no_block, room_of, seen_in, store_of_parts, unused_at, IsPlaced}
 use Rattle.strm_data.specs.DataStore.{fresh_data_block, no_class_spec, numbers_from}
-use Rattle.strm_data.proofs.store.Opening.{blocks_from, length-numbers_from, numbers_from-push}
-use Rattle.strm_data.proofs.layout.Extents.{extents_from-push, length-extents_from}
+use Rattle.strm_data.proofs.store.Opening.{blocks_from, length-blocks_from, length-numbers_from, numbers_from-push}
+use Rattle.strm_data.proofs.layout.Extents.{FitFrom-push, ends_within, extents_from-push, fit_ends, length-extents_from}
 
 -- ---- lists of free data blocks that are filled one by one
 
@@ -66,6 +69,11 @@ filled-more cs i d first within so_far =
     (ap (λ n. front ++ range_with_len n c.count ∷ []) (let e : total_of (take i cs) ≡ 0 + total_of (take i cs) = omega arith in e)
     ∙ sym (numbers_from-push 0 (take i cs) c) ∙ ap (numbers_from 0) (sym (take_more cs i d within)))
 
+pub filled-all : (cs : List ClassSpec) (i : ℕ) → length cs ≤ i → filled cs i ≡ numbers_from 0 cs
+filled-all cs i past =
+    let none : length cs - i ≡ 0 = omega arith in
+    (λ j. numbers_from 0 (take_all i cs past j) ++ replicate (none j) []) ∙ append-nil _
+
 -- ---- how many data blocks
 
 pub total_of_next : (cs : List ClassSpec) (i : ℕ) (d : ClassSpec) → i < length cs → total_of (take (i + 1) cs) ≡ total_of (take i cs) + (get_or cs i d).count
@@ -74,98 +82,146 @@ total_of_next cs i d within = ap total_of (take_more cs i d within) ∙ sum_by_p
 pub total_of_more : (cs : List ClassSpec) (i : ℕ) (d : ClassSpec) → i < length cs → total_of (take i cs) + (get_or cs i d).count ≤ total_of cs
 total_of_more cs i d within = sum_by_more_le (λ (c : ClassSpec). c.count) cs i d within
 
+-- how far a class ends at most
+pub end_few : (cs : List ClassSpec) → IsTrue (are_lawful cs) → (i : ℕ) → i < length cs → (first start : ℕ) → first ≡ total_of (take i cs) → start ≤ most_data_block_bytes * first + 64 * i
+    → start + (get_or cs i no_class_spec).size * (get_or cs i no_class_spec).count ≤ most_data_block_bytes * (first + (get_or cs i no_class_spec).count) + 64 * i
+end_few cs lawful i within first start so_far few =
+    let times : (get_or cs i no_class_spec).size * (get_or cs i no_class_spec).count ≤ most_data_block_bytes * (get_or cs i no_class_spec).count =
+    mul-le-mul_right (get_or cs i no_class_spec).count (lawful_size cs lawful i within).1 in
+    omega (arith, few, times)
+
+pub end_low : (cs : List ClassSpec) → IsTrue (are_lawful cs) → (i : ℕ) → i < length cs → (first start : ℕ) → first ≡ total_of (take i cs) → start ≤ most_data_block_bytes * first + 64 * i
+    → start + (get_or cs i no_class_spec).size * (get_or cs i no_class_spec).count < 2 ^ 31
+end_low cs lawful i within first start so_far few =
+    omega (arith, end_few cs lawful i within first start so_far few, so_far, total_of_more cs i no_class_spec within, lawful_total cs lawful, lawful_few cs lawful)
+
 -- ---- data blocks that are laid out class by class
 
--- the data blocks once those of the first i classes are laid out
-abbrev pub laid : List ClassSpec → ℕ → List DataBlock
-laid cs i = map unused_at (extents_from 0 (take i cs)) ++ replicate (total_of cs - total_of (take i cs)) no_block
+-- the first i classes are laid out, from this place on others may be, and these are the data blocks
+pub record AreLaid (specs : List ClassSpec) (i : ℕ) (classes : List Class) (start : ℕ) (loads : List DataBlock) : Type 0 where
+  pub specs_are : map (λ k. k.spec) classes ≡ take i specs
+  pub least_are : map (λ k. k.least) classes ≡ map (λ c. c.count) (take i specs)
+  pub fit : FitFrom 0 (map room_of classes) start
+  pub loads_are : loads ≡ map unused_at (extents_from 0 (map room_of classes)) ++ replicate (total_of specs - total_of (take i specs)) no_block
 
-length-laid_front : (cs : List ClassSpec) (i : ℕ) → length (map unused_at (extents_from 0 (take i cs))) ≡ total_of (take i cs)
-length-laid_front cs i = length-map (extents_from 0 (take i cs)) unused_at ∙ length-extents_from 0 (take i cs)
+-- none are
+pub AreLaid-none : (specs : List ClassSpec) (classes : List Class) (loads : List DataBlock) → classes ≡ [] → loads ≡ replicate (total_of specs) no_block → AreLaid specs 0 classes 0 loads
+AreLaid-none specs classes loads none is =
+    let all : total_of specs ≡ total_of specs - 0 = omega arith in
+    subst (λ ks. AreLaid specs 0 ks 0 loads) (sym none) (record { specs_are = refl; least_are = refl; fit = omega arith; loads_are = is ∙ ap (λ n. replicate n no_block) all })
 
-pub length-laid : (cs : List ClassSpec) (i : ℕ) (d : ClassSpec) → i < length cs → length (laid cs i) ≡ total_of cs
-length-laid cs i d within =
-    omega (
-      arith,
-      length-append (map unused_at (extents_from 0 (take i cs))) (replicate (total_of cs - total_of (take i cs)) no_block),
-      length-laid_front cs i,
-      length-replicate (total_of cs - total_of (take i cs)) no_block,
-      total_of_more cs i d within,
-    )
+module _ (specs : List ClassSpec) (i : ℕ) (classes : List Class) (start : ℕ) (loads : List DataBlock) (laid : AreLaid specs i classes start loads) where
+  abbrev rooms : List Room
+  rooms = map room_of classes
 
--- once the next class is laid out too
-pub laid-more : (cs : List ClassSpec) (i : ℕ) (d : ClassSpec) (first : ℕ) → i < length cs → first ≡ total_of (take i cs)
-    → take first (laid cs i) ++ (map unused_at (extents_in i (get_or cs i d)) ++ drop (first + (get_or cs i d).count) (laid cs i)) ≡ laid cs (i + 1)
-laid-more cs i d first within so_far =
-    let front = map unused_at (extents_from 0 (take i cs)) in
-    let here = map unused_at (extents_in i (get_or cs i d)) in
-    let many = (get_or cs i d).count in
-    let rest = total_of cs - total_of (take i cs) in
-    let long : first ≡ length front = so_far ∙ sym (length-laid_front cs i) in
-    let number : 0 + length (take i cs) ≡ i = omega (arith, length-take-le i cs (omega arith)) in
-    let grown : front ++ here ≡ map unused_at (extents_from 0 (take (i + 1) cs)) =
-    ap (λ n. front ++ map unused_at (extents_in n (get_or cs i d))) (sym number) ∙ sym (map-append unused_at (extents_from 0 (take i cs)) (extents_in (0 + length (take i cs)) (get_or cs i d)))
-    ∙ ap (map unused_at) (sym (extents_from-push 0 (take i cs) (get_or cs i d)) ∙ ap (extents_from 0) (sym (take_more cs i d within))) in
-    let left : rest - many ≡ total_of cs - total_of (take (i + 1) cs) = omega (arith, total_of_next cs i d within) in
-    (λ j. take (long j) (laid cs i) ++ (here ++ drop (long j + many) (laid cs i)))
-    ∙ (λ j. take-append_seam front (replicate rest no_block) j ++ (here ++ drop-append-add front (replicate rest no_block) many j))
-    ∙ ap (λ ys. front ++ (here ++ ys)) (drop-replicate many rest no_block)
-    ∙ sym (append_assoc front here (replicate (rest - many) no_block)) ∙ (λ j. grown j ++ replicate (left j) no_block)
+  abbrev front : List DataBlock
+  front = map unused_at (extents_from 0 rooms)
 
-pub laid-all : (cs : List ClassSpec) (i : ℕ) → length cs ≤ i → laid cs i ≡ map unused_at (extents_from 0 cs)
-laid-all cs i past =
-    let none : total_of cs - total_of cs ≡ 0 = omega arith in
-    ap (λ xs. map unused_at (extents_from 0 xs) ++ replicate (total_of cs - total_of xs) no_block) (take_all i cs past)
-    ∙ ap (λ n. map unused_at (extents_from 0 cs) ++ replicate n no_block) none ∙ append-nil _
+  rooms_specs : map (λ (r : Room). r.spec) rooms ≡ take i specs
+  rooms_specs = map-map (λ (r : Room). r.spec) room_of classes ∙ laid.specs_are
+
+  length-front_laid : length front ≡ total_of (take i specs)
+  length-front_laid = length-map (extents_from 0 rooms) unused_at ∙ length-extents_from 0 rooms ∙ ap total_of rooms_specs
+
+  module _ (d : ClassSpec) (within : i < length specs) where
+    pub length-laid : length loads ≡ total_of specs
+    length-laid =
+        omega (
+          arith,
+          ap length laid.loads_are,
+          length-append front (replicate (total_of specs - total_of (take i specs)) no_block),
+          length-front_laid,
+          length-replicate (total_of specs - total_of (take i specs)) no_block,
+          total_of_more specs i d within,
+        )
+
+    -- once the next class is laid out too
+    pub AreLaid-more : (class : Class) (first next : ℕ) → class ≡ record { spec = get_or specs i d; start = start; least = (get_or specs i d).count } → first ≡ total_of (take i specs)
+        → end_of (room_of class) ≤ next
+        → AreLaid specs (i + 1) (classes ++ class ∷ []) next (take first loads ++ (map unused_at (extents_in i (room_of class)) ++ drop (first + class.spec.count) loads))
+    AreLaid-more class first next is so_far past =
+        let spec = get_or specs i d in
+        let many : class.spec.count ≡ spec.count = ap (λ (k : Class). k.spec.count) is in
+        let rest = total_of specs - total_of (take i specs) in
+        let here = map unused_at (extents_in i (room_of class)) in
+        let more = take_more specs i d within in
+        let long : first ≡ length front = so_far ∙ sym length-front_laid in
+        let number : 0 + length rooms ≡ i =
+        omega (arith, length-map classes room_of, length-map classes (λ (k : Class). k.spec), ap length laid.specs_are, length-take-le i specs (omega arith)) in
+        let grown : front ++ here ≡ map unused_at (extents_from 0 (map room_of (classes ++ class ∷ []))) =
+        ap (λ n. front ++ map unused_at (extents_in n (room_of class))) (sym number) ∙ sym (map-append unused_at (extents_from 0 rooms) (extents_in (0 + length rooms) (room_of class)))
+        ∙ ap (map unused_at) (sym (extents_from-push 0 rooms (room_of class)) ∙ ap (extents_from 0) (sym (map_push room_of classes class))) in
+        let left : rest - class.spec.count ≡ total_of specs - total_of (take (i + 1) specs) = omega (arith, many, total_of_next specs i d within) in
+        record {
+          specs_are = map_push (λ (k : Class). k.spec) classes class ∙ (λ j. laid.specs_are j ++ (is j).spec ∷ []) ∙ sym more;
+          least_are =
+              map_push (λ (k : Class). k.least) classes class ∙ (λ j. laid.least_are j ++ (is j).least ∷ [])
+              ∙ sym (ap (map (λ (c : ClassSpec). c.count)) more ∙ map_push (λ (c : ClassSpec). c.count) (take i specs) spec);
+          fit = subst (λ rs. FitFrom 0 rs next) (sym (map_push room_of classes class)) (FitFrom-push 0 start next rooms (room_of class) laid.fit (omega (arith, ap (λ (k : Class). k.start) is)) past);
+          loads_are =
+              (λ j. take (long j) (laid.loads_are j) ++ (here ++ drop (long j + class.spec.count) (laid.loads_are j)))
+              ∙ (λ j. take-append_seam front (replicate rest no_block) j ++ (here ++ drop-append-add front (replicate rest no_block) class.spec.count j))
+              ∙ ap (λ ys. front ++ (here ++ ys)) (drop-replicate class.spec.count rest no_block)
+              ∙ sym (append_assoc front here (replicate (rest - class.spec.count) no_block)) ∙ (λ j. grown j ++ replicate (left j) no_block);
+        }
 
 -- ---- what a contract sees of new data blocks
 
--- the class of this specification, and the bytes of all its data blocks
-abbrev pub class_of_spec : ClassSpec → Class
-class_of_spec spec = record { spec = spec; least = spec.count }
+-- those of a class that has zeros
+zeros_at : (c n : ℕ) (room : Room) → end_of room ≤ n → (a m : ℕ) → a + m ≤ room.spec.count
+    → map (seen_in (replicate n 0)) (map unused_at (map (extent_in c room) (range_with_len a m))) ≡ replicate m (fresh_data_block c room.spec)
+zeros_at c n room fits a zero within = refl
+zeros_at c n room fits a (suc m) within =
+    let size = room.spec.size in
+    let start = room.start + a * size in
+    let left : size ≤ n - start = omega (arith, ends_within size a room.spec.count (omega arith)) in
+    let bytes : bytes_in (replicate n 0) (extent_in c room a) ≡ replicate size 0 = ap (take size) (drop-replicate start n 0) ∙ take-replicate size (n - start) 0 left in
+    λ i. record (fresh_data_block c room.spec) { bytes = bytes i } ∷ zeros_at c n room fits (a + 1) m (omega arith) i
 
-abbrev pub zeros_of : ClassSpec → List ℕ
-zeros_of spec = replicate (spec.size * spec.count) 0
-
-module _ (regions : List (List ℕ)) where
-  -- of a class whose region has zeros
-  zeros_at : (c : ℕ) (spec : ClassSpec) → region_at regions c ≡ zeros_of spec → (a n : ℕ) → a + n ≤ spec.count
-      → map (seen_in regions) (map unused_at (map (extent_in c spec) (range_with_len a n))) ≡ replicate n (fresh_data_block c spec)
-  zeros_at c spec zero_bytes a zero within = refl
-  zeros_at c spec zero_bytes a (suc n) within =
-      let size = spec.size in
-      let next : (a + 1) * size ≤ spec.count * size = mul-le-mul_right size (let l : a + 1 ≤ spec.count = omega arith in l) in
-      let left : size ≤ size * spec.count - a * size = omega (arith, next) in
-      let bytes : bytes_in regions (extent_in c spec a) ≡ replicate size 0 =
-      ap (λ r. take size (drop (a * size) r)) zero_bytes ∙ ap (take size) (drop-replicate (a * size) (size * spec.count) 0) ∙ take-replicate size (size * spec.count - a * size) 0 left in
-      λ i. record (fresh_data_block c spec) { bytes = bytes i } ∷ zeros_at c spec zero_bytes (a + 1) n (omega arith) i
-
-  fresh_from : (c : ℕ) (specs : List ClassSpec) → ((k : ℕ) → k < length specs → region_at regions (c + k) ≡ zeros_of (get_or specs k no_class_spec))
-      → map (seen_in regions) (map unused_at (extents_from c specs)) ≡ blocks_from c specs
-  fresh_from c [] each = refl
-  fresh_from c (spec ∷ specs) each =
-      ap (map (seen_in regions)) (map-append unused_at (extents_in c spec) (extents_from (c + 1) specs))
-      ∙ map-append (seen_in regions) (map unused_at (extents_in c spec)) (map unused_at (extents_from (c + 1) specs))
-      ∙ (λ i. zeros_at c spec (ap (region_at regions) (let e : c ≡ c + 0 = omega arith in e) ∙ each 0 (omega arith)) 0 spec.count (omega arith) i
-      ++ fresh_from (c + 1) specs (λ k within. ap (region_at regions) (let e : c + 1 + k ≡ c + suc k = omega arith in e) ∙ each (suc k) (omega arith)) i)
+fresh_from : (c at n : ℕ) (rooms : List Room) → FitFrom at rooms n → map (seen_in (replicate n 0)) (map unused_at (extents_from c rooms)) ≡ blocks_from c (map (λ r. r.spec) rooms)
+fresh_from c at n [] fit = refl
+fresh_from c at n (room ∷ rooms) fit =
+    ap (map (seen_in (replicate n 0))) (map-append unused_at (extents_in c room) (extents_from (c + 1) rooms))
+    ∙ map-append (seen_in (replicate n 0)) (map unused_at (extents_in c room)) (map unused_at (extents_from (c + 1) rooms))
+    ∙ (λ i. zeros_at c n room (fit_ends (end_of room) n rooms fit.1) 0 room.spec.count (omega arith) i ++ fresh_from (c + 1) (end_of room) n rooms fit.1 i)
 
 unnamed : (es : List Extent) → map (λ (b : DataBlock). b.references) (map unused_at es) ≡ replicate (length es) 0
 unnamed [] = refl
 unnamed (e ∷ es) = ap (λ ns. 0 ∷ ns) (unnamed es)
 
-module _ (specs : List ClassSpec) where
-  pub specs_are : map (λ (k : Class). k.spec) (map class_of_spec specs) ≡ specs
-  specs_are = map-map (λ (k : Class). k.spec) class_of_spec specs ∙ map-id specs
+-- all classes are laid out
+module _ (specs : List ClassSpec) (i : ℕ) (classes : List Class) (start : ℕ) (loads : List DataBlock) (laid : AreLaid specs i classes start loads) (past : length specs ≤ i) where
+  abbrev all_rooms : List Room
+  all_rooms = map room_of classes
 
-  pub opened_is : store_of_parts (map class_of_spec specs) (map zeros_of specs) (map unused_at (extents_from 0 specs)) (numbers_from 0 specs) ≡ opening_counted specs
+  whole_specs : map (λ (k : Class). k.spec) classes ≡ specs
+  whole_specs = laid.specs_are ∙ take_all i specs past
+
+  whole_loads : loads ≡ map unused_at (extents_from 0 all_rooms)
+  whole_loads =
+      let none : total_of specs - total_of (take i specs) ≡ 0 = omega (arith, ap total_of (take_all i specs past)) in
+      laid.loads_are ∙ ap (λ n. map unused_at (extents_from 0 all_rooms) ++ replicate n no_block) none ∙ append-nil _
+
+  fresh : map (seen_in (replicate start 0)) (map unused_at (extents_from 0 all_rooms)) ≡ blocks_from 0 specs
+  fresh = fresh_from 0 0 start all_rooms laid.fit ∙ ap (blocks_from 0) (map-map (λ (r : Room). r.spec) room_of classes ∙ whole_specs)
+
+  many : length (extents_from 0 all_rooms) ≡ length (blocks_from 0 specs)
+  many =
+      sym (length-map (extents_from 0 all_rooms) unused_at) ∙ sym (length-map (map unused_at (extents_from 0 all_rooms)) (seen_in (replicate start 0))) ∙ ap length fresh
+
+  pub length_opened : length loads ≡ total_of specs
+  length_opened = ap length whole_loads ∙ length-map (extents_from 0 all_rooms) unused_at ∙ many ∙ length-blocks_from 0 specs
+
+  pub opened_is : store_of_parts classes (replicate start 0) loads (numbers_from 0 specs) ≡ opening_counted specs
   opened_is =
-      let fresh = fresh_from (map zeros_of specs) 0 specs (λ k within. ap (region_at (map zeros_of specs)) (let e : 0 + k ≡ k = omega arith in e) ∙ get_or-map zeros_of specs k no_class_spec [] within) in
-      let many : length (extents_from 0 specs) ≡ length (blocks_from 0 specs) = sym (length-map (extents_from 0 specs) unused_at) ∙ sym (length-map (map unused_at (extents_from 0 specs)) (seen_in (map zeros_of specs))) ∙ ap length fresh in
-      cc (specs_are, map-map (λ (k : Class). k.least) class_of_spec specs, fresh, unnamed (extents_from 0 specs), many)
+      (λ j. store_of_parts classes (replicate start 0) (whole_loads j) (numbers_from 0 specs))
+      ∙ (λ j. record {
+        store = record { classes = whole_specs j; blocks = fresh j; free = numbers_from 0 specs; least = (laid.least_are ∙ ap (map (λ (c : ClassSpec). c.count)) (take_all i specs past)) j };
+        counts = (unnamed (extents_from 0 all_rooms) ∙ ap (λ n. replicate n 0) many) j;
+      })
 
-  pub IsPlaced-opened : IsPlaced specs (map zeros_of specs) (map unused_at (extents_from 0 specs))
-  IsPlaced-opened = record { filled = zeros_long specs; laid = map-map extent_of unused_at (extents_from 0 specs) ∙ map-id (extents_from 0 specs) }
-    where
-      zeros_long : (cs : List ClassSpec) → map length (map zeros_of cs) ≡ map (λ c. c.size * c.count) cs
-      zeros_long [] = refl
-      zeros_long (c ∷ cs) = λ i. length-replicate {A = ℕ} (c.size * c.count) 0 i ∷ zeros_long cs i
+  pub IsPlaced-opened : IsPlaced all_rooms (replicate start 0) loads
+  IsPlaced-opened = record {
+    fit = subst (FitFrom 0 all_rooms) (sym (length-replicate start 0)) laid.fit;
+    laid = ap (map extent_of) whole_loads ∙ map-map extent_of unused_at (extents_from 0 all_rooms) ∙ map-id (extents_from 0 all_rooms);
+  }

@@ -1,12 +1,11 @@
 -- What a contract sees of data blocks as they lie in memory, of their bytes, and of the classes.
-use Rattle.std.proofs.Common.{◌≡◌, ℕ, zero, suc, ◌+◌, ◌-◌, ◌*◌, ◌<◌, ◌≤◌, ◌≢◌, List, [], ◌∷◌, length, get_or, set, map, take, drop, Some, None, refl, sym, ap, ◌∙◌, subst, inl, inr, arith, if◌then◌else◌, ◌==◌, get_or-set_same, get_or-set_other, zero-add}
+use Rattle.std.proofs.Common.{◌≡◌, ℕ, zero, suc, ◌+◌, ◌*◌, ◌<◌, ◌≤◌, ◌≢◌, List, [], ◌∷◌, length, get_or, set, map, take, drop, Some, None, refl, sym, ap, ◌∙◌, subst, inl, inr, arith, if◌then◌else◌, ◌==◌, zero-add}
 use Rattle.std.specs.Prelude.{option_map, slice_get}
 use Rattle.std.specs.List.{flat_map, zip}
 use Rattle.std.proofs.lemmas.Bool.{cases_eq, cases_lt}
 use Rattle.std.proofs.lemmas.List.{get_or-map, length-map}
 use Rattle.std.proofs.lemmas.List.Folds.{flat_map-map}
 use Rattle.std.proofs.lemmas.Option.{get_or_from_slice_get, none-some, same_Some, slice_get-get_or, slice_get_past}
-use Rattle.std.proofs.Math.Seq.{map-set_same}
 use Rattle.strm_links.specs.Rows.{first, holder}
 use Rattle.strm_links.proofs.lists.AllLists.{holder_is}
 use Rattle.strm_links.proofs.lists.Counting.{absent}
@@ -16,11 +15,11 @@ use Rattle.strm_data.specs.declared.data.Class.{Class}
 use Rattle.strm_data.specs.declared.data.Data.TheInside.{Inside}
 use Rattle.strm_data.specs.declared.data.DataBlock.{DataBlock}
 use Rattle.strm_data.specs.CountedStore.{CountedStore, IsKept, count_of}
-use Rattle.strm_data.specs.DataLayout.{Extent, block_at, bytes_in, bytes_of, extent_of, extents_from, no_block, region_at, seen_in, store_of, IsPlaced, IsSound}
+use Rattle.strm_data.specs.DataLayout.{Extent, FitFrom, Room, block_at, bytes_in, extent_of, extents_from, no_block, room_of, seen_in, store_of, IsPlaced, IsSound}
 use Rattle.strm_data.specs.DataStore as store
 use Rattle.strm_data.specs.DataStore.{times, bytes_overwritten, capacity_of, class_bytes, class_infos, class_spec_at, data_block_at, free_of, no_class_spec}
 use Rattle.strm_data.proofs.Lists.{length-part, length-overwritten, map-set_but, part_before, part_behind, part_over}
-use Rattle.strm_data.proofs.layout.Extents.{IsWithin, extent_at, extents_apart, extents_within, given, region_bytes}
+use Rattle.strm_data.proofs.layout.Extents.{class_given, extent_at, extents_apart, extents_within, given, room_at}
 use Rattle.strm_data.proofs.store.Kept.{free_within, get_or-map_all, listed_unnamed}
 
 -- ---- free lists
@@ -43,122 +42,83 @@ holder_unlisted s kept nodes d used =
 
 -- ---- where the bytes of a data block are
 
-module _ (specs : List ClassSpec) (regions : List (List ℕ)) (blocks : List DataBlock) (placed : IsPlaced specs regions blocks) where
-  length_region : (c : ℕ) → length (region_at regions c) ≡ (get_or specs c no_class_spec).size * (get_or specs c no_class_spec).count
-  length_region c =
-      get_or-map_all length regions c [] ∙ ap (λ ns. get_or ns c 0) placed.filled ∙ sym (get_or-map_all (λ (s : ClassSpec). s.size * s.count) specs c no_class_spec)
-
+module _ (rooms : List Room) (bytes : List ℕ) (blocks : List DataBlock) (placed : IsPlaced rooms bytes blocks) where
   module _ (d : ℕ) where
-    extent_is : extent_of (block_at blocks d) ≡ extent_at (extents_from 0 specs) d
+    extent_is : extent_of (block_at blocks d) ≡ extent_at (extents_from 0 rooms) d
     extent_is = get_or-map_all extent_of blocks d no_block ∙ ap (λ es. extent_at es d) placed.laid
 
-    within_laid : d < length blocks → d < length (extents_from 0 specs)
+    within_laid : d < length blocks → d < length (extents_from 0 rooms)
     within_laid there = omega (arith, there, length-map blocks extent_of, ap length placed.laid)
 
-    module _ (there : d < length blocks) where
-      abbrev b : DataBlock
-      b = block_at blocks d
+    pub whole : d < length blocks → (block_at blocks d).start + (block_at blocks d).size ≤ length bytes
+    whole there =
+        subst (λ (e : Extent). e.start + e.size ≤ length bytes) (sym extent_is) (extents_within 0 0 (length bytes) rooms d placed.fit (within_laid there)).1
 
-      abbrev region : List ℕ
-      region = region_at regions b.class
+  apart : (d e : ℕ) → d < e → e < length blocks → (block_at blocks d).start + (block_at blocks d).size ≤ (block_at blocks e).start
+  apart d e before there =
+      subst (λ (x : Extent). x.start + x.size ≤ (block_at blocks e).start) (sym (extent_is d))
+      (subst (λ (x : Extent). (extent_at (extents_from 0 rooms) d).start + (extent_at (extents_from 0 rooms) d).size ≤ x.start) (sym (extent_is e))
+      (extents_apart 0 0 (length bytes) rooms d e placed.fit before (within_laid e there)))
 
-      within : IsWithin 0 specs (extent_of b)
-      within = subst (IsWithin 0 specs) (sym extent_is) (extents_within 0 specs d (within_laid there))
+  -- other bytes are written over those of a data block
+  module _ (d : ℕ) (there : d < length blocks) (at : ℕ) (new : List ℕ) (room : at + length new ≤ (block_at blocks d).size) where
+    abbrev b : DataBlock
+    b = block_at blocks d
 
-      pub in_regions : b.class < length regions
-      in_regions = omega (arith, within.high, ap length placed.filled, length-map regions length, length-map specs (λ (s : ClassSpec). s.size * s.count))
+    abbrev after : List ℕ
+    after = bytes_overwritten (b.start + at) new bytes
 
-      -- they lie in the region of its class
-      pub whole : b.start + b.size ≤ length region
-      whole =
-          let place : b.class - 0 ≡ b.class = omega arith in
-          omega (arith, within.whole, ap (λ c. (get_or specs c no_class_spec).size * (get_or specs c no_class_spec).count) place, length_region b.class)
+    wide : b.start + at + length new ≤ length bytes
+    wide = omega (arith, whole d there, room)
 
-      -- bytes are written over them
-      module _ (at : ℕ) (bytes : List ℕ) (room : at + length bytes ≤ b.size) where
-        abbrev written : List ℕ
-        written = bytes_overwritten (b.start + at) bytes region
+    written_here : bytes_in after (extent_of b) ≡ bytes_overwritten at new (bytes_in bytes (extent_of b))
+    written_here = part_over b.size b.start at new bytes room (whole d there)
 
-        abbrev after : List (List ℕ)
-        after = set regions b.class written
+    -- those of another data block stay
+    written_there : (e : ℕ) → e < length blocks → e ≢ d → bytes_in after (extent_of (block_at blocks e)) ≡ bytes_in bytes (extent_of (block_at blocks e))
+    written_there e e_there other =
+        let x = block_at blocks e in
+        elim (cases_lt e d) [
+          | inl earlier ↦ part_before (b.start + at) new bytes wide x.size x.start (omega (arith, apart e d earlier there))
+          | inr later ↦ part_behind (b.start + at) new bytes wide x.size x.start (omega (arith, room, apart d e (omega (arith, later, other)) e_there))
+        ]
 
-        wide : b.start + at + length bytes ≤ length region
-        wide = omega (arith, whole, room)
+    pub seen_written : map (seen_in after) blocks ≡ set (map (seen_in bytes) blocks) d (record (seen_in bytes b) { bytes = bytes_overwritten at new (bytes_in bytes (extent_of b)) })
+    seen_written =
+        map-set_but (seen_in after) (seen_in bytes) blocks d no_block _ there (λ i. record (seen_in bytes b) { bytes = written_here i })
+        (λ e e_there other i. record (seen_in bytes (block_at blocks e)) { bytes = written_there e e_there other i })
 
-        written_here : bytes_in after (extent_of b) ≡ bytes_overwritten at bytes (bytes_in regions (extent_of b))
-        written_here = ap (λ r. take b.size (drop b.start r)) (get_or-set_same regions b.class written [] in_regions) ∙ part_over b.size b.start at bytes region room whole
+    pub IsPlaced-written : IsPlaced rooms after blocks
+    IsPlaced-written = record { fit = subst (FitFrom 0 rooms) (sym (length-overwritten (b.start + at) new bytes wide)) placed.fit; laid = placed.laid }
 
-        -- those of another data block stay
-        module _ (e : ℕ) (e_there : e < length blocks) (other : e ≢ d) where
-          abbrev x : DataBlock
-          x = block_at blocks e
-
-          apart : x.class ≡ b.class → take x.size (drop x.start written) ≡ take x.size (drop x.start region)
-          apart same = elim (cases_lt e d) [
-            | inl earlier ↦
-                let ends : x.start + x.size ≤ b.start = rw (ap (λ (y : Extent). y.start) (extent_of_other), ap (λ (y : Extent). y.size) (extent_of_other), ap (λ (y : Extent). y.start) extent_is)
-                (extents_apart 0 specs e d earlier (within_laid there) (ap (λ (y : Extent). y.class) (sym extent_of_other) ∙ same ∙ ap (λ (y : Extent). y.class) extent_is)) in
-                part_before (b.start + at) bytes region wide x.size x.start (omega (arith, ends))
-            | inr later ↦
-                let ends : b.start + b.size ≤ x.start = rw (ap (λ (y : Extent). y.start) (extent_of_other), ap (λ (y : Extent). y.start) extent_is, ap (λ (y : Extent). y.size) extent_is)
-                (extents_apart 0 specs d e (omega (arith, later, other)) (omega (arith, e_there, length-map blocks extent_of, ap length placed.laid))
-                (ap (λ (y : Extent). y.class) (sym extent_is) ∙ sym same ∙ ap (λ (y : Extent). y.class) extent_of_other)) in
-                part_behind (b.start + at) bytes region wide x.size x.start (omega (arith, ends, room))
-          ]
-            where
-              extent_of_other : extent_of x ≡ extent_at (extents_from 0 specs) e
-              extent_of_other = get_or-map_all extent_of blocks e no_block ∙ ap (λ es. extent_at es e) placed.laid
-
-          written_there : bytes_in after (extent_of x) ≡ bytes_in regions (extent_of x)
-          written_there = elim (cases_eq x.class b.class) [
-            | inl same ↦
-                ap (λ r. take x.size (drop x.start r)) (ap (region_at after) same ∙ get_or-set_same regions b.class written [] in_regions) ∙ apart same
-                ∙ ap (λ c. take x.size (drop x.start (region_at regions c))) (sym same)
-            | inr differs ↦ ap (λ r. take x.size (drop x.start r)) (get_or-set_other regions b.class x.class written [] differs)
-          ]
-
-        pub seen_written : map (seen_in after) blocks ≡ set (map (seen_in regions) blocks) d (record (seen_in regions b) { bytes = bytes_overwritten at bytes (bytes_in regions (extent_of b)) })
-        seen_written =
-            map-set_but (seen_in after) (seen_in regions) blocks d no_block _ there (λ i. record (seen_in regions b) { bytes = written_here i })
-            (λ e e_there other i. record (seen_in regions (block_at blocks e)) { bytes = written_there e e_there other i })
-
-        pub IsPlaced-written : IsPlaced specs after blocks
-        IsPlaced-written = record {
-          filled = map-set_same length regions b.class written [] (length-overwritten (b.start + at) bytes region wide) ∙ placed.filled;
-          laid = placed.laid;
-        }
-
-  -- a region has the bytes of its class's data blocks
-  pub class_bytes_are : (c : ℕ) → c < length specs → flat_map (λ (x : store.DataBlock). if x.class == c then x.bytes else []) (map (seen_in regions) blocks) ≡ region_at regions c
+  -- a class has the bytes of its data blocks
+  pub class_bytes_are : (c : ℕ) → c < length rooms → flat_map (λ (x : store.DataBlock). if x.class == c then x.bytes else []) (map (seen_in bytes) blocks)
+      ≡ take ((room_at rooms c).spec.size * (room_at rooms c).spec.count) (drop (room_at rooms c).start bytes)
   class_bytes_are c inside =
-      flat_map-map (λ (x : store.DataBlock). if x.class == c then x.bytes else []) (seen_in regions) blocks
-      ∙ sym (flat_map-map (given regions c) extent_of blocks) ∙ ap (flat_map (given regions c)) placed.laid
-      ∙ region_bytes regions c 0 c specs (sym (zero-add c)) inside (length_region c)
+      flat_map-map (λ (x : store.DataBlock). if x.class == c then x.bytes else []) (seen_in bytes) blocks
+      ∙ sym (flat_map-map (given bytes c) extent_of blocks) ∙ ap (flat_map (given bytes c)) placed.laid ∙ class_given bytes c 0 c rooms (sym (zero-add c)) inside
 
 -- ---- from what a contract sees
 
 module _ (a : Inside) (v : CountedStore) (view : store_of a ≡ v) (d : ℕ) where
-  abbrev stored : List (List ℕ)
-  stored = bytes_of a.regions.items
-
   pub block_within : d < length v.store.blocks → d < length a.blocks.loads
-  block_within there = omega (arith, there, ap (λ (s : CountedStore). length s.store.blocks) view, length-map a.blocks.loads (seen_in stored))
+  block_within there = omega (arith, there, ap (λ (s : CountedStore). length s.store.blocks) view, length-map a.blocks.loads (seen_in a.bytes.items))
 
   -- b is data block d
   module _ (b : DataBlock) (read : slice_get a.blocks.loads d ≡ Some b) where
     pub block_is : block_at a.blocks.loads d ≡ b
     block_is = get_or_from_slice_get a.blocks.loads d b no_block read
 
-    pub seen_is : data_block_at v.store d ≡ seen_in stored b
-    seen_is = ap (λ (s : CountedStore). data_block_at s.store d) (sym view) ∙ sym (get_or-map_all (seen_in stored) a.blocks.loads d no_block) ∙ ap (seen_in stored) block_is
+    pub seen_is : data_block_at v.store d ≡ seen_in a.bytes.items b
+    seen_is = ap (λ (s : CountedStore). data_block_at s.store d) (sym view) ∙ sym (get_or-map_all (seen_in a.bytes.items) a.blocks.loads d no_block) ∙ ap (seen_in a.bytes.items) block_is
 
     pub count_is : b.references ≡ count_of v d
     count_is = ap (λ (x : DataBlock). x.references) (sym block_is) ∙ get_or-map_all (λ (x : DataBlock). x.references) a.blocks.loads d no_block ∙ ap (λ s. count_of s d) view
 
     pub capacity_is : IsSound a → d < length v.store.blocks → b.size ≡ capacity_of v.store d
     capacity_is sound there =
-        let fits = whole (store_of a).store.classes stored a.blocks.loads sound.placed d (block_within there) in
-        sym (ap (λ (x : store.DataBlock). length x.bytes) seen_is ∙ length-part b.size b.start (region_at stored b.class) (subst (λ (x : DataBlock). x.start + x.size ≤ length (region_at stored x.class)) block_is fits))
+        let fits = whole (map room_of a.classes.items) a.bytes.items a.blocks.loads sound.placed d (block_within there) in
+        sym (ap (λ (x : store.DataBlock). length x.bytes) seen_is ∙ length-part b.size b.start a.bytes.items (subst (λ (x : DataBlock). x.start + x.size ≤ length a.bytes.items) block_is fits))
 
 -- ---- what `class_info` returns for a class
 

@@ -10,17 +10,22 @@ use Rattle.strm_data.specs.declared.data.Data.TheInside.{Inside}
 use Rattle.strm_data.specs.declared.data.DataBlock.{DataBlock}
 use Rattle.strm_data.specs.declared.msg_type.MsgType.TheVariants.{MData}
 use Rattle.strm_data.specs.CountedStore.{CountedStore, IsKept, IsUnused, after_take}
-use Rattle.strm_data.specs.DataLayout.{bytes_of, no_class, store_of_parts, store_of, IsPlaced, IsSound}
+use Rattle.std.proofs.lemmas.Simd.{map-map}
+use Rattle.strm_data.specs.DataLayout.{Room, no_class, room_of, store_of_parts, store_of, IsPlaced, IsSound}
 use Rattle.strm_data.specs.DataStore.{IsClassFor, IsTakenFrom, least_of, take_data, capacity_of, class_of, free_of, with_data_taken, class_spec_at}
 use Rattle.strm_data.proofs.store.Kept.{first_unused, get_or-map_all}
 use Rattle.strm_data.proofs.store.Lawful.{IsClassFor-kept, class_there}
 use Rattle.strm_data.proofs.layout.Seen.{get_or_first}
 use Rattle.strm_data.proofs.layout.Alterations.{altered, placed_still}
 
+-- classes in the same rooms are the same for a contract
+pub specs_of : (new old : List Class) → map room_of new ≡ map room_of old → map (λ (k : Class). k.spec) new ≡ map (λ (k : Class). k.spec) old
+specs_of new old rooms = sym (map-map (λ (r : Room). r.spec) room_of new) ∙ ap (map (λ (r : Room). r.spec)) rooms ∙ map-map (λ (r : Room). r.spec) room_of old
+
 -- class c, which k is, gets another number of the fewest that were free
 module _ (classes : List Class) (c : ℕ) (k : Class) (class_is : k ≡ get_or classes c no_class) (n : ℕ) where
-  pub specs_noted : map (λ (x : Class). x.spec) (set classes c (record k { least = n })) ≡ map (λ (x : Class). x.spec) classes
-  specs_noted = map-set_same (λ (x : Class). x.spec) classes c (record k { least = n }) no_class (ap (λ (x : Class). x.spec) class_is)
+  pub rooms_noted : map room_of (set classes c (record k { least = n })) ≡ map room_of classes
+  rooms_noted = map-set_same room_of classes c (record k { least = n }) no_class (ap room_of class_is)
 
   pub least_noted : map (λ (x : Class). x.least) (set classes c (record k { least = n })) ≡ set (map (λ (x : Class). x.least) classes) c n
   least_noted = map-set (λ (x : Class). x.least) classes c (record k { least = n })
@@ -78,17 +83,14 @@ module _ (a : Inside) (v : CountedStore) (view : store_of a ≡ v) (sound : IsSo
   module _ (b : DataBlock) (read : slice_get a.blocks.loads n ≡ Some b) (now : LoadedRows DataBlock) (loads : now.loads ≡ set a.blocks.loads n (record b { kind = MData; references = 1 }))
       (popped : now.rows.lists ≡ set a.blocks.rows.lists c (drop 1 (get_or a.blocks.rows.lists c [])))
       (k : Class) (read_class : k ≡ get_or a.classes.items c k) (m : ℕ) (left : m ≡ length (get_or a.blocks.rows.lists c []) - 1) (noted : Class) (noted_is : noted ≡ record k { least = min k.least m }) where
-    abbrev regions_now : List (List ℕ)
-    regions_now = bytes_of a.regions.items
-
     abbrev classes_now : List Class
     classes_now = set a.classes.items c noted
 
     class_is : k ≡ get_or a.classes.items c no_class
     class_is = read_class ∙ get_or_default a.classes.items c k no_class found_within
 
-    specs_now : map (λ (x : Class). x.spec) classes_now ≡ map (λ (x : Class). x.spec) a.classes.items
-    specs_now = ap (λ x. map (λ (y : Class). y.spec) (set a.classes.items c x)) noted_is ∙ specs_noted a.classes.items c k class_is (min k.least m)
+    rooms_now : map room_of classes_now ≡ map room_of a.classes.items
+    rooms_now = ap (λ x. map room_of (set a.classes.items c x)) noted_is ∙ rooms_noted a.classes.items c k class_is (min k.least m)
 
     least_now : map (λ (x : Class). x.least) classes_now ≡ set v.store.least c (min (least_of v.store c) (length (drop 1 (free_of v.store c))))
     least_now =
@@ -97,16 +99,16 @@ module _ (a : Inside) (v : CountedStore) (view : store_of a ≡ v) (sound : IsSo
         ∙ ap (λ (s : CountedStore). set s.store.least c (min (least_of s.store c) m)) view
         ∙ ap (λ x. set v.store.least c (min (least_of v.store c) x)) (left ∙ ap (λ (s : CountedStore). length (free_of s.store c) - 1) view ∙ sym (length-drop 1 (free_of v.store c)))
 
-    pub taken : store_of_parts classes_now regions_now now.loads now.rows.lists ≡ after_take v (take_data size v.store)
+    pub taken : store_of_parts classes_now a.bytes.items now.loads now.rows.lists ≡ after_take v (take_data size v.store)
     taken =
-        (λ i. record (store_of_parts a.classes.items regions_now now.loads now.rows.lists) {
-          store = record (store_of_parts a.classes.items regions_now now.loads now.rows.lists).store { classes = specs_now i; least = least_now i };
+        (λ i. record (store_of_parts a.classes.items a.bytes.items now.loads now.rows.lists) {
+          store = record (store_of_parts a.classes.items a.bytes.items now.loads now.rows.lists).store { classes = specs_of classes_now a.classes.items rooms_now i; least = least_now i };
         })
         ∙ ap (λ (s : CountedStore). record s { store = record s.store { classes = map (λ (x : Class). x.spec) a.classes.items; least = set v.store.least c (min (least_of v.store c) (length (drop 1 (free_of v.store c)))) } })
         (altered a v view n b read (record b { kind = MData; references = 1 }) refl now loads)
         ∙ cc (popped, view, here.0, after_is)
 
-    pub placed_taken : IsPlaced (map (λ (x : Class). x.spec) classes_now) regions_now now.loads
+    pub placed_taken : IsPlaced (map room_of classes_now) a.bytes.items now.loads
     placed_taken =
-        subst (λ ss. IsPlaced ss regions_now now.loads) (sym specs_now)
-        (placed_still a v view n b read (record b { kind = MData; references = 1 }) refl now loads (map (λ (x : Class). x.spec) a.classes.items) sound.placed)
+        subst (λ rs. IsPlaced rs a.bytes.items now.loads) (sym rooms_now)
+        (placed_still a v view n b read (record b { kind = MData; references = 1 }) refl now loads (map room_of a.classes.items) sound.placed)

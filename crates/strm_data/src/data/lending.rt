@@ -7,22 +7,22 @@ ghost use Rattle.strm_data.specs.Lending.{Edits};
 
 use super::{Data, DataNo};
 
-// Lends `len` bytes of a region, from place `at` on.
-fn part_of(region: &[u8], at: usize, len: usize) -> &[u8]
-    requires { at + len ≤ length region.now }
-    ensures { result.now ≡ take len (drop at region.now) }
+// Lends `len` of these bytes, from place `at` on.
+fn part_of(all: &[u8], at: usize, len: usize) -> &[u8]
+    requires { at + len ≤ length all.now }
+    ensures { result.now ≡ take len (drop at all.now) }
 {
-    &region[at..at + len]
+    &all[at..at + len]
 }
 
-// Lends `len` bytes of a region, from place `at` on, to `change`.
-fn edit_part<R, F: FnOnce(&mut [u8]) -> R>(region: &mut [u8], at: usize, len: usize, change: F) -> R
-    requires there { at + len ≤ length region.old }
-    requires callable { FnOnceTakesAtMut F.FnOnce change (take len (drop at region.old)) }
-    ensures { Edits (FnOnceReturnsAtMut F.FnOnce change) (take len (drop at region.old)) result
-        (λ bytes. region.new ≡ bytes_overwritten at bytes region.old) }
+// Lends `len` of these bytes, from place `at` on, to `change`.
+fn edit_part<R, F: FnOnce(&mut [u8]) -> R>(all: &mut [u8], at: usize, len: usize, change: F) -> R
+    requires there { at + len ≤ length all.old }
+    requires callable { FnOnceTakesAtMut F.FnOnce change (take len (drop at all.old)) }
+    ensures { Edits (FnOnceReturnsAtMut F.FnOnce change) (take len (drop at all.old)) result
+        (λ bytes. all.new ≡ bytes_overwritten at bytes all.old) }
 {
-    change(&mut region[at..at + len])
+    change(&mut all[at..at + len])
 }
 
 impl Data {
@@ -33,8 +33,8 @@ impl Data {
         requires room { at + len ≤ capacity_of self.now.store number }
         ensures { result.now ≡ bytes_at number at len self.now.store }
     {
-        let place = self.blocks.load(number).region_place(at);
-        part_of(&self.regions[place.class], place.start, len)
+        let place = self.blocks.load(number).place_of(at);
+        part_of(&self.bytes, place, len)
     }
 
     /// Lends the bytes of all data blocks of a class, in use or free, one block after the other, or none if there is no such
@@ -42,7 +42,9 @@ impl Data {
     pub fn region(&self, class: u8) -> Option<&[u8]>
         ensures { option_copied result ≡ class_region class self.now.store }
     {
-        Some(self.regions.get(usize::from(class))?.as_slice())
+        let class = self.classes.get(usize::from(class))?;
+        let len = class.spec.size as usize * class.spec.count as usize;
+        Some(part_of(&self.bytes, class.start as usize, len))
     }
 
     /// Lends `len` bytes of a data block, from place `at` on, to `change`, which may change them. They must be within the
@@ -62,8 +64,8 @@ impl Data {
             (λ bytes. self.new ≡ record self.old { store = with_bytes_written number at bytes self.old.store }) }
         ensures kept { IsKept self.new }
     {
-        let place = self.blocks.load(number).region_place(at);
-        edit_part(&mut self.regions[place.class], place.start, len, change)
+        let place = self.blocks.load(number).place_of(at);
+        edit_part(&mut self.bytes, place, len, change)
     }
 
     /// Overwrites bytes of a data block, from place `at` on, with `bytes`. They must fit into its capacity. All other

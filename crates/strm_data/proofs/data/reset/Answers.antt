@@ -1,8 +1,8 @@
 use Rattle.std.proofs.Common.{◌≡◌, ◌+◌, ◌-◌, ◌<◌, ◌∷◌, ◌++◌, [], length, get_or, map, set, take, drop, refl, sym, ap, ◌∙◌, arith, append_assoc}
 use Rattle.std.proofs.lemmas.List.{drop_more, length-map, length-take-le, map_push, set-append_right, take_more}
 use Rattle.strm_data.specs.declared.data.Class.{Class}
-use Rattle.strm_data.specs.DataLayout.{no_class}
-use Rattle.strm_data.proofs.layout.Taking.{least_noted, specs_noted}
+use Rattle.strm_data.specs.DataLayout.{no_class, room_of}
+use Rattle.strm_data.proofs.layout.Taking.{least_noted, rooms_noted}
 use Rattle.strm_data.proofs.data.reset.Goals as goal
 
 pub loop-number-preserved : goal.loop-number-preserved
@@ -14,9 +14,9 @@ loop-number-preserved c =
     let many : length now ≡ length c.args.classes.now =
     omega (
       arith,
-      ap length c.loop-number.invariant.specs,
-      length-map now (λ (k : Class). k.spec),
-      length-map c.args.classes.now (λ (k : Class). k.spec),
+      ap length c.loop-number.invariant.rooms,
+      length-map now room_of,
+      length-map c.args.classes.now room_of,
     ) in
     let within : i < length now = omega (arith, many, c.loop-number-test.true) in
     let there : i < length old = omega (arith, many, within, length-map c.args.classes.now (λ (k : Class). k.least)) in
@@ -25,7 +25,7 @@ loop-number-preserved c =
     let front = map length (take i lists) in
     let long : length front ≡ i = length-map (take i lists) length ∙ length-take-le i lists (omega arith) in
     record {
-      specs = specs_noted now i k refl c.len.result ∙ c.loop-number.invariant.specs;
+      rooms = rooms_noted now i k refl c.len.result ∙ c.loop-number.invariant.rooms;
       least =
           least_noted now i k refl c.len.result ∙ ap (λ ns. set ns i c.len.result) c.loop-number.invariant.least
           ∙ set-append_right front (drop i old) i i c.len.result long (omega arith)

@@ -1,14 +1,22 @@
-use Rattle.std.proofs.Common.{◌≡◌, ℕ, ◌+◌, ◌≤◌, List, Vec, Global, length, set, take, drop, refl, sym, ap, ◌∙◌, subst, arith}
+use Rattle.std.proofs.Common.{◌≡◌, ℕ, ◌+◌, ◌≤◌, List, length, map, take, drop, refl, sym, ap, ◌∙◌, subst, arith}
 use Rattle.std.specs.Vec.{with_items}
 use Rattle.std.proofs.lemmas.List.{with_items_is}
 use Rattle.strm_data.specs.CountedStore.{IsKept}
-use Rattle.strm_data.specs.DataLayout.{bytes_of, store_of, store_of_parts, region_at, IsPlaced}
+use Rattle.strm_data.specs.DataLayout.{room_of, store_of_parts, IsPlaced}
 use Rattle.strm_data.specs.DataStore.{capacity_of, data_block_at, bytes_overwritten, with_bytes_written}
-use Rattle.strm_data.proofs.layout.Copying.{in_region, overwrites, part_is, IsPlaced-overwrites}
-use Rattle.strm_data.proofs.store.Kept.{IsKept-altered, capacity_range}
 use Rattle.strm_data.proofs.Lists.{length-overwritten, length-part}
+use Rattle.strm_data.proofs.layout.Copying.{in_bytes, overwrites, part_is, IsPlaced-overwrites}
+use Rattle.strm_data.proofs.store.Kept.{IsKept-altered}
 use Rattle.strm_data.proofs.data.Data.copy.Goals as goal
 use Rattle.strm_data.proofs.data.Data.copy.Goals.{After-deref_mut}
+
+pub copy_inside-requires-clause-there : goal.copy_inside-requires-clause-there
+copy_inside-requires-clause-there c =
+    omega (arith, ap length c.deref_mut.ensures.value, in_bytes c.self.inside _ c.self.view_is c.self.invariant c.args.from c.requires.from c.load.result.now c.load.ensures c.args.at _ c.place_of-source.ensures.place c.args.len c.requires.there)
+
+pub copy_inside-requires-clause-room : goal.copy_inside-requires-clause-room
+copy_inside-requires-clause-room c =
+    omega (arith, ap length c.deref_mut.ensures.value, in_bytes c.self.inside _ c.self.view_is c.self.invariant c.args.into c.requires.into c.load-2.result.now c.load-2.ensures c.args.to _ c.place_of-target.ensures.place c.args.len c.requires.room)
 
 module _ (c : After-deref_mut) where
   -- the bytes that are copied
@@ -18,62 +26,32 @@ module _ (c : After-deref_mut) where
   long : length bytes ≡ c.args.len
   long = length-part c.args.len c.args.at (data_block_at c.args.self.now.store c.args.from).bytes c.requires.there
 
-pub copy_bytes-requires-clause-low : goal.copy_bytes-requires-clause-low
-copy_bytes-requires-clause-low c =
-    omega (arith, c.region_place-source.ensures.low, c.requires.there, (capacity_range c.args.self.now c.args.from (subst IsKept c.self.view_is c.self.invariant.kept) c.requires.from).1)
+  room : c.args.to + length bytes ≤ capacity_of c.args.self.now.store c.args.into
+  room = omega (arith, long, c.requires.room)
 
-pub copy_bytes-requires-clause-there : goal.copy_bytes-requires-clause-there
-copy_bytes-requires-clause-there c =
-    let at = (goal.at.copy_bytes-requires-clause-there c).After-deref_mut in
-    omega (
-      arith,
-      ap (λ rs. length (region_at (bytes_of rs) c.region_place-source.result.class)) c.deref_mut.ensures.value,
-      in_region c.self.inside c.args.self.now c.self.view_is c.self.invariant c.args.from c.requires.from c.load.result.now c.load.ensures c.args.at _ c.region_place-source.ensures.place c.args.len c.requires.there,
-    )
+  -- all bytes then
+  module _ (new : List ℕ) (many : length new ≡ length c.deref_mut.result.now)
+      (is : new ≡ bytes_overwritten c.place_of-target.result (take c.args.len (drop c.place_of-source.result c.deref_mut.result.now)) c.deref_mut.result.now) where
+    bytes_are : (with_items c.self.inside.bytes new).items ≡ bytes_overwritten c.place_of-target.result bytes c.self.inside.bytes.items
+    bytes_are =
+        with_items_is c.self.inside.bytes new (many ∙ c.deref_mut.ensures.len) ∙ is
+        ∙ ap (λ bs. bytes_overwritten c.place_of-target.result (take c.args.len (drop c.place_of-source.result bs)) bs) c.deref_mut.ensures.value
+        ∙ ap (λ bs. bytes_overwritten c.place_of-target.result bs c.self.inside.bytes.items)
+        (part_is c.self.inside _ c.self.view_is c.self.invariant c.args.from c.requires.from c.load.result.now c.load.ensures c.args.at _ c.place_of-source.ensures.place c.args.len c.requires.there)
 
-pub copy_bytes-requires-clause-room : goal.copy_bytes-requires-clause-room
-copy_bytes-requires-clause-room c =
-    let at = (goal.at.copy_bytes-requires-clause-room c).After-deref_mut in
-    omega (
-      arith,
-      ap (λ rs. length (region_at (bytes_of rs) c.region_place-target.result.class)) c.deref_mut.ensures.value,
-      in_region c.self.inside c.args.self.now c.self.view_is c.self.invariant c.args.into c.requires.into c.load-2.result.now c.load-2.ensures c.args.to _ c.region_place-target.ensures.place c.args.len c.requires.room,
-    )
-
-module _ (c : After-deref_mut) where
-  abbrev regions : List (List ℕ)
-  regions = bytes_of c.self.inside.regions.items
-
-  room : c.args.to + length (bytes c) ≤ capacity_of c.args.self.now.store c.args.into
-  room = omega (arith, long c, c.requires.room)
-
-  -- the regions then
-  module _ (new : List (Vec ℕ Global)) (many : length new ≡ length c.deref_mut.result.now)
-      (is : bytes_of new ≡ set (bytes_of c.deref_mut.result.now) c.region_place-target.result.class
-      (bytes_overwritten c.region_place-target.result.start (take c.args.len (drop c.region_place-source.result.start (region_at (bytes_of c.deref_mut.result.now) c.region_place-source.result.class)))
-      (region_at (bytes_of c.deref_mut.result.now) c.region_place-target.result.class))) where
-    regions_are : bytes_of (with_items c.self.inside.regions new).items
-        ≡ set regions c.region_place-target.result.class (bytes_overwritten c.region_place-target.result.start (bytes c) (region_at regions c.region_place-target.result.class))
-    regions_are =
-        ap bytes_of (with_items_is c.self.inside.regions new (many ∙ c.deref_mut.ensures.len)) ∙ is
-        ∙ ap (λ rs. set (bytes_of rs) c.region_place-target.result.class
-        (bytes_overwritten c.region_place-target.result.start (take c.args.len (drop c.region_place-source.result.start (region_at (bytes_of rs) c.region_place-source.result.class))) (region_at (bytes_of rs) c.region_place-target.result.class)))
-        c.deref_mut.ensures.value
-        ∙ ap (λ bs. set regions c.region_place-target.result.class (bytes_overwritten c.region_place-target.result.start bs (region_at regions c.region_place-target.result.class)))
-        (part_is c.self.inside c.args.self.now c.self.view_is c.self.invariant c.args.from c.requires.from c.load.result.now c.load.ensures c.args.at _ c.region_place-source.ensures.place c.args.len c.requires.there)
-
-    copied : store_of_parts c.self.inside.classes.items (bytes_of (with_items c.self.inside.regions new).items) c.self.inside.blocks.loads c.self.inside.blocks.rows.lists
-        ≡ record c.args.self.now { store = with_bytes_written c.args.into c.args.to (bytes c) c.args.self.now.store }
+    copied : store_of_parts c.self.inside.classes.items (with_items c.self.inside.bytes new).items c.self.inside.blocks.loads c.self.inside.blocks.rows.lists
+        ≡ record c.args.self.now { store = with_bytes_written c.args.into c.args.to bytes c.args.self.now.store }
     copied =
-        cc (regions_are, overwrites c.self.inside c.args.self.now c.self.view_is c.self.invariant c.args.into c.requires.into c.load-2.result.now c.load-2.ensures c.args.to _ c.region_place-target.ensures.place (bytes c) room)
+        ap (λ bs. store_of_parts c.self.inside.classes.items bs c.self.inside.blocks.loads c.self.inside.blocks.rows.lists) bytes_are
+        ∙ overwrites c.self.inside _ c.self.view_is c.self.invariant c.args.into c.requires.into c.load-2.result.now c.load-2.ensures c.args.to _ c.place_of-target.ensures.place bytes room
 
-    placed : IsPlaced (store_of c.self.inside).store.classes (bytes_of (with_items c.self.inside.regions new).items) c.self.inside.blocks.loads
+    placed : IsPlaced (map room_of c.self.inside.classes.items) (with_items c.self.inside.bytes new).items c.self.inside.blocks.loads
     placed =
-        subst (λ rs. IsPlaced (store_of c.self.inside).store.classes rs c.self.inside.blocks.loads) (sym regions_are)
-        (IsPlaced-overwrites c.self.inside c.args.self.now c.self.view_is c.self.invariant c.args.into c.requires.into c.load-2.result.now c.load-2.ensures c.args.to _ c.region_place-target.ensures.place (bytes c) room)
+        subst (λ bs. IsPlaced (map room_of c.self.inside.classes.items) bs c.self.inside.blocks.loads) (sym bytes_are)
+        (IsPlaced-overwrites c.self.inside _ c.self.view_is c.self.invariant c.args.into c.requires.into c.load-2.result.now c.load-2.ensures c.args.to _ c.place_of-target.ensures.place bytes room)
 
 pub returns-clause-after : goal.returns-clause-after
-returns-clause-after c = copied (goal.at.returns-clause-after c).After-deref_mut c.copy_bytes.new.regions c.copy_bytes.auto.regions c.copy_bytes.ensures
+returns-clause-after c = copied (goal.at.returns-clause-after c).After-deref_mut c.copy_inside.new.bytes c.copy_inside.auto.bytes c.copy_inside.ensures
 
 pub returns-clause-kept : goal.returns-clause-kept
 returns-clause-kept c =
@@ -84,7 +62,7 @@ returns-clause-kept c =
 pub invariant_of-self : goal.invariant_of-self
 invariant_of-self c = record {
   kept = returns-clause-kept c;
-  placed = placed (goal.at.invariant_of-self c).After-deref_mut c.copy_bytes.new.regions c.copy_bytes.auto.regions c.copy_bytes.ensures;
+  placed = placed (goal.at.invariant_of-self c).After-deref_mut c.copy_inside.new.bytes c.copy_inside.auto.bytes c.copy_inside.ensures;
   least = record { each = c.self.invariant.least.each; fewest = c.self.invariant.least.fewest };
   nodes = c.self.invariant.nodes;
 }

@@ -3,7 +3,7 @@ use Rattle.strm_links.specs.LoadedRows.{LoadedRows}
 use Rattle.strm_links.specs.Rows.{Rows, holder}
 use Rattle.strm_data.specs.declared.data.DataBlock.{DataBlock}
 use Rattle.strm_data.specs.CountedStore.{CountedStore, IsKept, IsInUse, without_reference}
-use Rattle.strm_data.specs.DataLayout.{bytes_of, store_of, store_of_parts, IsSound}
+use Rattle.strm_data.specs.DataLayout.{store_of, store_of_parts, IsSound}
 use Rattle.strm_data.specs.DataStore as store
 use Rattle.strm_data.specs.DataStore.{IsLeast}
 use Rattle.strm_data.proofs.layout.Alterations.{lowered, released, IsSound-altered}
@@ -14,8 +14,8 @@ use Rattle.strm_data.proofs.data.Data.drop_name.Goals.{After-set_load}
 
 -- what holds of the data blocks once a contract sees a reference less
 module _ (c : After-set_load) (now : LoadedRows DataBlock)
-    (after : store_of_parts c.self.inside.classes.items (bytes_of c.self.inside.regions.items) now.loads now.rows.lists ≡ without_reference c.args.number c.args.self.now) where
-  kept : IsKept (store_of_parts c.self.inside.classes.items (bytes_of c.self.inside.regions.items) now.loads now.rows.lists)
+    (after : store_of_parts c.self.inside.classes.items c.self.inside.bytes.items now.loads now.rows.lists ≡ without_reference c.args.number c.args.self.now) where
+  kept : IsKept (store_of_parts c.self.inside.classes.items c.self.inside.bytes.items now.loads now.rows.lists)
   kept =
       subst IsKept (sym after)
       (IsKept-without_name c.args.self.now c.args.number (subst IsKept c.self.view_is c.self.invariant.kept) c.requires.used c.requires.there)

@@ -1,69 +1,63 @@
-use Rattle.std.proofs.Common.{◌≡◌, ◌+◌, ◌≤◌, List, ℕ, drop, length, set, take, refl, sym, ap, ◌∙◌, subst, arith}
+use Rattle.std.proofs.Common.{◌≡◌, ◌+◌, ◌≤◌, List, ℕ, drop, length, map, take, refl, sym, ap, ◌∙◌, subst, arith}
 use Rattle.std.specs.Vec.{with_items}
 use Rattle.std.specs.Fn.{FnOnceReturnsAtMut, FnOnceTakesAtMut}
-use Rattle.std.proofs.lemmas.List.{length-drop, length-take-le, map-set, with_items_is}
+use Rattle.std.proofs.lemmas.List.{length-drop, length-take-le, with_items_is}
 use Rattle.strm_data.specs.CountedStore.{IsKept}
-use Rattle.strm_data.specs.DataLayout.{bytes_of, region_at, store_of, store_of_parts, IsPlaced}
+use Rattle.strm_data.specs.DataLayout.{room_of, store_of_parts, IsPlaced}
 use Rattle.strm_data.specs.DataStore.{bytes_at, bytes_overwritten, capacity_of, with_bytes_written}
-use Rattle.strm_data.proofs.layout.Copying.{in_region, overwrites, part_is, region_is, IsPlaced-overwrites}
-use Rattle.strm_data.proofs.store.Kept.{IsKept-altered}
 use Rattle.strm_data.proofs.Lists.{length-overwritten}
+use Rattle.strm_data.proofs.layout.Copying.{in_bytes, overwrites, part_is, IsPlaced-overwrites}
+use Rattle.strm_data.proofs.store.Kept.{IsKept-altered}
 use Rattle.strm_data.proofs.data.Data.edit.Given.{Over}
 use Rattle.strm_data.proofs.data.Data.edit.Goals as goal
 use Rattle.strm_data.proofs.data.Data.edit.Goals.{After-deref_mut}
 
 module _ (g : Over) (c : After-deref_mut g) where
-  -- the region that is written to
-  region : c.deref_mut.result.now ≡ region_at (bytes_of c.self.inside.regions.items) c.region_place-place.result.class
-  region =
-      region_is c.self.inside _ c.self.view_is c.self.invariant c.args.number c.requires.there c.load.result.now c.load.ensures c.args.at _ c.region_place-place.ensures.place c.index_mut.result.now c.deref_mut.result.now c.index_mut.ensures.value c.deref_mut.ensures.value
+  all : c.deref_mut.result.now ≡ c.self.inside.bytes.items
+  all = c.deref_mut.ensures.value
 
-  fits : c.region_place-place.result.start + c.args.len ≤ length c.deref_mut.result.now
-  fits =
-      omega (arith, ap length region, in_region c.self.inside _ c.self.view_is c.self.invariant c.args.number c.requires.there c.load.result.now c.load.ensures c.args.at _ c.region_place-place.ensures.place c.args.len c.requires.room)
+  fits : c.place_of-place.result + c.args.len ≤ length c.deref_mut.result.now
+  fits = omega (arith, ap length all, in_bytes c.self.inside _ c.self.view_is c.self.invariant c.args.number c.requires.there c.load.result.now c.load.ensures c.args.at _ c.place_of-place.ensures.place c.args.len c.requires.room)
 
   -- the bytes that are lent
-  lent : take c.args.len (drop c.region_place-place.result.start c.deref_mut.result.now) ≡ bytes_at c.args.number c.args.at c.args.len c.args.self.now.store
+  lent : take c.args.len (drop c.place_of-place.result c.deref_mut.result.now) ≡ bytes_at c.args.number c.args.at c.args.len c.args.self.now.store
   lent =
-      ap (λ r. take c.args.len (drop c.region_place-place.result.start r)) region
-      ∙ part_is c.self.inside _ c.self.view_is c.self.invariant c.args.number c.requires.there c.load.result.now c.load.ensures c.args.at _ c.region_place-place.ensures.place c.args.len c.requires.room
+      ap (λ bs. take c.args.len (drop c.place_of-place.result bs)) all
+      ∙ part_is c.self.inside _ c.self.view_is c.self.invariant c.args.number c.requires.there c.load.result.now c.load.ensures c.args.at _ c.place_of-place.ensures.place c.args.len c.requires.room
 
-  long : length (take c.args.len (drop c.region_place-place.result.start c.deref_mut.result.now)) ≡ c.args.len
+  long : length (take c.args.len (drop c.place_of-place.result c.deref_mut.result.now)) ≡ c.args.len
   long =
-      length-take-le c.args.len (drop c.region_place-place.result.start c.deref_mut.result.now)
-      (omega (arith, fits, length-drop c.region_place-place.result.start c.deref_mut.result.now))
+      length-take-le c.args.len (drop c.place_of-place.result c.deref_mut.result.now)
+      (omega (arith, fits, length-drop c.place_of-place.result c.deref_mut.result.now))
 
   -- once these bytes are in their place
-  module _ (left new : List ℕ) (same : length left ≡ length (take c.args.len (drop c.region_place-place.result.start c.deref_mut.result.now)))
-      (is : new ≡ bytes_overwritten c.region_place-place.result.start left c.deref_mut.result.now) where
-    many : length left ≡ c.args.len
-    many = same ∙ long
-
+  module _ (left new : List ℕ) (same : length left ≡ length (take c.args.len (drop c.place_of-place.result c.deref_mut.result.now)))
+      (is : new ≡ bytes_overwritten c.place_of-place.result left c.deref_mut.result.now) where
     room : c.args.at + length left ≤ capacity_of c.args.self.now.store c.args.number
-    room = omega (arith, many, c.requires.room)
+    room = omega (arith, same, long, c.requires.room)
 
-    -- the regions then
-    regions_are : bytes_of (set c.self.inside.regions.items c.region_place-place.result.class (with_items c.index_mut.result.now new))
-        ≡ set (bytes_of c.self.inside.regions.items) c.region_place-place.result.class
-        (bytes_overwritten c.region_place-place.result.start left (region_at (bytes_of c.self.inside.regions.items) c.region_place-place.result.class))
-    regions_are =
-        let whole = ap length is ∙ length-overwritten c.region_place-place.result.start left c.deref_mut.result.now (omega (arith, many, fits)) ∙ c.deref_mut.ensures.len in
-        cc (map-set (λ r. r.items) c.self.inside.regions.items c.region_place-place.result.class (with_items c.index_mut.result.now new), with_items_is c.index_mut.result.now new whole, is, region)
+    -- all bytes then
+    bytes_are : (with_items c.self.inside.bytes new).items ≡ bytes_overwritten c.place_of-place.result left c.self.inside.bytes.items
+    bytes_are =
+        with_items_is c.self.inside.bytes new
+        (ap length is ∙ length-overwritten c.place_of-place.result left c.deref_mut.result.now (omega (arith, same, long, fits)) ∙ c.deref_mut.ensures.len)
+        ∙ is ∙ ap (bytes_overwritten c.place_of-place.result left) all
 
-    after : store_of_parts c.self.inside.classes.items (bytes_of (set c.self.inside.regions.items c.region_place-place.result.class (with_items c.index_mut.result.now new))) c.self.inside.blocks.loads c.self.inside.blocks.rows.lists
+    after : store_of_parts c.self.inside.classes.items (with_items c.self.inside.bytes new).items c.self.inside.blocks.loads c.self.inside.blocks.rows.lists
         ≡ record c.args.self.now { store = with_bytes_written c.args.number c.args.at left c.args.self.now.store }
     after =
-        ap (λ rs. store_of_parts c.self.inside.classes.items rs c.self.inside.blocks.loads c.self.inside.blocks.rows.lists) regions_are
-        ∙ overwrites c.self.inside _ c.self.view_is c.self.invariant c.args.number c.requires.there c.load.result.now c.load.ensures c.args.at _ c.region_place-place.ensures.place left room
+        ap (λ bs. store_of_parts c.self.inside.classes.items bs c.self.inside.blocks.loads c.self.inside.blocks.rows.lists) bytes_are
+        ∙ overwrites c.self.inside _ c.self.view_is c.self.invariant c.args.number c.requires.there c.load.result.now c.load.ensures c.args.at _ c.place_of-place.ensures.place left room
 
-    kept : IsKept (record c.args.self.now { store = with_bytes_written c.args.number c.args.at left c.args.self.now.store })
+    kept : IsKept (store_of_parts c.self.inside.classes.items (with_items c.self.inside.bytes new).items c.self.inside.blocks.loads c.self.inside.blocks.rows.lists)
     kept =
-        IsKept-altered c.args.self.now c.args.number _ refl (length-overwritten c.args.at left _ room) (subst IsKept c.self.view_is c.self.invariant.kept)
+        subst IsKept (sym after)
+        (IsKept-altered c.args.self.now c.args.number _ refl (length-overwritten c.args.at left _ room) (subst IsKept c.self.view_is c.self.invariant.kept))
 
-    placed : IsPlaced (store_of c.self.inside).store.classes (bytes_of (set c.self.inside.regions.items c.region_place-place.result.class (with_items c.index_mut.result.now new))) c.self.inside.blocks.loads
+    placed : IsPlaced (map room_of c.self.inside.classes.items) (with_items c.self.inside.bytes new).items c.self.inside.blocks.loads
     placed =
-        subst (λ rs. IsPlaced (store_of c.self.inside).store.classes rs c.self.inside.blocks.loads) (sym regions_are)
-        (IsPlaced-overwrites c.self.inside _ c.self.view_is c.self.invariant c.args.number c.requires.there c.load.result.now c.load.ensures c.args.at _ c.region_place-place.ensures.place left room)
+        subst (λ bs. IsPlaced (map room_of c.self.inside.classes.items) bs c.self.inside.blocks.loads) (sym bytes_are)
+        (IsPlaced-overwrites c.self.inside _ c.self.view_is c.self.invariant c.args.number c.requires.there c.load.result.now c.load.ensures c.args.at _ c.place_of-place.ensures.place left room)
 
 pub edit_part-requires-clause-there : goal.edit_part-requires-clause-there
 edit_part-requires-clause-there g c = fits g (goal.at.edit_part-requires-clause-there g c).After-deref_mut
@@ -77,7 +71,7 @@ invariant_of-self g c =
     let at = (goal.at.invariant_of-self g c).After-deref_mut in
     let edits = c.edit_part.ensures in
     record {
-      kept = subst IsKept (sym (after g at edits.left _ edits.long edits.after)) (kept g at edits.left _ edits.long edits.after);
+      kept = kept g at edits.left _ edits.long edits.after;
       placed = placed g at edits.left _ edits.long edits.after;
       least = record { each = c.self.invariant.least.each; fewest = c.self.invariant.least.fewest };
       nodes = c.self.invariant.nodes;
@@ -96,6 +90,5 @@ returns-clause-after g c =
 
 pub returns-clause-kept : goal.returns-clause-kept
 returns-clause-kept g c =
-    let at = (goal.at.returns-clause-kept g c).After-deref_mut in
     let edits = c.edit_part.ensures in
-    subst IsKept (sym (after g at edits.left _ edits.long edits.after)) (kept g at edits.left _ edits.long edits.after)
+    kept g (goal.at.returns-clause-kept g c).After-deref_mut edits.left _ edits.long edits.after

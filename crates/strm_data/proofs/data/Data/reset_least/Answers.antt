@@ -1,9 +1,10 @@
-use Rattle.std.proofs.Common.{◌≡◌, List, ℕ, map, sym, ap, ◌∙◌, subst}
+use Rattle.std.proofs.Common.{◌≡◌, List, map, sym, ap, ◌∙◌, subst}
 use Rattle.std.specs.Vec.{with_items}
 use Rattle.std.proofs.lemmas.List.{with_items_is}
 use Rattle.strm_data.specs.declared.data.Class.{Class}
 use Rattle.strm_data.specs.CountedStore.{CountedStore, IsKept}
-use Rattle.strm_data.specs.DataLayout.{bytes_of, store_of, store_of_parts, IsPlaced}
+use Rattle.strm_data.specs.DataLayout.{room_of, store_of, store_of_parts, IsPlaced}
+use Rattle.strm_data.proofs.layout.Taking.{specs_of}
 use Rattle.strm_data.specs.DataStore.{IsLeast, with_data_reset}
 use Rattle.strm_data.proofs.store.Kept.{IsKept-least, IsLeast-reset}
 use Rattle.strm_data.proofs.data.Data.reset_least.Goals as goal
@@ -13,20 +14,17 @@ module _ (c : After-reset) where
   abbrev now : List Class
   now = c.reset.new.classes
 
-  abbrev regions : List (List ℕ)
-  regions = bytes_of c.self.inside.regions.items
-
   is : (with_items c.self.inside.classes now).items ≡ now
   is = with_items_is c.self.inside.classes now (c.reset.auto.classes ∙ c.deref_mut.ensures.len)
 
-  specs : map (λ (k : Class). k.spec) now ≡ map (λ (k : Class). k.spec) c.self.inside.classes.items
-  specs = c.reset.ensures.specs ∙ ap (map (λ (k : Class). k.spec)) c.deref_mut.ensures.value
+  rooms : map room_of now ≡ map room_of c.self.inside.classes.items
+  rooms = c.reset.ensures.rooms ∙ ap (map room_of) c.deref_mut.ensures.value
 
-  after : store_of_parts (with_items c.self.inside.classes now).items regions c.self.inside.blocks.loads c.self.inside.blocks.rows.lists
+  after : store_of_parts (with_items c.self.inside.classes now).items c.self.inside.bytes.items c.self.inside.blocks.loads c.self.inside.blocks.rows.lists
       ≡ record c.args.self.now { store = with_data_reset c.args.self.now.store }
   after =
-      ap (λ ks. store_of_parts ks regions c.self.inside.blocks.loads c.self.inside.blocks.rows.lists) is
-      ∙ (λ i. record (store_of c.self.inside) { store = record (store_of c.self.inside).store { classes = specs i; least = c.reset.ensures.least i } })
+      ap (λ ks. store_of_parts ks c.self.inside.bytes.items c.self.inside.blocks.loads c.self.inside.blocks.rows.lists) is
+      ∙ (λ i. record (store_of c.self.inside) { store = record (store_of c.self.inside).store { classes = specs_of now c.self.inside.classes.items rooms i; least = c.reset.ensures.least i } })
       ∙ ap (λ (s : CountedStore). record s { store = with_data_reset s.store }) c.self.view_is
 
   kept_before : IsKept c.args.self.now
@@ -35,8 +33,8 @@ module _ (c : After-reset) where
   kept : IsKept (record c.args.self.now { store = with_data_reset c.args.self.now.store })
   kept = IsKept-least c.args.self.now (with_data_reset c.args.self.now.store).least kept_before
 
-  placed : IsPlaced (map (λ (k : Class). k.spec) (with_items c.self.inside.classes now).items) regions c.self.inside.blocks.loads
-  placed = subst (λ ss. IsPlaced ss regions c.self.inside.blocks.loads) (sym (ap (map (λ (k : Class). k.spec)) is ∙ specs)) c.self.invariant.placed
+  placed : IsPlaced (map room_of (with_items c.self.inside.classes now).items) c.self.inside.bytes.items c.self.inside.blocks.loads
+  placed = subst (λ rs. IsPlaced rs c.self.inside.bytes.items c.self.inside.blocks.loads) (sym (ap (map room_of) is ∙ rooms)) c.self.invariant.placed
 
 pub returns-clause-after : goal.returns-clause-after
 returns-clause-after c = after (goal.at.returns-clause-after c).After-reset
