@@ -19,10 +19,11 @@
  * To wait is here to wait for a message, room or blocks. Each call also takes the lock, and sleeps
  * while another thread has it, whatever its deadline.
  *
- * A `deadline` is a time of CLOCK_MONOTONIC. With null a call waits for ever; with a time that has
- * passed, such as zeros, it never waits. If a call would have to wait longer, it returns
- * STRM_MT_TIMED_OUT. A tv_nsec below 0 or above 999,999,999 is STRM_BAD_ARGUMENT, even if the call
- * need not wait, but not for a `length` of 0.
+ * A `deadline` is a time of CLOCK_MONOTONIC. With null a call waits for ever; with zeros it never
+ * waits. With another time that has passed it returns at once, but it is a cancellation point, as
+ * if it had waited. If a call would have to wait longer, it returns STRM_MT_TIMED_OUT. A tv_nsec
+ * below 0 or above 999,999,999 is STRM_BAD_ARGUMENT, even if the call need not wait, but not for a
+ * `length` of 0.
  *
  * Each unlock serves the calls that wait: it puts, takes or allocates for each that can go on, and
  * then wakes its thread. So at no time while the lock is free does a call wait that could go on.
@@ -30,8 +31,8 @@
  *
  *   - At a queue, those that send in one band, and those that receive, in the order in which they
  *     came. No later call overtakes them. strm_mt_send_n comes anew to the band of a message whose
- *     band is not that of the message before: after calls that wait there already, even if these
- *     began later.
+ *     band is not that of the ordinary message before: after calls that wait there already, even
+ *     if these began later.
  *   - Of those that send in several bands, greater bands first. Greater bands are received first
  *     too, so they can keep messages of smaller ones waiting for ever.
  *   - Of those that allocate, in the order in which they came, each that finds its blocks.
@@ -40,9 +41,10 @@
  * of strm.h at once.
  *
  * A full band has room once it is below its high water mark; the low one plays no part. Each unlock
- * costs some calls of strm.h: for each queue and band at which a call waits, for each size that one
- * waits for, and for each descriptor of strm_mt_fd. Without these it costs nothing, and a call that
- * need not wait makes no system call, if no other thread has the lock.
+ * costs some calls of strm.h: for each queue and band at which a call waits, for each call that
+ * waits for blocks, unless the call before it wants the same size, and for each descriptor of
+ * strm_mt_fd. Without these it costs nothing, and a call that need not wait makes no system call,
+ * if no other thread has the lock.
  *
  *
  * What the caller promises
@@ -50,6 +52,8 @@
  * The rules of strm.h hold, and these:
  *
  *   - A thread that holds the lock makes no call of this header but those that unlock.
+ *   - A message that a waiting call sends is not put, freed or joined to another by others, and
+ *     keeps its type and band. Otherwise its call may wait until those before it went on.
  *   - Threads are cancelled only where that is deferred. Only a call that waits is a cancellation
  *     point. If its thread is cancelled, it holds no lock, no place and no message that it got. A
  *     message that it has not sent stays held: strm_has says so.
@@ -159,7 +163,8 @@ int strm_mt_receive_n(struct strm_mt *mt, uint32_t queue, struct strm_msg *msgs,
 int strm_mt_alloc(struct strm_mt *mt, uint32_t size, struct strm_msg *msg, const struct timespec *deadline);
 
 /*
- * Shuts a queue for ever: sending there, and receiving once it is empty, returns STRM_MT_CLOSED.
+ * Shuts a queue for ever: sending there, and receiving once it is empty, returns STRM_MT_CLOSED,
+ * but for a `length` of 0.
  * All calls that wait there return so at once; strm_mt_send_n returns STRM_OK if it has sent some.
  * STRM_NO_QUEUE shuts all queues, and waiting for blocks, which shutting each queue does not.
  */
