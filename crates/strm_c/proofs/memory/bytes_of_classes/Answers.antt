@@ -4,8 +4,11 @@ use Rattle.std.proofs.lemmas.List.{take_all}
 use Rattle.std.proofs.lemmas.List.Sums.{sum_by_more, sum_by_more_le}
 use Rattle.strm_data.specs.DataStore.{no_class_spec}
 use Rattle.strm_c.specs.Memory.{bytes_of_class}
-use Rattle.strm_c.proofs.Measuring.{lawful_few}
+use Rattle.strm_c.proofs.Measuring.{lawful_few, own_few}
 use Rattle.strm_c.proofs.memory.bytes_of_classes.Goals as goal
+
+pub in_lines-own-requires : goal.in_lines-own-requires
+in_lines-own-requires c = own_few c.args.classes.now c.requires c.loop-class.class-index c.loop-class-test.true
 
 pub loop-class-preserved : goal.loop-class-preserved
 loop-class-preserved c = omega (arith, c.loop-class.invariant, sum_by_more bytes_of_class c.args.classes.now c.loop-class.class-index no_class_spec c.loop-class-test.true)
