@@ -24,7 +24,7 @@ use strm_pool::{Config, NewFault, Pool, Token};
 ///
 /// Calls take and return names instead of tokens, and require nothing of them. A name that is not valid is refused as
 /// `Fault::Invalid`, and nothing changes then; `linkb` of a message to itself is refused so too. `has` returns false for it.
-/// Otherwise a call that takes a name makes the token of its message, and does what the call of `Pool` does. Only `new` allocates:
+/// Otherwise a call on a name does what the call does that its comment names, by a token that it makes. Only `new` allocates:
 /// what `Pool::new` does, and 16 bytes for each message block.
 #[derive(Drop)]
 pub struct NamedPool {

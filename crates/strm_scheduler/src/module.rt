@@ -17,8 +17,8 @@ use strm_pool::{Pool, QueuedInfo, Token};
 ///
 /// A module may look whether a band of another queue is full (`Pool::band_info`), but cannot make it wanted, so no call wakes it once
 /// there is room. [`send`](crate::send) asks for no room, and puts a message on a queue even if its band is full there. Such messages
-/// are replies, those for another queue than the next one, second messages, those of high priority, and those whose band or type the
-/// module changed.
+/// are replies, those for another queue than the next one, second messages, those of high priority, those whose band or type the module
+/// changed, and those that it made or kept.
 pub trait Module {
     // What `need` can return: the module, the pool, the queue, its first message, and what is returned.
     ghost needs: { Self → PoolValue → ℕ → QueuedInfo → NeedValue → Type 0 };

@@ -231,7 +231,8 @@ impl<N: Name> Desks<N> {
         let Desks { slots: _ } = self;
     }
 
-    /// Loses the desks and the tokens in their registers. The messages stay held, and no call can reach them any more.
+    /// Loses the desks and the tokens in their registers. The messages stay held. If the pool was not gathered before,
+    /// no call can reach them any more.
     pub fn forget(self) {
         let Desks { slots: _ } = self;
     }
