@@ -1,5 +1,5 @@
 -- Doubly linked lists in one arena: what each changing call of `Links` leaves.
 pub mod Carried
-pub mod Shown
+pub mod StoredRows
 pub mod Changes
-pub mod Places
+pub mod TableCalls

@@ -2,7 +2,7 @@
 use Rattle.std.specs.Prelude.{◌≡◌, ℕ, ◌+◌, ◌<◌, ◌≤◌, ◌^◌, ◌==◌, nat_lt, List, [], ◌∷◌, ◌++◌, map, length, reverse, take, drop, Option, None, Some, IsSome, slice_index_or, slice_set, if◌then◌else◌}
 use Rattle.std.specs.List.{range_with_len}
 use Rattle.strm_links.specs.Rows.{Rows, first, holder, last, linked_nodes}
-use Rattle.strm_links.specs.Layout.{IsLaid, rows_in, walk, LeadsOn}
+use Rattle.strm_links.specs.Layout.{IsSoundTable, rows_in, walk, LeadsOn}
 pub use Rattle.strm_links.specs.Layout.{onward}
 use Rattle.strm_links.specs.Counting.{times}
 use Rattle.strm_links.specs.Chains.{chain_in, items_in, items_of}
@@ -124,9 +124,9 @@ lists_in table first_free free_len least = lists_of (chains_in table first_free 
 abbrev pub view_of : {T : Type 0} → Table Link T → Option ℕ → ℕ → ℕ → LoadedChains T
 view_of table first_free free_len least = record { lists = lists_in table first_free free_len least; loads = loads_of table.nodes.items }
 
--- the shelves are laid out, and so are the chains; each head on a shelf begins a chain; and no fewer nodes are free than the fewest
+-- the table and the chains are sound; each head on a shelf begins a chain; and no fewer nodes are free than the fewest
 pub record IsWhole {T : Type 0} (table : Table Link T) (first_free : Option ℕ) (free_len least : ℕ) : Type 0 where
-  pub laid : IsLaid table
+  pub sound : IsSoundTable table
   pub chained : IsChained (links_of table.nodes.items) first_free free_len (chains_in table first_free free_len)
   pub begun : (h : ℕ) → IsSome (holder h (rows_in table)) → IsSome (chain_in (chains_in table first_free free_len).chains h)
   pub fewest : least ≤ free_len

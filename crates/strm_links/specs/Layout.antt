@@ -107,5 +107,5 @@ abbrev pub rows_in : {L T : Type 0} → Table L T → Rows
 rows_in table = rows_of (places_of table.nodes.items) table.ends.items
 
 -- the table is sound
-abbrev pub IsLaid : {L T : Type 0} → Table L T → Type 0
-IsLaid table = IsSound (places_of table.nodes.items) table.ends.items (rows_in table)
+abbrev pub IsSoundTable : {L T : Type 0} → Table L T → Type 0
+IsSoundTable table = IsSound (places_of table.nodes.items) table.ends.items (rows_in table)

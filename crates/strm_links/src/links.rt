@@ -35,11 +35,11 @@ impl Model for Links {
 
     ghost coded = { rows_code };
 
-    ghost use Rattle.strm_links.specs.Layout.{rows_in, IsLaid};
+    ghost use Rattle.strm_links.specs.Layout.{rows_in, IsSoundTable};
 
     ghost view = { λ s. rows_in s.table };
 
-    ghost invariant = { λ s. IsLaid s.table };
+    ghost invariant = { λ s. IsSoundTable s.table };
 }
 
 impl Links {

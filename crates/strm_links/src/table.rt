@@ -2,7 +2,7 @@
 ghost use Rattle.std.specs.Prelude.{◌≡◌, ◌≢◌, ℕ, ◌<◌, [], ◌++◌, length, map, replicate, slice_set, if◌then◌else◌, is_none, IfOk, IsSome, IsTrue, vec_len};
 ghost use Rattle.std.specs.Option.{ForSome, option_map_or};
 ghost use Rattle.strm_links.specs.Rows.{IsParting, has, without, put_in, list_at, holder};
-ghost use Rattle.strm_links.specs.Layout.{no_place, no_ends, owner_at, previous_at, next_at, walk, with_next, with_previous, places_of, carried_by, rows_in, IsLaid};
+ghost use Rattle.strm_links.specs.Layout.{no_place, no_ends, owner_at, previous_at, next_at, walk, with_next, with_previous, places_of, carried_by, rows_in, IsSoundTable};
 
 use crate::slot::Slot;
 use std::alloc::{AllocError, Global};
@@ -148,12 +148,12 @@ impl<L, T> Table<L, T> {
     // Puts the free node `node` into `list`: just before `next`, or at the back if `next` is none.
     #[inline(always)]
     pub(crate) fn link_at(&mut self, list: u32, node: u32, next: Slot)
-        requires sound { IsLaid self.old }
+        requires sound { IsSoundTable self.old }
         requires list { list < length (rows_in self.old).lists }
         requires node { node < (rows_in self.old).nodes }
         requires free { holder node (rows_in self.old) ≡ None }
         requires next { ForSome next (λ at. holder at (rows_in self.old) ≡ Some list) }
-        ensures sound { IsLaid self.new }
+        ensures sound { IsSoundTable self.new }
         ensures parting { IsParting (rows_in self.new) }
         ensures lists { rows_in self.new ≡ record (rows_in self.old) {
           lists = slice_set (rows_in self.old).lists list (put_in next node (list_at list (rows_in self.old)));
@@ -179,9 +179,9 @@ impl<L, T> Table<L, T> {
     // Takes a node out of its list.
     #[inline(always)]
     pub(crate) fn remove(&mut self, node: u32)
-        requires sound { IsLaid self.old }
+        requires sound { IsSoundTable self.old }
         requires held { IsSome (holder node (rows_in self.old)) }
-        ensures sound { IsLaid self.new }
+        ensures sound { IsSoundTable self.new }
         ensures parting { IsParting (rows_in self.new) }
         ensures lists { rows_in self.new
             ≡ record (rows_in self.old) { lists = map (without node) (rows_in self.old).lists } }
@@ -204,11 +204,11 @@ impl<L, T> Table<L, T> {
 
     // Appends all nodes of `from` to `to`, a different list, in order, and leaves `from` empty.
     pub(crate) fn append(&mut self, to: u32, from: u32)
-        requires sound { IsLaid self.old }
+        requires sound { IsSoundTable self.old }
         requires to { to < length (rows_in self.old).lists }
         requires from { from < length (rows_in self.old).lists }
         requires other { to ≢ from }
-        ensures sound { IsLaid self.new }
+        ensures sound { IsSoundTable self.new }
         ensures parting { IsParting (rows_in self.new) }
         ensures lists { rows_in self.new ≡ record (rows_in self.old) {
           lists = slice_set (slice_set (rows_in self.old).lists to
@@ -241,7 +241,7 @@ impl<L: Copy, T: Copy> Table<L, T> {
         link: L,
         load: T,
     ) -> Result<Self, AllocError>
-        ensures sound { IfOk result IsLaid }
+        ensures sound { IfOk result IsSoundTable }
         ensures parting { IfOk result (λ t. IsParting (rows_in t)) }
         ensures rows { IfOk result (λ t. rows_in t ≡ record { nodes = nodes; lists = replicate lists [] }) }
         ensures carried { IfOk result (λ t. carried_by t.nodes.items ≡ replicate nodes (link, load)) }

@@ -32,10 +32,10 @@ use Rattle.strm_mblk.specs.Frame.{LeavesOthers}
 use Rattle.strm_mblk.specs.Given.{and_then}
 use Rattle.std.proofs.lemmas.Grind.{common_steps}
 use Rattle.strm_mblk.proofs.Trimming.{same_kind-one}
-use Rattle.strm_mblk.proofs.layout.Shown.{alike_off, message-alike, message_at-seen}
+use Rattle.strm_mblk.proofs.layout.StoredArena.{alike_off, message-alike, message_at-seen}
 use Rattle.strm_mblk.proofs.arena.Frame.{own_is, Leaves, held_named, leaves_data, naming_at, other_head, shelved_named, others_one}
 use Rattle.strm_mblk.proofs.layout.Rooms.{rooms-written, HasRooms, rooms-both, rooms-kind}
-use Rattle.strm_mblk.proofs.layout.Places.{IsAt, block_given, rewrite_filled, written_shows, AreRewritten, message_filled, message_shows, once_within, token_held, within_room}
+use Rattle.strm_mblk.proofs.layout.HeldBlocks.{IsAt, block_given, rewrite_filled, written_shows, AreRewritten, message_filled, message_shows, once_within, token_held, within_room}
 use Rattle.strm_mblk.proofs.arena.Calls.{alters_to}
 use Rattle.strm_mblk.proofs.arena.Counts.{out_of_held, IsHad, had_again, had_message, held_within}
 use Rattle.strm_mblk.proofs.Lists.{count_adds, drop_from}
@@ -56,9 +56,6 @@ suits_found a h k x found f same room banded = record { head = h; place = k; blo
 module _ (a : Arena) (h k : ℕ) (x : Block) (own : own_block h k a ≡ Ok x) where
   pub found_own : slice_get (message_at a h) k ≡ Some x
   found_own = (own_is a h k x own).found
-
-  pub suits_own : (f : Fields) → f.data_number ≡ x.data_number → f.offset + f.len ≤ capacity_of a.store f.data_number → f.band < 2 ^ 8 → Suits a x.number f
-  suits_own = suits_found a h k x found_own
 
   -- also once bytes are in its data block
   module _ (at : ℕ) (bytes : List ℕ) (b : Arena) (is : b ≡ with_bytes x.data_number at bytes a) where

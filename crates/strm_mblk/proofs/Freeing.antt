@@ -18,7 +18,7 @@ use Rattle.strm_links.specs.ChainLists.{IsLawful, ChainLists, nodes_at}
 use Rattle.strm_mblk.proofs.Lists.{count_by-map, drop_from, count_adds}
 use Rattle.strm_mblk.proofs.layout.Rooms.{HasRooms, count_of-set, rooms-both, placed-over}
 use Rattle.strm_mblk.proofs.arena.Counts.{held_moves, held_within}
-use Rattle.strm_mblk.proofs.layout.Shown.{blocks_of-mapped, held_at-seen, message_at-seen}
+use Rattle.strm_mblk.proofs.layout.StoredArena.{blocks_of-mapped, held_at-seen, message_at-seen}
 use Rattle.std.proofs.lemmas.Grind.{common_steps}
 
 -- ==== names that blocks taken out of all messages had are dropped, one after the other

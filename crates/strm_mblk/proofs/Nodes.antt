@@ -23,15 +23,7 @@ first_node (n ∷ ns) h some is = ap Some is
 pub begins_with : (v : ChainLists) → IsLawful v → (h : ℕ) (ns : List ℕ) → held_in v.held h ≡ Some ns → first ns ≡ Some h
 begins_with v parted h ns held = let at = subst (λ o. IfSome o (λ m. (0 < length m) × (head_node m ≡ h))) held (parted.parts.heads h) in first_node ns h at.0 at.1
 
--- and has it
-pub held_some : (v : ChainLists) → IsLawful v → (h : ℕ) → IsSome (held_in v.held h) → 0 < length (items_of (held_in v.held h))
-held_some v parted h some = some_in (held_in v.held h) some (parted.parts.heads h)
-  where
-    some_in : (o : Option (List ℕ)) → IsSome o → IfSome o (λ m. (0 < length m) × (head_node m ≡ h)) → 0 < length (items_of o)
-    some_in None some is = absurd (false≢true some)
-    some_in (Some ns) some is = is.0
-
--- it is the chain with this head
+-- a message that has a block is the chain with this head
 pub chain_is : (v : ChainLists) (h i n : ℕ) → slice_get (nodes_at v h) i ≡ Some n → chain_of v h ≡ nodes_at v h
 chain_is v h i n at = go (held_in v.held h) (items_of (with_head head_node h (flat_map (λ ns. ns) v.shelves))) at
   where

@@ -21,9 +21,9 @@ use Rattle.strm_mblk.specs.Messages.{blocks_of}
 use Rattle.strm_mblk.specs.Limits.{most_message_blocks}
 use Rattle.strm_mblk.proofs.Altering.{from_block}
 use Rattle.strm_mblk.proofs.Lists.{drop-append, drop_from, IsLaid, laid_all, flat_map-set_adds, length_adds}
-use Rattle.strm_mblk.proofs.layout.Places.{block_none, block_some, held_nodes}
+use Rattle.strm_mblk.proofs.layout.HeldBlocks.{block_none, block_some, held_nodes}
 use Rattle.strm_mblk.proofs.arena.Counts.{had_message, held_within}
-use Rattle.strm_mblk.proofs.layout.Shown.{all_there, len_most, size_most, message_at-seen}
+use Rattle.strm_mblk.proofs.layout.StoredArena.{all_there, len_most, size_most, message_at-seen}
 use Rattle.std.proofs.lemmas.Grind.{common_steps}
 
 -- ==== the bytes of a held message, block by block

@@ -22,7 +22,7 @@ use Rattle.strm_mblk.specs.Shelves.{head_block, heads_at, shelf_of, shelve, shel
 use Rattle.strm_mblk.proofs.Lists.{IsAdditive, count_adds, flat_map-set_adds, length_adds}
 use Rattle.strm_mblk.proofs.arena.Counts.{blocks_in_adds, head_counts, held_within, not_held, number_is, once, within}
 use Rattle.strm_mblk.proofs.joining.Linkb.{moved_filled}
-use Rattle.strm_mblk.proofs.layout.Shown.{all_there, counted, law_parted, message_at-seen, shelf_at-seen, len_most, size_most, shelved-seen}
+use Rattle.strm_mblk.proofs.layout.StoredArena.{all_there, counted, law_parted, message_at-seen, shelf_at-seen, len_most, size_most, shelved-seen}
 use Rattle.strm_mblk.specs.Limits.{most_message_blocks}
 use Rattle.std.proofs.lemmas.Grind.{common_steps}
 use Rattle.strm_data.specs.Limits.{most_data_block_bytes}

@@ -29,9 +29,9 @@ use Rattle.strm_mblk.specs.Messages.{blocks_of, held_in}
 use Rattle.strm_links.specs.ChainLists.{ChainLists, nodes_at}
 use Rattle.strm_mblk.proofs.Lists.{drop_from}
 use Rattle.strm_mblk.proofs.Freeing.{reverse_onto}
-use Rattle.strm_mblk.proofs.layout.Shown.{alike_off, message-alike, message_at-seen}
+use Rattle.strm_mblk.proofs.layout.StoredArena.{alike_off, message-alike, message_at-seen}
 use Rattle.strm_mblk.proofs.arena.Counts.{held_within, IsHad, had_again, had_message}
-use Rattle.strm_mblk.proofs.layout.Places.{AreHeld, AreRewritten, held_nodes, message_filled, message_shows, once_within, within_room}
+use Rattle.strm_mblk.proofs.layout.HeldBlocks.{AreHeld, AreRewritten, held_nodes, message_filled, message_shows, once_within, within_room}
 use Rattle.std.proofs.lemmas.Grind.{common_steps}
 
 -- ==== the blocks of one type at an end of a message, measured from the first block on

@@ -1,4 +1,4 @@
 -- Message blocks as they lie in memory, and the arena that they show.
-pub mod Shown
+pub mod StoredArena
 pub mod Rooms
-pub mod Places
+pub mod HeldBlocks

@@ -16,7 +16,7 @@ use Rattle.strm_links.specs.declared.chained.Span.{Span}
 use Rattle.strm_links.proofs.lists.Counting.{times_below, items_none, times-append, Changes-one, times-set}
 use Rattle.strm_links.proofs.lists.ListLinks.{LeadsOn-kept, LeadsOn-parts, first-take, has_first, has_last, last-take, link_last, onward-at, LeadsOn-end}
 use Rattle.strm_links.proofs.lists.OneList.{ApartParts, IsApart-parts, has_left}
-use Rattle.strm_links.proofs.chains.Laid.{begins_none, IsChained-moved, apart_from, write_elsewhere, write_here, free_apart, free_low, not_free, not_in_chain}
+use Rattle.strm_links.proofs.chains.StoredChains.{begins_none, IsChained-moved, apart_from, write_elsewhere, write_here, free_apart, free_low, not_free, not_in_chain}
 
 -- ---- the nodes of a new arena, which are all free
 

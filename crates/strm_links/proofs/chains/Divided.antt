@@ -11,7 +11,7 @@ use Rattle.strm_links.specs.declared.chained.Link.{Link}
 use Rattle.strm_links.proofs.lists.ListLinks.{LeadsOn-kept}
 use Rattle.strm_links.proofs.lists.Counting.{times-append}
 use Rattle.strm_links.proofs.lists.OneList.{differ, has_head, has_tail}
-use Rattle.strm_links.proofs.chains.Laid.{IsChained-two, behind_begins_none, head_in, head_low, chain_laid, apart_from, write_elsewhere, write_here, chain_apart, chain_low}
+use Rattle.strm_links.proofs.chains.StoredChains.{IsChained-two, behind_begins_none, head_in, head_low, chain_laid, apart_from, write_elsewhere, write_here, chain_apart, chain_low}
 
 module _ (nodes : List Link) (first_free : Option ℕ) (free_len : ℕ) (v : ByHead) (laid : IsChained nodes first_free free_len v) (h : ℕ) (some_h : IsSome (chain_in v.chains h)) where
   -- a head without a next node is alone

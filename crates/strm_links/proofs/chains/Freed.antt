@@ -15,7 +15,7 @@ use Rattle.strm_links.specs.Counting.{times}
 use Rattle.strm_links.proofs.lists.ListLinks.{LeadsOn-kept, absent_take, link_at, LeadsOn-parts, walk_is, last_without, onward-end}
 use Rattle.strm_links.proofs.lists.Counting.{has_times, times-reverse, times_has, split_behind, times-append}
 use Rattle.strm_links.proofs.lists.OneList.{first_or-append, absent_both, absent_parts, first_alone, ApartParts, IsApart-parts, differ, has_left, has_right, has_tail}
-use Rattle.strm_links.proofs.chains.Laid.{IsChained-out, chain_laid, write_elsewhere, write_here, freed_few, head_in, apart_from, chain_apart, chain_low}
+use Rattle.strm_links.proofs.chains.StoredChains.{IsChained-out, chain_laid, write_elsewhere, write_here, freed_few, head_in, apart_from, chain_apart, chain_low}
 
 -- ---- all nodes of a chain become free, the last one first
 

@@ -9,7 +9,7 @@ use Rattle.strm_links.specs.declared.chained.Link.{Link}
 use Rattle.strm_links.specs.declared.chained.Span.{Span}
 use Rattle.strm_links.proofs.lists.ListLinks.{LeadsOn-kept, first_front, last_back, LeadsOn-append, LeadsOn-end}
 use Rattle.strm_links.proofs.lists.Counting.{times-append}
-use Rattle.strm_links.proofs.chains.Laid.{IsChained-two, head_low, last_in, chain_laid, apart_from, write_elsewhere, write_here, not_in_other, chain_apart, two_few}
+use Rattle.strm_links.proofs.chains.StoredChains.{IsChained-two, head_low, last_in, chain_laid, apart_from, write_elsewhere, write_here, not_in_other, chain_apart, two_few}
 
 module _ (nodes : List Link) (first_free : Option ℕ) (free_len : ℕ) (v : ByHead) (laid : IsChained nodes first_free free_len v) (h g : ℕ) (some_h : IsSome (chain_in v.chains h)) (some_g : IsSome (chain_in v.chains g)) (other : h ≢ g) where
   laid_h : IsChain (after_at nodes) (span_at nodes h) h (chain_at v h)

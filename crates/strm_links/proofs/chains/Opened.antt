@@ -6,7 +6,7 @@ use Rattle.std.proofs.lemmas.Bool.{cases_lt, false≢true}
 use Rattle.std.proofs.lemmas.List.{get_or_past, get_or-replicate, length-replicate}
 use Rattle.std.proofs.lemmas.Simd.{map-map}
 use Rattle.strm_links.specs.Rows.{Rows, holder}
-use Rattle.strm_links.specs.Layout.{IsLaid, IsSound, carried_by, rows_in, rows_of}
+use Rattle.strm_links.specs.Layout.{IsSoundTable, IsSound, carried_by, rows_in, rows_of}
 use Rattle.strm_links.specs.ChainLists.{opening_chains}
 use Rattle.strm_links.specs.ChainLayout.{ByHead, IsChained, IsWhole, after_at, chain_at, chains_but, linked_at, links_of, lists_in, lists_of, loads_of, no_link, no_span, span_at, unlinked}
 use Rattle.strm_links.specs.declared.chained.Link.{Link}
@@ -17,7 +17,7 @@ use Rattle.strm_links.specs.declared.table.Table.{Table}
 use Rattle.strm_links.proofs.linking.Carried.{alike}
 use Rattle.strm_links.proofs.lists.AllLists.{holder-empty}
 use Rattle.strm_links.proofs.chains.Begun.{IsChained-opened}
-use Rattle.strm_links.proofs.chains.Laid.{IsChained-stored, by_head_is}
+use Rattle.strm_links.proofs.chains.StoredChains.{IsChained-stored, by_head_is}
 use Rattle.strm_links.proofs.chains.Whole.{loads_rest, places_rest}
 use Rattle.strm_links.proofs.chains.Written.{length-links}
 
@@ -37,7 +37,7 @@ no_heads : (s : ℕ) → concat (replicate s []) ≡ []
 no_heads zero = refl
 no_heads (suc s) = no_heads s
 
-module _ {T : Type 0} (n s : ℕ) (load : T) (old new : Table Link T) (laid : IsLaid old) (rows : rows_in old ≡ record { nodes = n; lists = replicate s [] }) (carried : carried_by old.nodes.items ≡ replicate n (no_link, load))
+module _ {T : Type 0} (n s : ℕ) (load : T) (old new : Table Link T) (laid : IsSoundTable old) (rows : rows_in old ≡ record { nodes = n; lists = replicate s [] }) (carried : carried_by old.nodes.items ≡ replicate n (no_link, load))
     (rest : unlinked new.nodes.items ≡ unlinked old.nodes.items) (ends : new.ends ≡ old.ends) (few : n < 2 ^ 32) (long : length new.nodes.items ≡ n)
     (leads : (k : ℕ) → k < n → after_at (links_of new.nodes.items) k ≡ (if nat_lt (k + 1) n then Some (k + 1) else None)) (spans : (k : ℕ) → span_at (links_of new.nodes.items) k ≡ no_span) where
   empty : Rows
@@ -62,7 +62,7 @@ module _ {T : Type 0} (n s : ℕ) (load : T) (old new : Table Link T) (laid : Is
   pub IsWhole-opened : IsWhole new (if nat_lt 0 n then Some 0 else None) n n
   unfolding empty
   IsWhole-opened = record {
-    laid = subst (λ (x : List Place × List Ends). IsSound x.0 x.1 (rows_of x.0 x.1)) (sym (λ i. (places_rest old.nodes.items new.nodes.items rest i, (ends i).items))) laid;
+    sound = subst (λ (x : List Place × List Ends). IsSound x.0 x.1 (rows_of x.0 x.1)) (sym (λ i. (places_rest old.nodes.items new.nodes.items rest i, (ends i).items))) laid;
     chained = IsChained-stored _ _ _ _ chained;
     begun = λ h on. absurd (false≢true (sym (ap is_some (ap (holder h) rows_now ∙ holder-empty n s h)) ∙ on));
     fewest = omega arith;

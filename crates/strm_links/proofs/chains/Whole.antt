@@ -10,7 +10,7 @@ use Rattle.std.proofs.lemmas.Option.{none-some, same_Some, slice_get-get_or}
 use Rattle.std.proofs.lemmas.Simd.{map-map}
 use Rattle.std.proofs.Math.Seq.{map-set_same}
 use Rattle.strm_links.specs.Rows.{Rows, has, IsParting, first, after, before, list_at, holder, linked_nodes, next_in, previous_in}
-use Rattle.strm_links.specs.Layout.{IsLaid, IsSound, carried_by, places_of, rows_in, rows_of}
+use Rattle.strm_links.specs.Layout.{IsSoundTable, IsSound, carried_by, places_of, rows_in, rows_of}
 use Rattle.strm_links.specs.Counting.{times}
 use Rattle.strm_links.specs.Chains.{chain_in, items_of, items_in, items_on, shelf_in, with_head}
 use Rattle.strm_links.specs.ChainLists.{ChainLists, IsLawful, LoadedChains, chain_of, head_node, heads_on, nodes_at, shelf_with, shelved_nodes, with_behind_freed}
@@ -19,15 +19,15 @@ use Rattle.strm_links.specs.declared.table.Node.{Node}
 use Rattle.strm_links.specs.declared.table.Place.{Place}
 use Rattle.strm_links.specs.declared.table.Table.{Table}
 use Rattle.strm_links.specs.declared.chained.Link.{Link}
-use Rattle.strm_links.proofs.linking.Shown.{parts}
+use Rattle.strm_links.proofs.linking.StoredRows.{parts}
 use Rattle.strm_links.proofs.lists.AllLists.{has-holder}
 use Rattle.strm_links.proofs.lists.Counting.{times-append}
 use Rattle.strm_links.proofs.lists.Positions.{position_same}
 use Rattle.strm_links.proofs.lists.OneList.{All-has, has_head, has_tail, some_of}
 use Rattle.strm_links.proofs.chains.Freed.{front_some}
-use Rattle.strm_links.proofs.chains.Laid.{IsChained-stored, by_head_is, chain_laid, head_low, some_items}
+use Rattle.strm_links.proofs.chains.StoredChains.{IsChained-stored, by_head_is, chain_laid, head_low, some_items}
 use Rattle.strm_links.proofs.chains.Written.{length-links, link_read}
-use Rattle.strm_links.proofs.chains.Seen.{held, held_as, held_off, held_on, held-set, heads_of, length-held, listed, off_shelf, on_some, parts_sum, shelf-get, shelves-set, shelves_concat, shelves_flat, unlisted, with-map, with-none}
+use Rattle.strm_links.proofs.chains.Shelves.{held, held_as, held_off, held_on, held-set, heads_of, length-held, listed, off_shelf, on_some, parts_sum, shelf-get, shelves-set, shelves_concat, shelves_flat, unlisted, with-map, with-none}
 
 -- ---- all but the links
 
@@ -52,17 +52,6 @@ some_first : (xs : List ℕ) (x : ℕ) → first xs ≡ Some x → 0 < length xs
 some_first [] x is = absurd (none-some x is)
 some_first (y ∷ ys) x is = omega arith
 
--- a chain that has nodes is there
-pub some_there : (o : Option (List ℕ)) → 0 < length (items_of o) → IsSome o
-some_there None some = absurd (omega (arith, some))
-some_there (Some xs) some = refl
-
--- a test that fails beside another one fails
-lost : (a x b : Bool) → (a && b) ≡ false → ((a && x) && b) ≡ false
-lost true true b is = is
-lost true false b is = refl
-lost false x b is = refl
-
 module _ {T : Type 0} {t : Table Link T} {front : Option ℕ} {free least : ℕ} (whole : IsWhole t front free least) where
   abbrev chains : ByHead
   chains = chains_in t front free
@@ -71,7 +60,7 @@ module _ {T : Type 0} {t : Table Link T} {front : Option ℕ} {free least : ℕ}
   rows = rows_in t
 
   parting : IsParting rows
-  parting = parts _ _ _ whole.laid
+  parting = parts _ _ _ whole.sound
 
   -- a chain that is there begins with its number
   pub begins : (h : ℕ) → IsSome (chain_in chains.chains h) → first (chain_at chains h) ≡ Some h
@@ -291,7 +280,7 @@ module _ {T : Type 0} {t : Table Link T} {front : Option ℕ} {free least : ℕ}
           let now = by_head_is _ _ _ _ laid in
           let one : ByHead = record { free = fs; chains = set chains.chains a m } in (
             record {
-              laid = subst (λ ps. IsSound ps t.ends.items (rows_of ps t.ends.items)) (sym (places_rest t.nodes.items nodes.items rest)) whole.laid;
+              sound = subst (λ ps. IsSound ps t.ends.items (rows_of ps t.ends.items)) (sym (places_rest t.nodes.items nodes.items rest)) whole.sound;
               chained = IsChained-stored _ _ _ _ laid;
               begun = λ g on.
                   let was : IsSome (holder g rows) = subst (λ r. IsSome (holder g r)) rows_same on in
@@ -326,7 +315,7 @@ module _ {T : Type 0} {t : Table Link T} {front : Option ℕ} {free least : ℕ}
         sym (map-map (λ (p : Link × T). p.1) (λ (n : Node Link T). (n.link, n.load)) nodes) ∙ ap (map (λ (p : Link × T). p.1)) carried ∙ map-map (λ (p : Link × T). p.1) (λ (n : Node Link T). (n.link, n.load)) t.nodes.items
         ∙ ap (λ (u : LoadedChains T). u.loads) view
 
-    module _ (new : Table Link T) (carried : carried_by new.nodes.items ≡ carried_by t.nodes.items) (laid : IsLaid new) (h s : ℕ) (ys : List ℕ) (lists : rows_in new ≡ record rows { lists = set rows.lists s ys })
+    module _ (new : Table Link T) (carried : carried_by new.nodes.items ≡ carried_by t.nodes.items) (laid : IsSoundTable new) (h s : ℕ) (ys : List ℕ) (lists : rows_in new ≡ record rows { lists = set rows.lists s ys })
         (others : (k : ℕ) → k ≢ h → holder k (rows_in new) ≡ holder k rows) (begun : IsSome (chain_in chains.chains h)) where
       links_same : links_of new.nodes.items ≡ links_of t.nodes.items
       links_same =
@@ -334,7 +323,7 @@ module _ {T : Type 0} {t : Table Link T} {front : Option ℕ} {free least : ℕ}
 
       pub IsWhole-reheaded : IsWhole new front free least
       IsWhole-reheaded = record {
-        laid = laid;
+        sound = laid;
         chained = subst (λ ls. IsChained ls front free (by_head ls front free)) (sym links_same) whole.chained;
         begun = λ k on.
             subst (λ ls. IsSome (chain_in (by_head ls front free).chains k)) (sym links_same)
@@ -379,7 +368,7 @@ module _ {T : Type 0} {t : Table Link T} {front : Option ℕ} {free least : ℕ}
 
       pub IsWhole-loaded : IsWhole (record { nodes = nodes; ends = t.ends }) front free least
       IsWhole-loaded = record {
-        laid = subst (λ ps. IsSound ps t.ends.items (rows_of ps t.ends.items)) (sym places_kept) whole.laid;
+        sound = subst (λ ps. IsSound ps t.ends.items (rows_of ps t.ends.items)) (sym places_kept) whole.sound;
         chained = subst (λ ls. IsChained ls front free (by_head ls front free)) (sym links_kept) whole.chained;
         begun = λ h on.
             subst (λ ls. IsSome (chain_in (by_head ls front free).chains h)) (sym links_kept) (whole.begun h (subst (λ ps. IsSome (holder h (rows_of ps t.ends.items))) places_kept on));

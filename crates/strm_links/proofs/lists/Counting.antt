@@ -132,9 +132,6 @@ times-without_other : (k n : ℕ) (xs : List ℕ) → k ≢ n → times k (witho
 times-without_other k n [] differs = refl
 times-without_other k n (x ∷ xs) differs = grind (arith, nat_tests, times-cons k x xs, times-cons k x (without n xs), times-without_other k n xs)
 
-one_less : (k n : ℕ) → k ≢ n → one_if (nat_lt k (suc n)) ≡ one_if (nat_lt k n)
-one_less k n other = grind (arith, nat_tests)
-
 -- if each number below n counts at most `most`, the list is no longer than the sum of these bounds
 pub few_of : {X : Type 0} (most : X → ℕ) (f : ℕ → X) (n : ℕ) (xs : List ℕ) → ((k : ℕ) → times k xs ≤ most (f k)) → ((k : ℕ) → 0 < times k xs → k < n)
     → length xs ≤ sum_by most (map f (range_with_len 0 n))

@@ -14,7 +14,7 @@ use Rattle.strm_links.specs.ChainLists.{IsLawful, ChainLists}
 use Rattle.strm_mblk.specs.BlockCalls.{linkb}
 use Rattle.strm_mblk.specs.Messages.{chains_joined}
 use Rattle.strm_mblk.proofs.Lists.{count_by-map, count_same}
-use Rattle.strm_mblk.proofs.layout.Shown.{blocks_in-seen, nodes_in, message_at-seen}
+use Rattle.strm_mblk.proofs.layout.StoredArena.{blocks_in-seen, nodes_in, message_at-seen}
 use Rattle.std.proofs.lemmas.Grind.{common_steps}
 
 -- ==== blocks of held messages are put into other held messages: what a contract sees, and what stays

@@ -16,10 +16,10 @@ use Rattle.strm_mblk.specs.Given.{Given, answer_map, answer_of, or_rejected}
 use Rattle.strm_mblk.specs.Messages.{blocks_of, held_in}
 use Rattle.strm_links.specs.ChainLists.{IsLawful, ChainLists, nodes_at}
 use Rattle.strm_mblk.proofs.Lists.{first_rest}
-use Rattle.strm_mblk.proofs.layout.Places.{token_held}
+use Rattle.strm_mblk.proofs.layout.HeldBlocks.{token_held}
 use Rattle.strm_mblk.proofs.Nodes.{begins_with, block_room, held_room, not_begun, not_head}
 use Rattle.strm_mblk.proofs.joining.Linkb.{moved_filled}
-use Rattle.strm_mblk.proofs.layout.Shown.{held_at-seen, message_at-seen}
+use Rattle.strm_mblk.proofs.layout.StoredArena.{held_at-seen, message_at-seen}
 use Rattle.std.proofs.lemmas.Grind.{common_steps}
 
 -- the part before a place that isn't the first begins as the list does

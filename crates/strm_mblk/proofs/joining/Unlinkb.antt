@@ -15,7 +15,7 @@ use Rattle.strm_mblk.specs.Messages.{blocks_of, chain_divided, held_in}
 use Rattle.strm_links.specs.ChainLists.{IsLawful, ChainLists, nodes_at}
 use Rattle.strm_mblk.proofs.Nodes.{begins_with, block_room, held_room, not_begun, not_head}
 use Rattle.strm_mblk.proofs.joining.Linkb.{moved_filled}
-use Rattle.strm_mblk.proofs.layout.Shown.{held_at-seen, message_at-seen}
+use Rattle.strm_mblk.proofs.layout.StoredArena.{held_at-seen, message_at-seen}
 use Rattle.std.proofs.lemmas.Grind.{common_steps}
 
 -- a list with two numbers or more

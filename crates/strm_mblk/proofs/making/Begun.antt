@@ -17,7 +17,7 @@ use Rattle.strm_mblk.specs.BlockCalls.{held_under, blocks_renumbered, allocb}
 use Rattle.strm_mblk.specs.BlocksLayout.{IsFilled, IsPlaced, arena_of, block_of, fields_at, fields_of, message_of, no_fields, with_fields}
 use Rattle.strm_mblk.specs.Messages.{blocks_held, blocks_on, blocks_of}
 use Rattle.strm_links.specs.ChainLists.{IsLawful, ChainLists, with_begun}
-use Rattle.strm_mblk.proofs.layout.Shown.{AreAlike, alike_each, held-alike, held_at-seen, shelves-alike}
+use Rattle.strm_mblk.proofs.layout.StoredArena.{AreAlike, alike_each, held-alike, held_at-seen, shelves-alike}
 use Rattle.strm_mblk.proofs.Lists.{first_rest, count_adds, count_one}
 use Rattle.strm_mblk.proofs.Nodes.{free_room, free_unheld, one_of_all}
 use Rattle.strm_mblk.proofs.arena.Counts.{held_moves}

@@ -27,7 +27,7 @@ use Rattle.strm_mblk.proofs.making.CopiesCounted.{answer_more, can_take, in_fron
 use Rattle.strm_mblk.proofs.Lists.{count_adds, count_one}
 use Rattle.strm_mblk.proofs.making.Duplicated.{take_next, times_part, IsBeside, beside}
 use Rattle.strm_mblk.proofs.layout.Rooms.{HasRooms, count_of-set, placed-over, rooms-both}
-use Rattle.strm_mblk.proofs.layout.Shown.{message_at-seen}
+use Rattle.strm_mblk.proofs.layout.StoredArena.{message_at-seen}
 use Rattle.strm_mblk.proofs.arena.Counts.{had_again, had_message}
 use Rattle.std.proofs.lemmas.Grind.{common_steps}
 

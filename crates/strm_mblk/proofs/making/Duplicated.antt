@@ -29,9 +29,9 @@ use Rattle.strm_mblk.proofs.Freeing.{counted_there, naming-named, enough}
 use Rattle.strm_mblk.proofs.arena.Counts.{set_apart, IsHad, had_again, had_message}
 use Rattle.strm_mblk.proofs.layout.Rooms.{count_of-set, HasRooms}
 use Rattle.strm_mblk.proofs.Nodes.{begins_with, free_room, free_unheld, held_parts, one_of_all}
-use Rattle.strm_mblk.proofs.layout.Places.{token_nodes, node_room}
+use Rattle.strm_mblk.proofs.layout.HeldBlocks.{token_nodes, node_room}
 use Rattle.strm_mblk.proofs.making.Begun.{IsBegunAll, begins_all}
-use Rattle.strm_mblk.proofs.layout.Shown.{message_at-seen}
+use Rattle.strm_mblk.proofs.layout.StoredArena.{message_at-seen}
 use Rattle.std.proofs.lemmas.Grind.{common_steps}
 
 -- ==== data blocks are named once more, one after the other, and lose those references again

@@ -23,8 +23,8 @@ use Rattle.strm_mblk.proofs.Lists.{count_adds, first_rest}
 use Rattle.strm_mblk.proofs.arena.Counts.{held_moves, held_within}
 use Rattle.strm_mblk.proofs.Nodes.{begins_with}
 use Rattle.strm_mblk.proofs.Freeing.{IsFreed, frees_some}
-use Rattle.strm_mblk.proofs.layout.Places.{AreRewritten, alike_apart, message_filled, message_shows, named-same, once_within, within_room}
-use Rattle.strm_mblk.proofs.layout.Shown.{message-alike, message_at-seen}
+use Rattle.strm_mblk.proofs.layout.HeldBlocks.{AreRewritten, alike_apart, message_filled, message_shows, named-same, once_within, within_room}
+use Rattle.strm_mblk.proofs.layout.StoredArena.{message-alike, message_at-seen}
 use Rattle.strm_mblk.proofs.pulling.Taken.{AreTaken, left_others, used_first}
 use Rattle.strm_mblk.proofs.Trimming.{cut_apart, cut_named, cut_placed, length-cut, nodes_cut}
 use Rattle.std.proofs.lemmas.Grind.{common_steps}

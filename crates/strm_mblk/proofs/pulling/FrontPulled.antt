@@ -23,9 +23,9 @@ use Rattle.strm_mblk.proofs.Lists.{drop_from, first_rest, count_adds}
 use Rattle.strm_mblk.proofs.arena.Counts.{held_moves, held_within}
 use Rattle.strm_mblk.proofs.Freeing.{last_one, named_less, rooms-less, enough}
 use Rattle.strm_mblk.proofs.Nodes.{begins_with}
-use Rattle.strm_mblk.proofs.layout.Places.{written_shows, IsHeldHead}
+use Rattle.strm_mblk.proofs.layout.HeldBlocks.{written_shows, IsHeldHead}
 use Rattle.strm_mblk.proofs.layout.Rooms.{HasRooms, count_of-set, placed-set, rooms-both, rooms-kind, rooms-taken, rooms-written, bytes-message, bytes-typed}
-use Rattle.strm_mblk.proofs.layout.Shown.{held_at-seen, message_at-seen}
+use Rattle.strm_mblk.proofs.layout.StoredArena.{held_at-seen, message_at-seen}
 use Rattle.std.proofs.lemmas.Grind.{common_steps}
 
 -- ==== the bytes of a message are copied into a data block, one message block after the other

@@ -1,7 +1,7 @@
 use Rattle.std.proofs.Common.{ap, ◌∙◌}
 use Rattle.std.specs.Prelude.{slice_get}
 use Rattle.strm_mblk.proofs.Nodes.{chain_is}
-use Rattle.strm_mblk.proofs.layout.Places.{nodes_room}
+use Rattle.strm_mblk.proofs.layout.HeldBlocks.{nodes_room}
 use Rattle.strm_mblk.proofs.blocks.node_at.Goals as goal
 
 pub node_of-requires : goal.node_of-requires

@@ -7,7 +7,7 @@ use Rattle.strm_links.specs.ChainLists.{with_begun, with_free_left}
 use Rattle.strm_links.specs.ChainLayout.{IsChained, IsWhole, after_at, chains_in, links_of, lists_in, onward}
 use Rattle.strm_links.specs.declared.chained.Link.{Link}
 use Rattle.strm_links.proofs.chains.Begun.{IsChained-begun_several, front_low, front_none, several_low, several_there}
-use Rattle.strm_links.proofs.chains.Laid.{next_within}
+use Rattle.strm_links.proofs.chains.StoredChains.{next_within}
 use Rattle.strm_links.proofs.chains.Whole.{IsLawful-whole, IsWhole-one, free_is, front_there, least_is, loads_kept, low_room, none_off}
 use Rattle.strm_links.proofs.chains.Written.{link_read, links_long}
 use Rattle.strm_links.proofs.chained.Chained.begin_all.Given.{Over}

@@ -5,7 +5,7 @@ use Rattle.strm_links.specs.ChainLists.{nodes_at}
 use Rattle.strm_links.specs.ChainLayout.{IsWhole, after_at, chain_at, chains_in, links_of, lists_in, path, span_at}
 use Rattle.strm_links.proofs.lists.ListLinks.{LeadsOn-kept}
 use Rattle.strm_links.proofs.chains.Freed.{IsChained-freed, freed_room}
-use Rattle.strm_links.proofs.chains.Laid.{chain_apart, chain_laid, chain_low, chain_path}
+use Rattle.strm_links.proofs.chains.StoredChains.{chain_apart, chain_laid, chain_low, chain_path}
 use Rattle.strm_links.proofs.chains.Whole.{IsLawful-whole, IsWhole-one, count_is, free_is, held_low, least_is, loads_kept, low_room, nodes_are, off, room, there}
 use Rattle.strm_links.proofs.chains.Written.{links_long}
 use Rattle.strm_links.proofs.chained.Chained.free.Given.{Over}

@@ -10,7 +10,7 @@ use Rattle.strm_links.specs.declared.chained.Link.{Link}
 use Rattle.strm_links.proofs.lists.ListLinks.{LeadsOn-kept}
 use Rattle.strm_links.proofs.lists.Counting.{is_there}
 use Rattle.strm_links.proofs.chains.Freed.{IsChained-behind_freed, behind_apart, behind_count, behind_first, behind_len, behind_low, behind_off, behind_onward, behind_path, behind_room, behind_some, has-reverse}
-use Rattle.strm_links.proofs.chains.Laid.{write_elsewhere, write_here}
+use Rattle.strm_links.proofs.chains.StoredChains.{write_elsewhere, write_here}
 use Rattle.strm_links.proofs.chains.Whole.{IsLawful-whole, IsWhole-one, count_is, free_is, held_low, held_read, least_is, lists_are, loads_kept, low_room, nodes_are, none_freed, off, room, there}
 use Rattle.strm_links.proofs.chains.Written.{links_long}
 use Rattle.strm_links.proofs.chained.Chained.free_behind.Given.{Over}

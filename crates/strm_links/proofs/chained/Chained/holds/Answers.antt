@@ -7,7 +7,7 @@ use Rattle.strm_links.specs.Layout.{rows_in}
 use Rattle.strm_links.specs.declared.chained.Link.{Link}
 use Rattle.strm_links.specs.declared.table.Place.{Place}
 use Rattle.strm_links.proofs.linking.Carried.{place_read}
-use Rattle.strm_links.proofs.linking.Shown.{holder-owner}
+use Rattle.strm_links.proofs.linking.StoredRows.{holder-owner}
 use Rattle.strm_links.proofs.chains.Whole.{holds_at, room}
 use Rattle.strm_links.proofs.chains.Written.{link_read}
 use Rattle.strm_links.proofs.chained.Chained.holds.Goals as goal
@@ -20,7 +20,7 @@ returns-then-node-len g c =
     let low = room c.self.invariant c.self.view_is in
     let node = c.index-node.result.now in
     let span = ap (λ (l : Link). l.span.len) (link_read _ c.args.head node (omega (arith, c.requires.head, low)) c.index-node.ensures) in
-    let list = holder-owner _ _ _ c.self.invariant.laid c.args.head ∙ sym (ap (λ (p : Place). p.list) (place_read _ c.args.head node (omega (arith, c.requires.head, low)) c.index-node.ensures)) in
+    let list = holder-owner _ _ _ c.self.invariant.sound c.args.head ∙ sym (ap (λ (p : Place). p.list) (place_read _ c.args.head node (omega (arith, c.requires.head, low)) c.index-node.ensures)) in
     sym (not-not c.is_none.result) ∙ ap not (sym c.is_none.ensures ∙ ap is_some (c.get.ensures ∙ sym list))
     ∙ ap (λ b. b && not (is_some (holder c.args.head (rows_in c.self.inside.table)))) (sym (eq-eqb _ _ (sym span ∙ c.if-node-len.true))) ∙ sym (holds_at c.self.invariant c.self.view_is c.args.head c.args.len c.requires.some)
 

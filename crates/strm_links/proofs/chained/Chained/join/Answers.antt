@@ -4,7 +4,7 @@ use Rattle.strm_links.specs.ChainLayout.{IsWhole, after_at, chain_at, chains_in,
 use Rattle.strm_links.specs.declared.chained.Link.{Link}
 use Rattle.strm_links.specs.declared.chained.Span.{Span}
 use Rattle.strm_links.proofs.chains.Joined.{IsChained-joined, joined_few}
-use Rattle.strm_links.proofs.chains.Laid.{last_low}
+use Rattle.strm_links.proofs.chains.StoredChains.{last_low}
 use Rattle.strm_links.proofs.chains.Whole.{IsLawful-whole, IsWhole-two, count_is, free_is, held_low, held_read, least_is, loads_kept, low_room, nodes_are, off, room, there}
 use Rattle.strm_links.proofs.chains.Written.{links_long}
 use Rattle.strm_links.proofs.chained.Chained.join.Given.{Over}

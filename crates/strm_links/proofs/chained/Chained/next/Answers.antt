@@ -3,7 +3,7 @@ use Rattle.std.specs.Prelude.{slice_get}
 use Rattle.strm_links.specs.ChainLayout.{after_at, links_of}
 use Rattle.strm_links.specs.declared.chained.Link.{Link}
 use Rattle.strm_links.proofs.lists.OneList.{IfSome-from}
-use Rattle.strm_links.proofs.chains.Laid.{next_in_chain, next_within}
+use Rattle.strm_links.proofs.chains.StoredChains.{next_in_chain, next_within}
 use Rattle.strm_links.proofs.chains.Whole.{chain_of_is, count_is, room}
 use Rattle.strm_links.proofs.chains.Written.{link_read}
 use Rattle.strm_links.proofs.chained.Chained.next.Given.{Over}

@@ -8,5 +8,5 @@ returns g c = record {
   parted = subst IsLawful (lists_are c.self.invariant c.self.view_is) (IsLawful-whole c.self.invariant);
   loads = omega (arith, load_room c.self.invariant c.self.view_is, room c.self.invariant c.self.view_is);
   few_nodes = omega (arith, count_is c.self.invariant c.self.view_is, c.self.invariant.chained.few_nodes);
-  few_shelves = omega (arith, shelf_room c.self.invariant c.self.view_is, c.self.invariant.laid.few_lists);
+  few_shelves = omega (arith, shelf_room c.self.invariant c.self.view_is, c.self.invariant.sound.few_lists);
 }

@@ -4,7 +4,7 @@ use Rattle.strm_links.proofs.chains.Whole.{IsLawful-whole, free_is, lists_are}
 use Rattle.strm_links.proofs.chained.Chained.reset_least.Goals as goal
 
 pub invariant_of-self : goal.invariant_of-self
-invariant_of-self g c = record { laid = c.self.invariant.laid; chained = c.self.invariant.chained; begun = c.self.invariant.begun; fewest = omega arith }
+invariant_of-self g c = record { sound = c.self.invariant.sound; chained = c.self.invariant.chained; begun = c.self.invariant.begun; fewest = omega arith }
 
 pub returns : goal.returns
 returns g c = record {

@@ -1,7 +1,7 @@
 use Rattle.std.proofs.Common.{ap, arith, sym, ◌∙◌}
 use Rattle.strm_links.specs.declared.table.Place.{Place}
 use Rattle.strm_links.proofs.linking.Carried.{place_read}
-use Rattle.strm_links.proofs.linking.Shown.{holder-owner}
+use Rattle.strm_links.proofs.linking.StoredRows.{holder-owner}
 use Rattle.strm_links.proofs.chains.Whole.{shelf_with_is, room}
 use Rattle.strm_links.proofs.chained.Chained.shelf_of.Goals as goal
 
@@ -9,4 +9,4 @@ pub index-requires : goal.index-requires
 index-requires g c = omega (arith, c.requires, room c.self.invariant c.self.view_is)
 
 pub returns : goal.returns
-returns g c = c.get.ensures ∙ ap (λ (p : Place). p.list) (place_read _ c.args.head c.index.result.now (omega (arith, c.requires, room c.self.invariant c.self.view_is)) c.index.ensures) ∙ sym (holder-owner _ _ _ c.self.invariant.laid c.args.head) ∙ sym (shelf_with_is c.self.invariant c.self.view_is c.args.head)
+returns g c = c.get.ensures ∙ ap (λ (p : Place). p.list) (place_read _ c.args.head c.index.result.now (omega (arith, c.requires, room c.self.invariant c.self.view_is)) c.index.ensures) ∙ sym (holder-owner _ _ _ c.self.invariant.sound c.args.head) ∙ sym (shelf_with_is c.self.invariant c.self.view_is c.args.head)

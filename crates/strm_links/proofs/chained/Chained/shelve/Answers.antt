@@ -6,8 +6,8 @@ use Rattle.strm_links.specs.Chains.{put_before_head, shelf_in}
 use Rattle.strm_links.specs.ChainLists.{head_node, nodes_at}
 use Rattle.strm_links.specs.ChainLayout.{IsWhole, chains_in, lists_in}
 use Rattle.strm_links.proofs.lists.AllLists.{holder_has}
-use Rattle.strm_links.proofs.linking.Places.{holder_within}
-use Rattle.strm_links.proofs.chains.Seen.{placed_in}
+use Rattle.strm_links.proofs.linking.TableCalls.{holder_within}
+use Rattle.strm_links.proofs.chains.Shelves.{placed_in}
 use Rattle.strm_links.proofs.chains.Whole.{IsLawful-whole, IsWhole-reheaded, head_listed, held_low, loads_carried, nodes_are, off, place_room, reheaded_is, room, shelf_is, shelf_room, shelved_at, there}
 use Rattle.strm_links.proofs.chained.Chained.shelve.Given.{Over}
 use Rattle.strm_links.proofs.chained.Chained.shelve.Goals as goal
@@ -15,11 +15,11 @@ use Rattle.strm_links.proofs.chained.Chained.shelve.Goals.{After-link_at}
 
 pub of-requires : goal.of-requires
 of-requires g c at is =
-    omega (arith, c.self.invariant.laid.few_nodes, holder_within _ _ _ c.self.invariant.laid at c.args.shelf (shelved_at c.self.invariant c.self.view_is at c.args.shelf (c.requires.before at is)))
+    omega (arith, c.self.invariant.sound.few_nodes, holder_within _ _ _ c.self.invariant.sound at c.args.shelf (shelved_at c.self.invariant c.self.view_is at c.args.shelf (c.requires.before at is)))
 
 pub link_at-requires : goal.link_at-requires
 link_at-requires g c = record {
-  sound = c.self.invariant.laid;
+  sound = c.self.invariant.sound;
   list = omega (arith, c.requires.shelf, shelf_room c.self.invariant c.self.view_is);
   node = omega (arith, held_low c.self.invariant c.self.view_is c.args.head c.requires.held, room c.self.invariant c.self.view_is, place_room c.self.invariant c.self.view_is);
   free = off c.self.invariant c.self.view_is c.args.head c.requires.held;

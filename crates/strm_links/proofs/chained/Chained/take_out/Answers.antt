@@ -5,7 +5,7 @@ use Rattle.strm_links.specs.ChainLists.{nodes_at}
 use Rattle.strm_links.specs.ChainLayout.{IsWhole, after_at, chain_at, chains_in, links_of, lists_in, onward, span_at}
 use Rattle.strm_links.specs.declared.chained.Link.{Link}
 use Rattle.strm_links.specs.declared.chained.Span.{Span}
-use Rattle.strm_links.proofs.chains.Laid.{chain_laid, next_within}
+use Rattle.strm_links.proofs.chains.StoredChains.{chain_laid, next_within}
 use Rattle.strm_links.proofs.chains.TakenOut.{IsChained-taken_out, place_is, place_low, place_next, place_none, place_there}
 use Rattle.strm_links.proofs.chains.Whole.{IsLawful-whole, IsWhole-two, free_is, held_low, held_read, least_is, loads_kept, low_room, nodes_are, none_off, off, there}
 use Rattle.strm_links.proofs.chains.Written.{link_read, links_long}

@@ -6,16 +6,16 @@ use Rattle.strm_links.specs.Chains.{shelf_in, with_head, without_head}
 use Rattle.strm_links.specs.ChainLists.{head_node}
 use Rattle.strm_links.specs.ChainLayout.{IsWhole, chain_at, chains_in, lists_in}
 use Rattle.strm_links.proofs.lists.AllLists.{holder_has, map-without}
-use Rattle.strm_links.proofs.linking.Shown.{apart_all}
-use Rattle.strm_links.proofs.chains.Laid.{some_items}
-use Rattle.strm_links.proofs.chains.Seen.{with-map, without-map}
+use Rattle.strm_links.proofs.linking.StoredRows.{apart_all}
+use Rattle.strm_links.proofs.chains.StoredChains.{some_items}
+use Rattle.strm_links.proofs.chains.Shelves.{with-map, without-map}
 use Rattle.strm_links.proofs.chains.Whole.{IsLawful-whole, IsWhole-reheaded, head_listed, loads_carried, reheaded_is, shelf_is, shelved_at}
 use Rattle.strm_links.proofs.chained.Chained.unshelve.Given.{Over}
 use Rattle.strm_links.proofs.chained.Chained.unshelve.Goals as goal
 use Rattle.strm_links.proofs.chained.Chained.unshelve.Goals.{After-remove}
 
 pub remove-requires : goal.remove-requires
-remove-requires g c = record { sound = c.self.invariant.laid; held = ap is_some (shelved_at c.self.invariant c.self.view_is c.args.head c.args.shelf c.requires.there) }
+remove-requires g c = record { sound = c.self.invariant.sound; held = ap is_some (shelved_at c.self.invariant c.self.view_is c.args.head c.args.shelf c.requires.there) }
 
 moved : (g : Over) (c : After-remove g)
     → (IsWhole c.remove.new.self c.self.inside.first_free c.self.inside.free_len c.self.inside.least)
@@ -32,7 +32,7 @@ moved g c =
     let row = list_at s rows in
     let on = shelved_at c.self.invariant c.self.view_is h s c.requires.there in
     let begun = c.self.invariant.begun h (ap is_some on) in
-    let lists = c.remove.ensures.lists ∙ (λ i. record rows { lists = map-without rows (apart_all _ _ _ c.self.invariant.laid) h s on i }) in
+    let lists = c.remove.ensures.lists ∙ (λ i. record rows { lists = map-without rows (apart_all _ _ _ c.self.invariant.sound) h s on i }) in
     let shelf = shelf_is c.self.invariant c.self.view_is s in
     let each : (k : ℕ) → has k row ≡ true → head_node (chain_at v k) ≡ k = λ k found. head_listed c.self.invariant k s found in (
       IsWhole-reheaded c.self.invariant c.self.view_is c.remove.new.self c.remove.ensures.carried c.remove.ensures.sound h s (without h row) lists c.remove.ensures.others begun,

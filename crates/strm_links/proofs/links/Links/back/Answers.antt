@@ -1,8 +1,8 @@
 use Rattle.std.proofs.Common.{◌≡◌, ℕ, Some, sym, ◌∙◌}
 use Rattle.strm_links.specs.Rows.{holder}
 use Rattle.strm_links.proofs.lists.OneList.{IfSome-from}
-use Rattle.strm_links.proofs.linking.Shown.{IsSound-rows, ends_read}
-use Rattle.strm_links.proofs.linking.Places.{back_holder, back_is, holder_within}
+use Rattle.strm_links.proofs.linking.StoredRows.{IsSound-rows, ends_read}
+use Rattle.strm_links.proofs.linking.TableCalls.{back_holder, back_is, holder_within}
 use Rattle.strm_links.proofs.links.Links.back.Goals as goal
 
 pub returns : goal.returns

@@ -1,8 +1,8 @@
 use Rattle.std.proofs.Common.{◌≡◌, ℕ, Some, sym, ◌∙◌}
 use Rattle.strm_links.specs.Rows.{holder}
 use Rattle.strm_links.proofs.lists.OneList.{IfSome-from}
-use Rattle.strm_links.proofs.linking.Shown.{IsSound-rows, ends_read}
-use Rattle.strm_links.proofs.linking.Places.{front_holder, front_is, holder_within}
+use Rattle.strm_links.proofs.linking.StoredRows.{IsSound-rows, ends_read}
+use Rattle.strm_links.proofs.linking.TableCalls.{front_holder, front_is, holder_within}
 use Rattle.strm_links.proofs.links.Links.front.Goals as goal
 
 pub returns : goal.returns

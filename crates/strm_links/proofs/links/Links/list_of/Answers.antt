@@ -3,7 +3,7 @@ use Rattle.std.proofs.lemmas.List.{length-map}
 use Rattle.strm_links.specs.declared.table.Place.{Place}
 use Rattle.strm_links.proofs.lists.OneList.{IfSome-from}
 use Rattle.strm_links.proofs.linking.Carried.{place_read}
-use Rattle.strm_links.proofs.linking.Shown.{IsSound-rows, holder-owner}
+use Rattle.strm_links.proofs.linking.StoredRows.{IsSound-rows, holder-owner}
 use Rattle.strm_links.proofs.links.Links.list_of.Goals as goal
 
 pub returns : goal.returns

@@ -3,8 +3,8 @@ use Rattle.std.proofs.lemmas.List.{length-map}
 use Rattle.strm_links.specs.declared.table.Place.{Place}
 use Rattle.strm_links.proofs.lists.OneList.{IfSome-from}
 use Rattle.strm_links.proofs.linking.Carried.{place_read}
-use Rattle.strm_links.proofs.linking.Shown.{IsSound-rows, next_in-at}
-use Rattle.strm_links.proofs.linking.Places.{next_neighbour}
+use Rattle.strm_links.proofs.linking.StoredRows.{IsSound-rows, next_in-at}
+use Rattle.strm_links.proofs.linking.TableCalls.{next_neighbour}
 use Rattle.strm_links.proofs.links.Links.next.Goals as goal
 
 pub returns : goal.returns

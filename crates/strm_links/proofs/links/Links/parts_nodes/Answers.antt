@@ -1,4 +1,4 @@
-use Rattle.strm_links.proofs.linking.Shown.{IsSound-rows, parts}
+use Rattle.strm_links.proofs.linking.StoredRows.{IsSound-rows, parts}
 use Rattle.strm_links.proofs.links.Links.parts_nodes.Goals as goal
 
 pub returns-clause-parting : goal.returns-clause-parting

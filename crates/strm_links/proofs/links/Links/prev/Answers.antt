@@ -3,8 +3,8 @@ use Rattle.std.proofs.lemmas.List.{length-map}
 use Rattle.strm_links.specs.declared.table.Place.{Place}
 use Rattle.strm_links.proofs.lists.OneList.{IfSome-from}
 use Rattle.strm_links.proofs.linking.Carried.{place_read}
-use Rattle.strm_links.proofs.linking.Shown.{IsSound-rows, previous_in-at}
-use Rattle.strm_links.proofs.linking.Places.{previous_neighbour}
+use Rattle.strm_links.proofs.linking.StoredRows.{IsSound-rows, previous_in-at}
+use Rattle.strm_links.proofs.linking.TableCalls.{previous_neighbour}
 use Rattle.strm_links.proofs.links.Links.prev.Goals as goal
 
 pub returns : goal.returns

@@ -1,6 +1,6 @@
 use Rattle.std.proofs.Common.{ap, set, ◌∙◌}
 use Rattle.strm_links.specs.Rows.{list_at, put_in}
-use Rattle.strm_links.proofs.linking.Places.{put_in-first}
+use Rattle.strm_links.proofs.linking.TableCalls.{put_in-first}
 use Rattle.strm_links.proofs.links.Links.push_front.Goals as goal
 
 pub returns-clause-lists : goal.returns-clause-lists

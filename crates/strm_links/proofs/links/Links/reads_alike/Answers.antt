@@ -1,4 +1,4 @@
-use Rattle.strm_links.proofs.linking.Shown.{IsSound-rows, reads_forward, reads_backward}
+use Rattle.strm_links.proofs.linking.StoredRows.{IsSound-rows, reads_forward, reads_backward}
 use Rattle.strm_links.proofs.links.Links.reads_alike.Goals as goal
 
 pub returns : goal.returns

@@ -6,8 +6,8 @@ use Rattle.strm_links.specs.Rows.{list_at, holder}
 use Rattle.strm_links.specs.Layout.{places_of, rows_in, with_previous, IsSound}
 use Rattle.strm_links.proofs.lists.OneList.{is_some_of-same, some_of}
 use Rattle.strm_links.proofs.lists.AllLists.{holder-append}
-use Rattle.strm_links.proofs.linking.Shown.{apart_all, ends_read, IsSound-stored, parts, rows_of_is}
-use Rattle.strm_links.proofs.linking.Places.{walk_within, front_within, back_within, both_len, IsSound-appended}
+use Rattle.strm_links.proofs.linking.StoredRows.{apart_all, ends_read, IsSound-stored, parts, rows_of_is}
+use Rattle.strm_links.proofs.linking.TableCalls.{walk_within, front_within, back_within, both_len, IsSound-appended}
 use Rattle.strm_links.proofs.table.Table.append.Given.{Over}
 use Rattle.strm_links.proofs.table.Table.append.Goals as goal
 use Rattle.strm_links.proofs.table.Table.append.Goals.{After-index_mut-2}

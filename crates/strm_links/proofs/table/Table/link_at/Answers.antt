@@ -4,8 +4,8 @@ use Rattle.std.specs.Option.{option_map_or}
 use Rattle.strm_links.specs.declared.table.Ends.{Ends}
 use Rattle.strm_links.specs.Rows.{list_at, holder, put_in}
 use Rattle.strm_links.specs.Layout.{places_of, previous_at, rows_in, with_next, with_previous, IsSound}
-use Rattle.strm_links.proofs.linking.Shown.{IsSound-stored, parts, rows_of_is, ends_read}
-use Rattle.strm_links.proofs.linking.Places.{joined_next_within, joined_ahead_within, joined_len, IsSound-joined, joined_holder, other_holder}
+use Rattle.strm_links.proofs.linking.StoredRows.{IsSound-stored, parts, rows_of_is, ends_read}
+use Rattle.strm_links.proofs.linking.TableCalls.{joined_next_within, joined_ahead_within, joined_len, IsSound-joined, joined_holder, other_holder}
 use Rattle.strm_links.proofs.table.Table.link_at.Given.{Over}
 use Rattle.strm_links.proofs.table.Table.link_at.Goals as goal
 use Rattle.strm_links.proofs.table.Table.link_at.Goals.{After-set_previous}

@@ -2,7 +2,7 @@ use Rattle.std.proofs.Common.{◌≡◌, [], replicate, ap, sym, ◌∙◌, subs
 use Rattle.strm_links.specs.Layout.{IsSound, no_ends, no_place, places_of}
 use Rattle.strm_links.specs.Rows.{Rows}
 use Rattle.strm_links.proofs.linking.Carried.{carried_alike, places_alike}
-use Rattle.strm_links.proofs.linking.Shown.{IsSound-new, IsSound-stored, parts, rows_of_is}
+use Rattle.strm_links.proofs.linking.StoredRows.{IsSound-new, IsSound-stored, parts, rows_of_is}
 use Rattle.strm_links.proofs.table.Table.new.Given.{Over}
 use Rattle.strm_links.proofs.table.Table.new.Goals as goal
 use Rattle.strm_links.proofs.table.Table.new.Goals.{In_ok-vec}

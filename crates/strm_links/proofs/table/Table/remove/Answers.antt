@@ -6,9 +6,9 @@ use Rattle.strm_links.specs.declared.table.Ends.{Ends}
 use Rattle.strm_links.specs.Rows.{holder, without}
 use Rattle.strm_links.specs.Layout.{place_at, places_of, rows_in, with_next, with_previous, IsSound}
 use Rattle.strm_links.proofs.lists.AllLists.{holder-remove}
-use Rattle.strm_links.proofs.linking.Places.{held_list, held_low, held_place}
-use Rattle.strm_links.proofs.linking.Shown.{apart_all, ends_read, IsSound-stored, parts, rows_of_is}
-use Rattle.strm_links.proofs.linking.Places.{left_list, left_previous, left_next, left_len, IsSound-left}
+use Rattle.strm_links.proofs.linking.TableCalls.{held_list, held_low, held_place}
+use Rattle.strm_links.proofs.linking.StoredRows.{apart_all, ends_read, IsSound-stored, parts, rows_of_is}
+use Rattle.strm_links.proofs.linking.TableCalls.{left_list, left_previous, left_next, left_len, IsSound-left}
 use Rattle.strm_links.proofs.table.Table.remove.Given.{Over}
 use Rattle.strm_links.proofs.table.Table.remove.Goals as goal
 use Rattle.strm_links.proofs.table.Table.remove.Goals.{After-put, After-set_previous}

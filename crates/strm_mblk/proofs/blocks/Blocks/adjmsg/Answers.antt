@@ -9,12 +9,12 @@ use Rattle.strm_mblk.specs.Block.{size_of}
 use Rattle.strm_mblk.specs.BlocksLayout.{message_of}
 use Rattle.strm_mblk.specs.Cutting.{IsRun, with_bytes_cut}
 use Rattle.strm_links.specs.ChainLists.{nodes_at, ChainLists}
-use Rattle.strm_mblk.proofs.layout.Places.{block_some}
+use Rattle.strm_mblk.proofs.layout.HeldBlocks.{block_some}
 use Rattle.strm_mblk.proofs.Trimming.{IsAdjusted, ahead, ends_small, run_adjusts}
 use Rattle.strm_mblk.proofs.Reading.{nodes_small}
 use Rattle.strm_mblk.proofs.arena.Frame.{leaves_adjmsg}
 use Rattle.strm_mblk.proofs.arena.Calls.{alters_kept, alters_none}
-use Rattle.strm_mblk.proofs.layout.Shown.{still_whole}
+use Rattle.strm_mblk.proofs.layout.StoredArena.{still_whole}
 use Rattle.strm_mblk.proofs.blocks.Blocks.adjmsg.Goals.{After-cut}
 use Rattle.strm_mblk.specs.Arena.{Arena, has}
 use Rattle.strm_mblk.proofs.blocks.Blocks.adjmsg.Goals as goal

@@ -14,7 +14,7 @@ use Rattle.strm_mblk.proofs.Lists.{first_rest}
 use Rattle.strm_mblk.proofs.making.Begun.{IsAllocated, allocates, taken_fits, begin_room}
 use Rattle.strm_mblk.proofs.arena.Frame.{leaves_allocb}
 use Rattle.strm_mblk.proofs.arena.Calls.{gives}
-use Rattle.strm_mblk.proofs.layout.Shown.{parted_inside, still_whole}
+use Rattle.strm_mblk.proofs.layout.StoredArena.{parted_inside, still_whole}
 use Rattle.strm_mblk.proofs.blocks.Blocks.allocb_from.Goals.{After-set_load}
 use Rattle.strm_mblk.specs.declared.blocks.Fields.{Fields}
 use Rattle.strm_mblk.proofs.blocks.Blocks.allocb_from.Goals as goal

@@ -2,7 +2,7 @@ use Rattle.std.proofs.Common.{◌≡◌, ap, ◌∙◌, ◌-◌, arith, length}
 use Rattle.strm_mblk.specs.Arena.{census_of, held_blocks}
 use Rattle.strm_mblk.specs.BlocksLayout.{arena_in}
 use Rattle.strm_mblk.specs.declared.census.Census.{Census}
-use Rattle.strm_mblk.proofs.layout.Shown.{all_there}
+use Rattle.strm_mblk.proofs.layout.StoredArena.{all_there}
 use Rattle.strm_mblk.proofs.blocks.Blocks.census.Goals as goal
 
 pub overflow_sub-result : goal.overflow_sub-result

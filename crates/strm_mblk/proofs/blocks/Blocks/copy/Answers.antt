@@ -17,7 +17,7 @@ use Rattle.strm_mblk.proofs.making.Copied.{IsCopied, copied_all}
 use Rattle.strm_mblk.proofs.arena.Counts.{of_blocks, taken_many}
 use Rattle.strm_mblk.proofs.arena.Frame.{leaves_copied}
 use Rattle.strm_mblk.proofs.arena.Calls.{gives, gives_none}
-use Rattle.strm_mblk.proofs.layout.Shown.{parted_inside, still_whole}
+use Rattle.strm_mblk.proofs.layout.StoredArena.{parted_inside, still_whole}
 use Rattle.strm_mblk.proofs.blocks.Blocks.copy.Goals.{After-begin_all-head, After-copy_blocks, After-free_len}
 use Rattle.strm_mblk.proofs.blocks.Blocks.copy.Goals as goal
 use Rattle.std.proofs.lemmas.Grind.{common_steps}

@@ -9,7 +9,7 @@ use Rattle.strm_mblk.specs.Block.{Block, Message}
 use Rattle.strm_mblk.specs.BlocksLayout.{IsPlaced, block_at, block_of, fields_at, fields_of}
 use Rattle.strm_mblk.specs.Copying.{with_copy}
 use Rattle.strm_links.specs.ChainLists.{nodes_at, ChainLists}
-use Rattle.strm_mblk.proofs.layout.Places.{IsAt, block_reached, nodes_room, reached_head, still_on}
+use Rattle.strm_mblk.proofs.layout.HeldBlocks.{IsAt, block_reached, nodes_room, reached_head, still_on}
 use Rattle.strm_mblk.proofs.Lists.{drop_from}
 use Rattle.strm_mblk.proofs.making.Copied.{IsCopying, next_copied, next_fits, none_copied}
 use Rattle.strm_mblk.proofs.blocks.Blocks.copy_into.Goals.{After-fields_at, In-loop-block}

@@ -4,13 +4,13 @@ use Rattle.strm_mblk.specs.Arena.{message_at}
 use Rattle.strm_links.specs.ChainLists.{ChainLists, nodes_at, with_behind_freed}
 use Rattle.strm_mblk.specs.Pulling.{with_bytes_drained}
 use Rattle.strm_mblk.proofs.Freeing.{IsFreed, enough}
-use Rattle.strm_mblk.proofs.layout.Places.{IsHeldHead, seen_head, node_room}
+use Rattle.strm_mblk.proofs.layout.HeldBlocks.{IsHeldHead, seen_head, node_room}
 use Rattle.strm_mblk.proofs.Nodes.{begins_with}
 use Rattle.strm_mblk.proofs.Lists.{nonempty}
 use Rattle.strm_mblk.proofs.pulling.Taken.{AreTaken, used_few}
 use Rattle.strm_mblk.proofs.pulling.Drained.{drains}
 use Rattle.strm_mblk.proofs.Trimming.{ends_small}
-use Rattle.strm_mblk.proofs.layout.Shown.{still_whole}
+use Rattle.strm_mblk.proofs.layout.StoredArena.{still_whole}
 use Rattle.strm_mblk.proofs.blocks.Blocks.drain.Goals.{After-self, After-free_behind, After-take_bytes-used}
 use Rattle.strm_mblk.proofs.blocks.Blocks.drain.Goals as goal
 use Rattle.std.proofs.lemmas.Grind.{common_steps}

@@ -13,7 +13,7 @@ use Rattle.strm_mblk.proofs.making.Duplicated.{IsBeside, beside, IsDuplicated, d
 use Rattle.strm_mblk.proofs.arena.Counts.{of_blocks, taken_many}
 use Rattle.strm_mblk.proofs.arena.Frame.{leaves_duplicated}
 use Rattle.strm_mblk.proofs.arena.Calls.{gives, gives_none}
-use Rattle.strm_mblk.proofs.layout.Shown.{parted_inside, still_whole}
+use Rattle.strm_mblk.proofs.layout.StoredArena.{parted_inside, still_whole}
 use Rattle.strm_mblk.proofs.blocks.Blocks.duplicate.Goals.{After-copy_fields, After-head-from, After-begin_all-head, After-free_len, Then-not-give_references}
 use Rattle.strm_mblk.proofs.blocks.Blocks.duplicate.Goals as goal
 use Rattle.std.proofs.lemmas.Grind.{common_steps}

@@ -13,7 +13,7 @@ use Rattle.strm_mblk.specs.Given.{and_then}
 use Rattle.strm_mblk.specs.InPlace.{shape_fits, shapes_fit}
 use Rattle.strm_links.specs.ChainLists.{nodes_at}
 use Rattle.strm_mblk.proofs.Altering.{and_false, fits_next, kind_changes, shape_at}
-use Rattle.strm_mblk.proofs.layout.Places.{IsAt, block_reached}
+use Rattle.strm_mblk.proofs.layout.HeldBlocks.{IsAt, block_reached}
 use Rattle.strm_mblk.proofs.blocks.Blocks.fit.Goals.{After-fields_at-data_number, After-cap-capacity, After-ne, then-shape-capacity-via-then-shape-capacity, then-shape-capacity-via-else-shape-capacity+then-shape-capacity-2, else-ne-via-then-ne+else-count-gt1, else-ne-via-else-ne}
 use Rattle.strm_mblk.proofs.blocks.Blocks.fit.Goals as goal
 

@@ -10,7 +10,7 @@ use Rattle.strm_mblk.specs.Arena.{Arena, message_at}
 use Rattle.strm_mblk.specs.Block.{Block, Message}
 use Rattle.strm_mblk.specs.BlocksLayout.{block_at, fields_at}
 use Rattle.strm_links.specs.ChainLists.{nodes_at}
-use Rattle.strm_mblk.proofs.layout.Places.{IsAt, block_reached}
+use Rattle.strm_mblk.proofs.layout.HeldBlocks.{IsAt, block_reached}
 use Rattle.strm_mblk.proofs.blocks.Blocks.fits_classes.Goals.{After-has_class_for, After-fields_at, In-loop-block}
 use Rattle.strm_mblk.proofs.blocks.Blocks.fits_classes.Goals as goal
 

@@ -4,7 +4,7 @@ use Rattle.strm_data.specs.declared.refusal.Refusal.TheVariants.{NoSuchBlock}
 use Rattle.strm_mblk.specs.declared.blocks.Fields.{Fields}
 use Rattle.strm_mblk.specs.BlocksLayout.{block_of}
 use Rattle.strm_links.specs.ChainLists.{nodes_at}
-use Rattle.strm_mblk.proofs.layout.Places.{block_none, block_some}
+use Rattle.strm_mblk.proofs.layout.HeldBlocks.{block_none, block_some}
 use Rattle.strm_mblk.proofs.blocks.Blocks.found.Goals as goal
 
 pub returns-in_default-clause-answer : goal.returns-in_default-clause-answer

@@ -10,10 +10,10 @@ use Rattle.strm_mblk.specs.Freeing.{freemsg, with_token_spent}
 use Rattle.strm_mblk.specs.Messages.{held_in}
 use Rattle.strm_links.specs.ChainLists.{nodes_at}
 use Rattle.strm_mblk.proofs.arena.Counts.{spent_had}
-use Rattle.strm_mblk.proofs.layout.Places.{token_counted, token_held, token_named}
+use Rattle.strm_mblk.proofs.layout.HeldBlocks.{token_counted, token_held, token_named}
 use Rattle.strm_mblk.proofs.Freeing.{IsFreed, enough, frees}
 use Rattle.strm_mblk.proofs.arena.Frame.{Leaves, leaves_spent, spent_gone}
-use Rattle.strm_mblk.proofs.layout.Shown.{still_whole}
+use Rattle.strm_mblk.proofs.layout.StoredArena.{still_whole}
 use Rattle.strm_mblk.proofs.blocks.Blocks.free_counted.Goals.{After-free, After-self}
 use Rattle.strm_mblk.proofs.blocks.Blocks.free_counted.Goals as goal
 

@@ -6,7 +6,7 @@ use Rattle.strm_mblk.specs.Arena.{message_at}
 use Rattle.strm_mblk.specs.Block.{Block, size_of}
 use Rattle.strm_mblk.specs.BlocksLayout.{block_at, fields_at}
 use Rattle.strm_links.specs.ChainLists.{nodes_at}
-use Rattle.strm_mblk.proofs.layout.Places.{IsAt, block_reached, reached_head}
+use Rattle.strm_mblk.proofs.layout.HeldBlocks.{IsAt, block_reached, reached_head}
 use Rattle.strm_mblk.proofs.Reading.{past_last, sum_from}
 use Rattle.strm_mblk.proofs.blocks.Blocks.is_shorter.Goals.{In-loop-block}
 use Rattle.strm_mblk.proofs.blocks.Blocks.is_shorter.Goals as goal

@@ -1,4 +1,4 @@
-use Rattle.strm_mblk.proofs.layout.Shown.{law_bands, law_few, law_kept, law_parted, law_whole, law_within}
+use Rattle.strm_mblk.proofs.layout.StoredArena.{law_bands, law_few, law_kept, law_parted, law_whole, law_within}
 use Rattle.strm_mblk.proofs.blocks.Blocks.lawful.Goals as goal
 
 pub returns : goal.returns

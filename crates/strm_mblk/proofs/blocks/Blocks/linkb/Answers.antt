@@ -6,7 +6,7 @@ use Rattle.strm_mblk.specs.Messages.{chains_joined}
 use Rattle.strm_links.specs.ChainLists.{ChainLists}
 use Rattle.strm_mblk.proofs.joining.Linkb.{IsJoined, joins}
 use Rattle.strm_mblk.proofs.arena.Frame.{Leaves, leaves_linkb, linkb_gone}
-use Rattle.strm_mblk.proofs.layout.Shown.{still_whole, reloaded, reviewed}
+use Rattle.strm_mblk.proofs.layout.StoredArena.{still_whole, reloaded, reviewed}
 use Rattle.strm_mblk.proofs.blocks.Blocks.linkb.Goals.{After-set_blocks}
 use Rattle.strm_mblk.proofs.blocks.Blocks.linkb.Goals as goal
 

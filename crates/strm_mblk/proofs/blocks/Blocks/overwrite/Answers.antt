@@ -15,7 +15,7 @@ use Rattle.strm_mblk.specs.InPlace.{overwrite, store_overwritten, touches_shared
 use Rattle.strm_mblk.proofs.Altering.{alters_overwritten, one_long, one_overwritten, one_touched}
 use Rattle.strm_mblk.proofs.arena.Calls.{alters_none}
 use Rattle.strm_mblk.proofs.arena.Counts.{had_message}
-use Rattle.strm_mblk.proofs.layout.Places.{IsAt, IsHeldHead, block_some, seen_head}
+use Rattle.strm_mblk.proofs.layout.HeldBlocks.{IsAt, IsHeldHead, block_some, seen_head}
 use Rattle.strm_mblk.proofs.blocks.Blocks.overwrite.Goals.{After-head, After-find_byte-start, After-fields_at-fields}
 use Rattle.strm_mblk.proofs.blocks.Blocks.overwrite.Goals as goal
 
@@ -69,11 +69,6 @@ fields_at-fields-requires c =
 module _ (c : After-fields_at-fields) (at : IsAt c.self.inside.data c.self.inside.chains.loads c.self.inside.chains.lists c.args.self.now c.args.token.now.head c.find_byte-start.result.block c.find_byte-start.result.node (nodes_at c.self.inside.chains.lists c.args.token.now.head)) where
   read : c.fields_at-fields.result ≡ fields_at c.self.inside.chains.loads c.find_byte-start.result.node
   read = c.fields_at-fields.ensures
-
-  placed : IsPlaced c.args.self.now.store c.fields_at-fields.result
-  placed =
-      subst (IsPlaced c.args.self.now.store) (sym read)
-      (subst (λ (a : Arena). IsPlaced a.store (fields_at c.self.inside.chains.loads c.find_byte-start.result.node)) c.self.view_is at.placed)
 
 module _ (c : After-fields_at-fields) (at : IsAt c.self.inside.data c.self.inside.chains.loads c.self.inside.chains.lists c.args.self.now c.args.token.now.head c.find_byte-start.result.block c.find_byte-start.result.node (nodes_at c.self.inside.chains.lists c.args.token.now.head))
     (before : size_of (take c.find_byte-start.result.block (message_at c.args.self.now c.args.token.now.head)) + c.find_byte-start.result.at ≡ c.args.at) (inside : c.find_byte-start.result.at + length c.args.bytes.now ≤ c.fields_at-fields.result.len) where

@@ -6,7 +6,7 @@ use Rattle.strm_mblk.specs.InPlace.{store_overwritten}
 use Rattle.strm_links.specs.ChainLists.{nodes_at}
 use Rattle.strm_mblk.proofs.Altering.{alters_overwritten}
 use Rattle.strm_mblk.proofs.layout.Rooms.{filled-over}
-use Rattle.strm_mblk.proofs.layout.Shown.{message_at-seen}
+use Rattle.strm_mblk.proofs.layout.StoredArena.{message_at-seen}
 use Rattle.strm_mblk.proofs.blocks.Blocks.overwrite_across.Goals as goal
 
 pub invariant_of-self : goal.invariant_of-self

@@ -12,8 +12,8 @@ use Rattle.strm_mblk.specs.Trimming.{store_with_front}
 use Rattle.strm_mblk.proofs.Reading.{length-message}
 use Rattle.strm_mblk.proofs.Freeing.{enough}
 use Rattle.strm_mblk.proofs.pulling.FrontPulled.{IsFrontPulled, pulls_front, pulled_is, still_there, still_used}
-use Rattle.strm_mblk.proofs.layout.Places.{IsHeldHead, seen_head}
-use Rattle.strm_mblk.proofs.layout.Shown.{message_at-seen, still_whole}
+use Rattle.strm_mblk.proofs.layout.HeldBlocks.{IsHeldHead, seen_head}
+use Rattle.strm_mblk.proofs.layout.StoredArena.{message_at-seen, still_whole}
 use Rattle.strm_mblk.proofs.arena.Counts.{had_message}
 use Rattle.strm_mblk.proofs.layout.Rooms.{bytes-message, bytes-typed}
 use Rattle.strm_mblk.proofs.blocks.Blocks.pull_front.Goals.{After-copy_front, After-drop_name, After-fields_at-fields, After-set_kind}

@@ -14,8 +14,8 @@ use Rattle.strm_mblk.specs.Pulling.{with_bytes_drained, pull_front}
 use Rattle.strm_mblk.specs.Trimming.{bytes_asked, pullupmsg, run_of}
 use Rattle.strm_mblk.proofs.pulling.Drained.{IsPulled, pull_front_answer, front_pulled_held, pull_had, pulls, run_most}
 use Rattle.strm_mblk.proofs.pulling.FrontPulled.{head_held}
-use Rattle.strm_mblk.proofs.layout.Places.{held_nodes, IsHeldHead, seen_head}
-use Rattle.strm_mblk.proofs.layout.Shown.{message_at-seen, parted_inside}
+use Rattle.strm_mblk.proofs.layout.HeldBlocks.{held_nodes, IsHeldHead, seen_head}
+use Rattle.strm_mblk.proofs.layout.StoredArena.{message_at-seen, parted_inside}
 use Rattle.strm_mblk.proofs.arena.Counts.{had_message, token_had}
 use Rattle.strm_mblk.proofs.joining.Unlinkb.{token_is}
 use Rattle.strm_mblk.proofs.arena.Frame.{leaves_pullupmsg}

@@ -1,6 +1,6 @@
 use Rattle.strm_links.proofs.lists.ListLinks.{Reads-after, Reads-before}
 use Rattle.strm_mblk.specs.Shelves.{heads_at}
-use Rattle.strm_mblk.proofs.layout.Shown.{parted_inside}
+use Rattle.strm_mblk.proofs.layout.StoredArena.{parted_inside}
 use Rattle.strm_mblk.proofs.arena.Stands.{heads_apart}
 use Rattle.strm_mblk.proofs.blocks.Blocks.reads_alike.Goals as goal
 

@@ -2,7 +2,7 @@ use Rattle.std.proofs.Common.{◌≡◌, length, sym, ap, ◌∙◌}
 use Rattle.strm_mblk.specs.Arena.{shelved_blocks, with_least_reset}
 use Rattle.strm_mblk.specs.BlocksLayout.{IsFilled, arena_of}
 use Rattle.strm_mblk.specs.declared.blocks.Blocks.TheInside.{Inside}
-use Rattle.strm_mblk.proofs.layout.Shown.{reloaded}
+use Rattle.strm_mblk.proofs.layout.StoredArena.{reloaded}
 use Rattle.strm_mblk.proofs.layout.Rooms.{reset_filled}
 use Rattle.strm_mblk.proofs.blocks.Blocks.reset_least.Goals.{After-reset_least-2}
 use Rattle.strm_mblk.proofs.blocks.Blocks.reset_least.Goals as goal

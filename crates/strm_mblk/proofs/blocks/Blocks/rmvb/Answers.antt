@@ -10,10 +10,10 @@ use Rattle.strm_mblk.specs.BlockCalls.{rmvb, unlinkb}
 use Rattle.strm_mblk.specs.BlocksLayout.{arena_of}
 use Rattle.strm_mblk.specs.Given.{value_after, answer_map, answer_of, or_rejected}
 use Rattle.strm_mblk.proofs.arena.Counts.{rmvb_first, had_message, token_had}
-use Rattle.strm_mblk.proofs.layout.Places.{token_nodes}
+use Rattle.strm_mblk.proofs.layout.HeldBlocks.{token_nodes}
 use Rattle.strm_mblk.proofs.joining.TakenOut.{IsTakenOut, is_taken_out, refused_answer}
 use Rattle.strm_mblk.proofs.arena.Frame.{Leaves, leaves_rmvb, leaves_same}
-use Rattle.strm_mblk.proofs.layout.Shown.{still_whole, reloaded, reviewed}
+use Rattle.strm_mblk.proofs.layout.StoredArena.{still_whole, reloaded, reviewed}
 use Rattle.strm_mblk.proofs.blocks.Blocks.rmvb.Goals.{After-take_out-node, After-token-2, After-unlinkb-rest, Then-place-blocks}
 use Rattle.strm_mblk.specs.Frame.{heads_parted}
 use Rattle.strm_mblk.proofs.blocks.Blocks.rmvb.Goals as goal

@@ -2,7 +2,7 @@ use Rattle.std.proofs.Common.{List, ap, refl, arith, subst, sym, ◌∙◌}
 use Rattle.strm_data.specs.DataStore.{capacity_of}
 use Rattle.strm_mblk.specs.Arena.{Arena, shelved_blocks}
 use Rattle.strm_mblk.proofs.Altering.{data_there, fields_filled, fields_show, number_there}
-use Rattle.strm_mblk.proofs.layout.Shown.{still_whole}
+use Rattle.strm_mblk.proofs.layout.StoredArena.{still_whole}
 use Rattle.strm_links.specs.ChainLists.{ChainLists}
 use Rattle.strm_mblk.specs.declared.blocks.Fields.{Fields}
 use Rattle.strm_mblk.specs.BlocksLayout.{IsFilled, arena_of}

@@ -11,7 +11,7 @@ use Rattle.strm_links.specs.ChainLists.{nodes_at}
 use Rattle.strm_mblk.proofs.arena.Calls.{alters_kept, had_with_block}
 use Rattle.strm_mblk.proofs.arena.Frame.{leaves_setband}
 use Rattle.strm_mblk.proofs.arena.Counts.{had_message}
-use Rattle.strm_mblk.proofs.layout.Places.{IsAt, IsHeldHead, block_some, seen_head}
+use Rattle.strm_mblk.proofs.layout.HeldBlocks.{IsAt, IsHeldHead, block_some, seen_head}
 use Rattle.strm_mblk.proofs.blocks.Blocks.setband.Goals.{After-fields_at-fields}
 use Rattle.strm_mblk.proofs.blocks.Blocks.setband.Goals as goal
 

@@ -11,7 +11,7 @@ use Rattle.strm_mblk.proofs.Shelving.{heads_at-seen, shelve_filled, shelve_queue
 use Rattle.strm_mblk.proofs.arena.Counts.{IsHad, had_message}
 use Rattle.strm_mblk.proofs.arena.Frame.{none_at, others_one}
 use Rattle.strm_mblk.proofs.blocks.Blocks.shelve.Goals.{After-len-blocks, After-self-1, After-shelve}
-use Rattle.strm_mblk.proofs.layout.Shown.{reloaded, reviewed}
+use Rattle.strm_mblk.proofs.layout.StoredArena.{reloaded, reviewed}
 use Rattle.strm_mblk.proofs.blocks.Blocks.shelve.Goals as goal
 
 had : (c : After-len-blocks) → (m : Message) × IsHad (arena_in c.self.inside) c.spend-head.result m

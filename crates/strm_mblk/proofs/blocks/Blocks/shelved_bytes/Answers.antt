@@ -14,9 +14,6 @@ use Rattle.strm_mblk.proofs.Shelving.{IsHead, is_head}
 use Rattle.strm_mblk.proofs.blocks.Blocks.shelved_bytes.Goals.{After-finds_chains, After-node_of}
 use Rattle.strm_mblk.proofs.blocks.Blocks.shelved_bytes.Goals as goal
 
-below_some : (o : Option ℕ) (n k : ℕ) → o ≡ Some n → IfSome o (λ m. m < k) → n < k
-below_some o n k is within = subst (λ x. IfSome x (λ m. m < k)) is within
-
 module _ (c : After-finds_chains) where
   head : IsHead c.self.inside.data c.self.inside.chains.loads c.self.inside.chains.lists c.args.self.now c.args.head
   head = is_head c.self.inside.id c.self.inside.data c.self.inside.chains.loads c.self.inside.chains.lists c.self.invariant.filled c.args.self.now c.self.view_is c.args.head c.requires
@@ -36,10 +33,6 @@ node_of-requires-clause-begins c = ap (λ ns. slice_get ns 0) (chain_is c) ∙ (
 
 pub node_of-requires-clause-there : goal.node_of-requires-clause-there
 node_of-requires-clause-there c = omega (arith, (head c).there, c.self.invariant.filled.listed)
-
--- it is one of the blocks
-there : (c : After-node_of) (node : ℕ) → c.node_of.result ≡ Some node → node < length c.self.inside.chains.loads
-there c node is = omega (arith, below_some c.node_of.result node _ is c.node_of.ensures.in_range, c.self.invariant.filled.listed)
 
 pub returns-in_default : goal.returns-in_default
 returns-in_default c =

@@ -4,8 +4,8 @@ use Rattle.strm_links.specs.ChainLists.{chain_of, nodes_at}
 use Rattle.strm_mblk.specs.BlocksLayout.{IsSummable}
 use Rattle.strm_mblk.specs.Messages.{held_in}
 use Rattle.strm_mblk.proofs.Nodes.{begins_with}
-use Rattle.strm_mblk.proofs.layout.Places.{token_held, nodes_room}
-use Rattle.strm_mblk.proofs.layout.Shown.{message_at-seen}
+use Rattle.strm_mblk.proofs.layout.HeldBlocks.{token_held, nodes_room}
+use Rattle.strm_mblk.proofs.layout.StoredArena.{message_at-seen}
 use Rattle.strm_mblk.proofs.Lists.{at_first}
 use Rattle.strm_mblk.proofs.Reading.{nodes_small, summable}
 use Rattle.strm_mblk.proofs.blocks.Blocks.sum_of_held.Goals as goal

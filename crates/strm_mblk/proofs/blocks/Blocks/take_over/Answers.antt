@@ -15,7 +15,7 @@ use Rattle.strm_mblk.proofs.making.Copied.{IsMade, is_made}
 use Rattle.strm_mblk.proofs.arena.Counts.{some_blocks, had_message}
 use Rattle.strm_mblk.proofs.arena.Frame.{leaves_transfer}
 use Rattle.strm_mblk.proofs.arena.Calls.{gives}
-use Rattle.strm_mblk.proofs.layout.Shown.{parted_inside, still_whole}
+use Rattle.strm_mblk.proofs.layout.StoredArena.{parted_inside, still_whole}
 use Rattle.strm_mblk.proofs.blocks.Blocks.take_over.Goals.{After-begin_all-head, After-copy_into}
 use Rattle.strm_mblk.proofs.blocks.Blocks.take_over.Goals as goal
 

@@ -8,7 +8,7 @@ use Rattle.strm_mblk.specs.BlocksLayout.{block_at, fields_at}
 use Rattle.strm_mblk.specs.InPlace.{bytes_within, touches_shared}
 use Rattle.strm_links.specs.ChainLists.{nodes_at}
 use Rattle.strm_mblk.proofs.Altering.{and_false, touches_next, touches_nothing}
-use Rattle.strm_mblk.proofs.layout.Places.{IsAt, block_reached, reached_head}
+use Rattle.strm_mblk.proofs.layout.HeldBlocks.{IsAt, block_reached, reached_head}
 use Rattle.strm_mblk.proofs.Reading.{past_last}
 use Rattle.strm_mblk.proofs.blocks.Blocks.touches_shared.Goals.{else-here-gt0-via-then-here-gt0+else-count-gt1, else-here-gt0-via-else-here-gt0, In-loop-block, After-min-here}
 use Rattle.strm_mblk.proofs.blocks.Blocks.touches_shared.Goals as goal

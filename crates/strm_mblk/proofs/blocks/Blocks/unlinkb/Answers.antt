@@ -7,11 +7,11 @@ use Rattle.strm_mblk.specs.BlockCalls.{unlinkb, head_in}
 use Rattle.strm_mblk.specs.BlocksLayout.{arena_of}
 use Rattle.strm_mblk.specs.Messages.{chain_divided}
 use Rattle.strm_links.specs.ChainLists.{ChainLists, nodes_at}
-use Rattle.strm_mblk.proofs.layout.Places.{token_held, block_none}
+use Rattle.strm_mblk.proofs.layout.HeldBlocks.{token_held, block_none}
 use Rattle.strm_mblk.proofs.arena.Counts.{had_message, token_had}
 use Rattle.strm_mblk.proofs.joining.Unlinkb.{IsDivided, divides, token_is}
 use Rattle.strm_mblk.proofs.arena.Frame.{Leaves, leaves_unlinkb}
-use Rattle.strm_mblk.proofs.layout.Shown.{still_whole, reloaded, reviewed}
+use Rattle.strm_mblk.proofs.layout.StoredArena.{still_whole, reloaded, reviewed}
 use Rattle.strm_mblk.proofs.blocks.Blocks.unlinkb.Goals.{After-set_blocks, After-token}
 use Rattle.strm_mblk.specs.Frame.{head_given}
 use Rattle.std.proofs.lemmas.Option.{none-some}

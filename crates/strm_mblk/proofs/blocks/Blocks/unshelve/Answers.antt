@@ -9,8 +9,8 @@ use Rattle.strm_mblk.specs.BlocksLayout.{arena_in, arena_of, block_at}
 use Rattle.strm_links.specs.ChainLists.{nodes_at}
 use Rattle.strm_mblk.specs.Frame.{LeavesOthers}
 use Rattle.strm_mblk.specs.Shelves.{heads_at, unshelve}
-use Rattle.strm_mblk.proofs.layout.Places.{held_nodes}
-use Rattle.strm_mblk.proofs.layout.Shown.{message_at-seen, reloaded, reviewed}
+use Rattle.strm_mblk.proofs.layout.HeldBlocks.{held_nodes}
+use Rattle.strm_mblk.proofs.layout.StoredArena.{message_at-seen, reloaded, reviewed}
 use Rattle.strm_mblk.proofs.Shelving.{IsUnshelved, heads_at-seen, unshelves}
 use Rattle.strm_mblk.proofs.arena.Counts.{token_had}
 use Rattle.strm_mblk.proofs.arena.Frame.{others_one}

@@ -6,7 +6,7 @@ use Rattle.strm_mblk.specs.BlockCalls.{info_of}
 use Rattle.strm_mblk.specs.BlocksLayout.{IsPlaced, block_of, fields_at, IsReached}
 use Rattle.strm_mblk.specs.InPlace.{infos_from}
 use Rattle.strm_links.specs.ChainLists.{nodes_at}
-use Rattle.strm_mblk.proofs.layout.Places.{IsAt, block_reached, starts_at}
+use Rattle.strm_mblk.proofs.layout.HeldBlocks.{IsAt, block_reached, starts_at}
 use Rattle.strm_mblk.proofs.Lists.{filled_more, got_behind}
 use Rattle.strm_mblk.proofs.blocks.Blocks.walk.Goals.{In-loop-done, After-fields_at}
 use Rattle.strm_mblk.proofs.blocks.Blocks.walk.Goals as goal

@@ -10,7 +10,7 @@ use Rattle.strm_mblk.specs.Copying.{with_copy}
 use Rattle.strm_links.specs.ChainLists.{nodes_at, ChainLists}
 use Rattle.strm_mblk.proofs.making.CopiesCounted.{next_block}
 use Rattle.strm_mblk.proofs.making.Copied.{IsCopying, next_copied, next_fits, none_copied, source_stays}
-use Rattle.strm_mblk.proofs.layout.Places.{nodes_room, still_on}
+use Rattle.strm_mblk.proofs.layout.HeldBlocks.{nodes_room, still_on}
 use Rattle.strm_mblk.proofs.Lists.{times_at}
 use Rattle.strm_mblk.proofs.layout.Rooms.{placed-over}
 use Rattle.strm_mblk.proofs.blocks.copying.copy_blocks.Goals.{After-fields_at, After-set_load, In-loop-block}

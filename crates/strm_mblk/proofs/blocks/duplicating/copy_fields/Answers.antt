@@ -5,7 +5,7 @@ use Rattle.strm_mblk.proofs.Lists.{slice_get-take, times_at}
 use Rattle.strm_mblk.proofs.making.Duplicated.{all_copied, next_copying, IsCopying}
 use Rattle.strm_mblk.specs.declared.blocks.Fields.{Fields}
 use Rattle.strm_mblk.specs.BlocksLayout.{fields_at}
-use Rattle.strm_mblk.proofs.layout.Places.{still_on}
+use Rattle.strm_mblk.proofs.layout.HeldBlocks.{still_on}
 use Rattle.strm_mblk.proofs.blocks.duplicating.copy_fields.Goals.{After-set_load, In-loop-block}
 use Rattle.strm_mblk.proofs.blocks.duplicating.copy_fields.Goals as goal
 use Rattle.std.proofs.lemmas.Grind.{common_steps}

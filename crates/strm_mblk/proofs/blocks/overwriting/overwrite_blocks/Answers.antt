@@ -9,7 +9,7 @@ use Rattle.strm_mblk.specs.BlocksLayout.{IsPlaced, block_at, fields_at, message_
 use Rattle.strm_mblk.specs.InPlace.{bytes_within, store_overwritten}
 use Rattle.strm_links.specs.ChainLists.{nodes_at}
 use Rattle.strm_mblk.proofs.Altering.{overwritten_next, overwritten_nothing, written_within}
-use Rattle.strm_mblk.proofs.layout.Places.{nodes_room}
+use Rattle.strm_mblk.proofs.layout.HeldBlocks.{nodes_room}
 use Rattle.std.proofs.Math.Nat.{min-le_right}
 use Rattle.strm_data.proofs.store.Kept.{capacity_range}
 use Rattle.strm_mblk.proofs.layout.Rooms.{HasRooms, placed-over, rooms-both, rooms-written}

@@ -7,7 +7,7 @@ use Rattle.strm_mblk.specs.Cutting.{fields_cut}
 use Rattle.strm_links.specs.ChainLists.{nodes_at, LoadedChains}
 use Rattle.strm_mblk.proofs.pulling.Taken.{AreTaken, AreTaking, first_takes, name_there, next_takes, none_left, nothing_left, part_left}
 use Rattle.strm_mblk.proofs.blocks.pulling.take_bytes.Goals.{After-fields_at-fields, After-loop-used, After-onward-node, After-set_load, In-loop-used, Then-left-eq0}
-use Rattle.strm_mblk.proofs.layout.Places.{still_on}
+use Rattle.strm_mblk.proofs.layout.HeldBlocks.{still_on}
 use Rattle.strm_mblk.proofs.blocks.pulling.take_bytes.Goals as goal
 use Rattle.std.proofs.lemmas.Grind.{common_steps}
 

@@ -10,7 +10,7 @@ use Rattle.strm_mblk.specs.InPlace.{store_retyped}
 use Rattle.strm_links.specs.ChainLists.{nodes_at, ChainLists}
 use Rattle.strm_mblk.proofs.Altering.{banded_one, named_one, retyped_next, shape_at, shaped_next}
 use Rattle.strm_mblk.specs.declared.blocks.Fields.{Fields}
-use Rattle.strm_mblk.proofs.layout.Places.{still_on}
+use Rattle.strm_mblk.proofs.layout.HeldBlocks.{still_on}
 use Rattle.strm_mblk.proofs.blocks.shaping.shape_blocks.Given.{Over}
 use Rattle.strm_mblk.proofs.blocks.shaping.shape_blocks.Goals.{In-loop-shaped}
 use Rattle.strm_mblk.proofs.blocks.shaping.shape_blocks.Goals as goal

@@ -6,7 +6,7 @@ use Rattle.strm_mblk.specs.BlocksLayout.{IsReached, fields_at}
 use Rattle.strm_mblk.proofs.Trimming.{cut_next, cut_none, cut_small}
 use Rattle.strm_mblk.proofs.blocks.trimming.cut.Goals.{After-onward-node, In-loop-block}
 use Rattle.strm_mblk.specs.declared.blocks.Fields.{Fields}
-use Rattle.strm_mblk.proofs.layout.Places.{still_on}
+use Rattle.strm_mblk.proofs.layout.HeldBlocks.{still_on}
 use Rattle.strm_mblk.proofs.blocks.trimming.cut.Goals as goal
 use Rattle.std.proofs.lemmas.Grind.{common_steps}
 

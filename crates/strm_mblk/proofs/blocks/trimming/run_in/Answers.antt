@@ -7,7 +7,7 @@ use Rattle.strm_mblk.specs.Block.{kind_of}
 use Rattle.strm_mblk.specs.BlocksLayout.{block_at}
 use Rattle.strm_mblk.specs.Cutting.{run_with}
 use Rattle.strm_links.specs.ChainLists.{nodes_at}
-use Rattle.strm_mblk.proofs.layout.Places.{nodes_room}
+use Rattle.strm_mblk.proofs.layout.HeldBlocks.{nodes_room}
 use Rattle.strm_mblk.proofs.Trimming.{IsMeasured, all_measured, first_measured, next_measured, next_small, other_measured}
 use Rattle.strm_mblk.proofs.blocks.trimming.run_in.Goals.{In-loop-block, else-not-from_tail-via-else-not-from_tail, else-not-from_tail-via-then-not-from_tail+else-ne}
 use Rattle.strm_mblk.specs.declared.blocks.Fields.{Fields}

@@ -1,4 +1,4 @@
--- A node joins a list before a given one, or leaves its list: the place, and what the writes leave.
+-- A node joins a list before a given one or leaves its list, and a list joins another: what the calls of `Table` read, and what their writes leave.
 use Rattle.std.proofs.Common.{◌≡◌, ◌≢◌, ℕ, ◌+◌, ◌-◌, ◌<◌, ◌≤◌, true, ◌||◌, ◌==◌, List, [], ◌∷◌, ◌++◌, map, length, get_or, set, Option, Some, None, IsSome, is_none, if◌then◌else◌, refl, sym, ap, ◌∙◌, subst, inl, inr, arith, length-set}
 use Rattle.std.proofs.lemmas.Bool.{cond-true, eq-eqb, ne_eqb, or_cases, false≢true}
 use Rattle.std.proofs.lemmas.List.{append-nil, append_assoc, length-append, length-map}
@@ -9,13 +9,13 @@ use Rattle.strm_links.specs.declared.table.Place.{Place}
 use Rattle.strm_links.specs.declared.table.Ends.{Ends}
 use Rattle.strm_links.specs.declared.table.Table.{Table}
 use Rattle.strm_links.specs.Rows.{Rows, has, IsApart, is_some_of, first, last, after, before, without, put_before, put_in, list_at, holder}
-use Rattle.strm_links.specs.Layout.{no_place, no_ends, place_at, walk, owner_at, previous_at, next_at, with_next, with_previous, ends_at, places_of, rows_in, IsLaid, IsSound}
+use Rattle.strm_links.specs.Layout.{no_place, no_ends, place_at, walk, owner_at, previous_at, next_at, with_next, with_previous, ends_at, places_of, rows_in, IsSoundTable, IsSound}
 use Rattle.strm_links.proofs.lists.OneList.{has_tail, has_cases, has_left, has_right, upto, beyond, split_at, absent_upto, absent_around, before-at, after-at, without-at, put_before-at, has-append, has-push_back, has-put_before, IsApart-append, length_below, first_has, is_some_of-same, last_has, number_of}
 use Rattle.strm_links.proofs.linking.Carried.{place_read}
 use Rattle.strm_links.proofs.linking.Changes.{Rewires-both, Rewires-same, length-written, Gives, Puts, Puts-set, IsSound-insert, IsSound-remove, IsSound-append}
 use Rattle.strm_links.proofs.lists.AllLists.{map-without, holder-insert_here, holder-insert_other}
 use Rattle.strm_links.proofs.lists.ListLinks.{next_is, previous_is, walk_is}
-use Rattle.strm_links.proofs.linking.Shown.{holder-owner, owner_from, has_owned, listed_within, node_within, apart_all}
+use Rattle.strm_links.proofs.linking.StoredRows.{holder-owner, owner_from, has_owned, listed_within, node_within, apart_all}
 
 -- ---- the place before a node, or at the back
 
@@ -214,7 +214,7 @@ module _ (nodes : List Place) (ends : List Ends) (rows : Rows) (sound : IsSound 
       let list = number_of (holder n rows) some in
       omega (arith, node_within nodes n list.0 (sym (holder-owner nodes ends rows sound n) ∙ list.1), sound.node_count)
 
-module _ {L T : Type 0} (t : Table L T) (sound : IsLaid t) (n : ℕ) (some : IsSome (holder n (rows_in t))) where
+module _ {L T : Type 0} (t : Table L T) (sound : IsSoundTable t) (n : ℕ) (some : IsSome (holder n (rows_in t))) where
   pub held_low : n < length t.nodes.items
   held_low = omega (arith, held_within _ _ _ sound n some, sound.node_count, length-map t.nodes.items (λ x. x.place))
 

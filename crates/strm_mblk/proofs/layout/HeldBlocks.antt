@@ -16,7 +16,7 @@ use Rattle.strm_mblk.specs.BlocksLayout.{IsFilled, IsPlaced, arena_of, block_at,
 use Rattle.strm_mblk.specs.Messages.{blocks_held, blocks_on, held_in, blocks_of}
 use Rattle.strm_links.specs.ChainLists.{ChainLists, nodes_at}
 use Rattle.strm_mblk.specs.declared.token.TokenValue.{TokenValue}
-use Rattle.strm_mblk.proofs.layout.Shown.{AreAlike, alike_each, alike_off, alike_parts, blocks_in-seen, held-alike, held_at-seen, message-alike, nodes_in, option-alike, shelves-alike, message_at-seen}
+use Rattle.strm_mblk.proofs.layout.StoredArena.{AreAlike, alike_each, alike_off, alike_parts, blocks_in-seen, held-alike, held_at-seen, message-alike, nodes_in, option-alike, shelves-alike, message_at-seen}
 use Rattle.strm_mblk.proofs.Freeing.{naming-named}
 use Rattle.strm_mblk.proofs.Lists.{in_range, times_at, at_first}
 use Rattle.strm_mblk.proofs.layout.Rooms.{HasRooms, placed-set}
@@ -61,9 +61,6 @@ named-same old new same [] = refl
 named-same old new same (n ∷ ns) = λ i. same n i ∷ named-same old new same ns i
 
 module _ (id : ℕ) (s : CountedStore) (fields : List Fields) (v : ChainLists) (filled : IsFilled s fields v (arena_of id s.store fields v)) (h : ℕ) (ns : List ℕ) (held : held_in v.held h ≡ Some ns) where
-  begins : first ns ≡ Some h
-  begins = begins_with v filled.parted h ns held
-
   -- no number is in the message twice
   pub once_within : (n : ℕ) → times n ns ≤ 1
   once_within n = omega (arith, one_of_all v filled.parted n, held_parts v h n ns held)
@@ -117,9 +114,6 @@ module _ (id : ℕ) (s : CountedStore) (fields : List Fields) (v : ChainLists) (
 
     change : AreRewritten fields now ns
     change = grind (arith, common_steps, length-set, get_or-set_same, node_room, get_or-set_other, apart_one)
-
-    pub rewrite_shows : arena_of id t.store now v ≡ record (arena_of id s.store fields v) { store = t.store; held = set (arena_of id s.store fields v).held h (Some (set (message_of fields ns) k (block_at now n))) }
-    rewrite_shows = written_shows t.store x
 
     pub rewrite_filled : IsFilled t now v (arena_of id t.store now v)
     rewrite_filled = message_filled id s fields v filled h ns held t now change kept counts (placed-set s.store t.store fields n x rooms placed filled.placed)

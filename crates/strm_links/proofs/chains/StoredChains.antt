@@ -124,10 +124,6 @@ by_head_is nodes first_free free_len v laid =
     λ i. record { free = free i; chains = chains i }
 
 -- the stored invariant holds at the value that a contract sees
-pub IsChained-lists : (nodes : List Link) (first_free : Option ℕ) (free_len : ℕ) (v : ByHead) → by_head nodes first_free free_len ≡ v → IsChained nodes first_free free_len (by_head nodes first_free free_len) → IsChained nodes first_free free_len v
-IsChained-lists nodes first_free free_len v view laid = subst (IsChained nodes first_free free_len) view laid
-
--- and the other way round
 pub IsChained-stored : (nodes : List Link) (first_free : Option ℕ) (free_len : ℕ) (v : ByHead) → IsChained nodes first_free free_len v → IsChained nodes first_free free_len (by_head nodes first_free free_len)
 IsChained-stored nodes first_free free_len v laid = subst (IsChained nodes first_free free_len) (sym (by_head_is nodes first_free free_len v laid)) laid
 
@@ -154,10 +150,6 @@ has_after (x ∷ []) k j is = grind (arith, nat_tests)
 has_after (x ∷ y ∷ xs) k j is = grind (arith, nat_tests, has_after (y ∷ xs) k j)
 
 module _ (nodes : List Link) (first_free : Option ℕ) (free_len : ℕ) (v : ByHead) (laid : IsChained nodes first_free free_len v) where
-  -- the code reads the node at its number
-  pub node_read : (k : ℕ) (x : Link) → k < length v.chains → x ≡ get_or nodes k x → x ≡ linked_at nodes k
-  node_read k x within read = get_or_read nodes k x (omega (arith, laid.node_count)) read no_link
-
   -- the chain with this head
   pub chain_laid : (h : ℕ) → IsSome (chain_in v.chains h) → IsChain (after_at nodes) (span_at nodes h) h (chain_at v h)
   chain_laid h some = subst (IsHeadOf (after_at nodes) (span_at nodes h) h) (some_items (chain_in v.chains h) some) (laid.heads h)
@@ -197,10 +189,6 @@ module _ (nodes : List Link) (first_free : Option ℕ) (free_len : ℕ) (v : ByH
   next_in_chain h i k is =
       next_is (after_at nodes) (chain_at v h) k (head_leads h (chain_in v.chains h) (laid.heads h)) (has_get (chain_at v h) i k is)
       ∙ after-get (chain_at v h) i k (chain_apart v laid.once h) is
-
-  -- from each free node to the next one
-  pub next_free : (i k : ℕ) → slice_get v.free i ≡ Some k → after_at nodes k ≡ slice_get v.free (i + 1)
-  next_free i k is = next_is (after_at nodes) v.free k laid.free_leads (has_get v.free i k is) ∙ after-get v.free i k (free_apart v laid.once) is
 
   -- only to nodes
   pub next_within : (k j : ℕ) → after_at nodes k ≡ Some j → j < length v.chains

@@ -55,10 +55,6 @@ module _ (nodes : List Place) (ends : List Ends) (rows : Rows) (sound : IsSound 
   pub holder-owner : (k : ℕ) → holder k rows ≡ owner_at nodes k
   holder-owner k = holder_is k rows (owner_at nodes k) (λ l within. (sound.linked l within).owned k) (sound.known k)
 
-  -- the code reads the node, and the ends of the list, at its number
-  pub node_read : (k : ℕ) (x : Place) → k < rows.nodes → x ≡ get_or nodes k x → x ≡ place_at nodes k
-  node_read k x within read = get_or_read nodes k x (omega (arith, sound.node_count)) read no_place
-
   pub ends_read : (l : ℕ) (e : Ends) → l < length rows.lists → e ≡ get_or ends l e → e ≡ ends_at ends l
   ends_read l e within read = get_or_read ends l e (omega (arith, sound.list_count)) read no_ends
 
