@@ -36,9 +36,9 @@ none_begun (suc n) zero = refl
 none_begun (suc n) (suc h) = none_begun n h
 
 -- all nodes are free, and lead on in rising order
-pub IsChained-opened : (n : ℕ) (links : List Link) → n < 2 ^ 32 → length links ≡ n → ((k : ℕ) → k < n → after_at links k ≡ (if nat_lt (k + 1) n then Some (k + 1) else None)) → ((k : ℕ) → span_at links k ≡ no_span)
+pub IsChained-opened : {n : ℕ} (links : List Link) → n < 2 ^ 32 → length links ≡ n → ((k : ℕ) → k < n → after_at links k ≡ (if nat_lt (k + 1) n then Some (k + 1) else None)) → ((k : ℕ) → span_at links k ≡ no_span)
     → IsChained links (if nat_lt 0 n then Some 0 else None) n (record { free = range_with_len 0 n; chains = replicate n None })
-IsChained-opened n links few long leads spans =
+IsChained-opened {n} links few long leads spans =
     let many : length (replicate {A = Option (List ℕ)} n None) ≡ n = length-replicate n None in
     record {
       node_count = long ∙ sym many;
@@ -88,8 +88,8 @@ module _ (nodes : List Link) (first_free : Option ℕ) (free_len : ℕ) (v : ByH
       pub IsChained-begun : IsChained new (after_at nodes t) (free_len - length ps) (record v { free = qs; chains = set v.chains h (Some ps) })
       IsChained-begun =
           let here : IsChain (after_at new) (span_at new h) h ps = subst (λ s. IsChain (after_at new) s h ps) (sym (spans h ∙ write_here h _ _)) begun_chain in
-          let none = begins_none nodes first_free free_len v laid h (not_in_chain v laid.once h h (in_free h (has_first ps h begins))) in
-          IsChained-moved nodes new v qs v.free (set v.chains h (Some ps)) h h (Some ps) (Some ps)
+          let none = begins_none laid h (not_in_chain v laid.once h h (in_free h (has_first ps h begins))) in
+          IsChained-moved new qs v.free (set v.chains h (Some ps)) h h (Some ps) (Some ps)
           (record {
             long = long;
             changes = Changes-one v.chains h (Some ps) begun_low.0;
@@ -100,25 +100,24 @@ module _ (nodes : List Link) (first_free : Option ℕ) (free_len : ℕ) (v : ByH
             there = here;
             free_leads = LeadsOn-kept (after_at nodes) (after_at new) qs None (λ k there. nexts k ∙ write_elsewhere t k _ _ (λ same. apart_from t k qs there (parts.cross t (has_last ps t ends)) (sym same))) leads.1;
             same = λ k. omega (arith, times-append k ps qs, ap (times k) split, times-set k h (Some ps) v.chains begun_low.0, ap (λ m. times k (items_of m)) none);
-          })
-          first_free (after_at nodes t) free_len (free_len - length ps) laid begun_next (omega (arith, laid.free_count, ap length split, length-append ps qs))
+          }) (free_len - length ps) laid begun_next (omega (arith, laid.free_count, ap length split, length-append ps qs))
 
   -- ---- several
 
   -- the first of them is a node
-  pub front_low : (h : ℕ) → first_free ≡ Some h → h < length v.chains
-  front_low h at = free_low v laid.once h (has_first v.free h (sym laid.free_front ∙ at))
+  pub front_low : {h : ℕ} → first_free ≡ Some h → h < length v.chains
+  front_low {h} at = free_low v laid.once h (has_first v.free h (sym laid.free_front ∙ at))
 
   -- with which no chain begins
-  pub front_none : (h : ℕ) → first_free ≡ Some h → chain_in v.chains h ≡ None
-  front_none h at = begins_none nodes first_free free_len v laid h (not_in_chain v laid.once h h (has_first v.free h (sym laid.free_front ∙ at)))
+  pub front_none : {h : ℕ} → first_free ≡ Some h → chain_in v.chains h ≡ None
+  front_none {h} at = begins_none laid h (not_in_chain v laid.once h h (has_first v.free h (sym laid.free_front ∙ at)))
 
   module _ (h c m : ℕ) (at : first_free ≡ Some h) (is : c ≡ suc m) (enough : m < length v.free) where
     -- one step less leads to the last of them
     pub several_there : onward (after_at nodes) m (Some h) ≡ Some (get_or v.free m 0)
     several_there = ap (onward (after_at nodes) m) (sym at ∙ laid.free_front) ∙ onward-at (after_at nodes) v.free None m laid.free_leads enough
 
-    module _ (t : ℕ) (walked : onward (after_at nodes) m (Some h) ≡ Some t) where
+    module _ {t : ℕ} (walked : onward (after_at nodes) m (Some h) ≡ Some t) where
       begins : first (take c v.free) ≡ Some h
       begins = ap (λ j. first (take j v.free)) is ∙ first-take v.free m ∙ sym laid.free_front ∙ at
 

@@ -13,20 +13,20 @@ use Rattle.strm_links.proofs.lists.Counting.{times-append}
 use Rattle.strm_links.proofs.lists.OneList.{differ, has_head, has_tail}
 use Rattle.strm_links.proofs.chains.StoredChains.{IsChained-two, behind_begins_none, head_in, head_low, chain_laid, apart_from, write_elsewhere, write_here, chain_apart, chain_low}
 
-module _ (nodes : List Link) (first_free : Option ℕ) (free_len : ℕ) (v : ByHead) (laid : IsChained nodes first_free free_len v) (h : ℕ) (some_h : IsSome (chain_in v.chains h)) where
+module _ {nodes : List Link} {first_free : Option ℕ} {free_len : ℕ} {v : ByHead} (laid : IsChained nodes first_free free_len v) (h : ℕ) (some_h : IsSome (chain_in v.chains h)) where
   -- a head without a next node is alone
   pub alone : after_at nodes h ≡ None → chain_at v h ≡ h ∷ []
-  alone none = let was = chain_laid nodes first_free free_len v laid h some_h in one (chain_at v h) was.head was.leads
+  alone none = let was = chain_laid laid h some_h in one (chain_at v h) was.head was.leads
     where
       one : (xs : List ℕ) → first xs ≡ Some h → LeadsOn (after_at nodes) xs None → xs ≡ h ∷ []
       one [] is leads = grind arith
       one (x ∷ []) is leads = grind arith
       one (x ∷ y ∷ xs) is leads = grind (arith, none, leads.0)
 
-  module _ (c : ℕ) (on : after_at nodes h ≡ Some c) where
+  module _ {c : ℕ} (on : after_at nodes h ≡ Some c) where
     -- any other chain begins with the head and its next node
     pub two : (rest : List ℕ) × (chain_at v h ≡ h ∷ c ∷ rest)
-    two = let was = chain_laid nodes first_free free_len v laid h some_h in more (chain_at v h) was.head was.leads
+    two = let was = chain_laid laid h some_h in more (chain_at v h) was.head was.leads
       where
         more : (xs : List ℕ) → first xs ≡ Some h → LeadsOn (after_at nodes) xs None → (rest : List ℕ) × (xs ≡ h ∷ c ∷ rest)
         more [] is leads = absurd (cc)
@@ -53,10 +53,10 @@ module _ (nodes : List Link) (first_free : Option ℕ) (free_len : ℕ) (v : ByH
 
     -- no chain begins with it
     pub divided_none : chain_in v.chains c ≡ None
-    divided_none = behind_begins_none nodes first_free free_len v laid c h (λ same. other (sym same)) second_in
+    divided_none = behind_begins_none laid c h (λ same. other (sym same)) second_in
 
     was : IsChain (after_at nodes) (span_at nodes h) h (h ∷ c ∷ two.0)
-    was = subst (IsChain (after_at nodes) (span_at nodes h) h) two.1 (chain_laid nodes first_free free_len v laid h some_h)
+    was = subst (IsChain (after_at nodes) (span_at nodes h) h) two.1 (chain_laid laid h some_h)
 
     pub divided_len : 1 < (span_at nodes h).len
     divided_len = omega (arith, was.len)
@@ -64,7 +64,7 @@ module _ (nodes : List Link) (first_free : Option ℕ) (free_len : ℕ) (v : ByH
     module _ (new : List Link) (long : length new ≡ length nodes) (nexts : (k : ℕ) → after_at new k ≡ (if h == k then None else after_at nodes k))
         (spans : (k : ℕ) → span_at new k ≡ (if c == k then record { last = (span_at nodes h).last; len = (span_at nodes h).len - 1 } else (if h == k then record { last = h; len = 1 } else span_at nodes k))) where
       links : (k : ℕ) → has k (chain_at v h) ≡ false → after_at new k ≡ after_at nodes k
-      links k absent = nexts k ∙ write_elsewhere h k _ _ (apart_from k h (chain_at v h) (head_in nodes first_free free_len v laid h some_h) absent)
+      links k absent = nexts k ∙ write_elsewhere h k _ _ (apart_from k h (chain_at v h) (head_in laid h some_h) absent)
 
       here : IsChain (after_at new) (record { last = h; len = 1 }) h (h ∷ [])
       here = record { head = refl; last = refl; len = refl; leads = (nexts h ∙ write_here h _ _, tt) }
@@ -79,7 +79,7 @@ module _ (nodes : List Link) (first_free : Option ℕ) (free_len : ℕ) (v : ByH
 
       pub IsChained-divided : IsChained new first_free free_len (record v { chains = set (set v.chains h (Some (h ∷ []))) c (Some (c ∷ two.0)) })
       IsChained-divided =
-          IsChained-two nodes first_free free_len v laid h new long links h c (Some (h ∷ [])) (Some (c ∷ two.0)) other (head_low nodes first_free free_len v laid h some_h) divided_low
+          IsChained-two laid h new long links h c (Some (h ∷ [])) (Some (c ∷ two.0)) other (head_low laid h some_h) divided_low
           (λ g off_h off_c. (off_h, spans g ∙ write_elsewhere c g _ _ off_c ∙ write_elsewhere h g _ _ off_h))
           (subst (λ s. IsChain (after_at new) s h (h ∷ [])) (sym (spans h ∙ write_elsewhere c h _ _ other ∙ write_here h _ _)) here)
           (subst (λ s. IsChain (after_at new) s c (c ∷ two.0)) (sym (spans c ∙ write_here c _ _)) there)

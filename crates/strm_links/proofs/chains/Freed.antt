@@ -19,9 +19,9 @@ use Rattle.strm_links.proofs.chains.StoredChains.{IsChained-out, chain_laid, wri
 
 -- ---- all nodes of a chain become free, the last one first
 
-module _ (nodes : List Link) (first_free : Option ℕ) (free_len : ℕ) (v : ByHead) (laid : IsChained nodes first_free free_len v) (h : ℕ) (some_h : IsSome (chain_in v.chains h)) where
+module _ {nodes : List Link} {first_free : Option ℕ} {free_len : ℕ} {v : ByHead} (laid : IsChained nodes first_free free_len v) (h : ℕ) (some_h : IsSome (chain_in v.chains h)) where
   was : IsChain (after_at nodes) (span_at nodes h) h (chain_at v h)
-  was = chain_laid nodes first_free free_len v laid h some_h
+  was = chain_laid laid h some_h
 
   -- the chain and the free nodes together are at most all nodes
   pub freed_room : free_len + (span_at nodes h).len ≤ length v.chains
@@ -34,7 +34,7 @@ module _ (nodes : List Link) (first_free : Option ℕ) (free_len : ℕ) (v : ByH
         → IsChained new first_free' free_len' (record v { free = reverse (chain_at v h) ++ v.free; chains = set v.chains h None })
     IsChained-freed first_free' free_len' begins counts =
         let none : (span_at new h).len ≡ 0 = ap (λ (s : Span). s.len) (spans h ∙ write_here h _ _) in
-        IsChained-out nodes first_free free_len v laid h new long links (chain_at v h) None first_free' free_len' some_h reversed (λ g other. spans g ∙ write_elsewhere h g _ _ other) none (λ k. omega arith)
+        IsChained-out laid h new long links (chain_at v h) None first_free' free_len' some_h reversed (λ g other. spans g ∙ write_elsewhere h g _ _ other) none (λ k. omega arith)
         begins (omega (arith, counts, was.len))
 
 -- ---- the walk that reverses the links
@@ -52,8 +52,8 @@ pub record Reverses (old now : List Link) (beyond end : Option ℕ) (xs : List �
   pub spans : (k : ℕ) → span_at now k ≡ span_at old k
   pub len : length now ≡ length old
 
-pub Reverses-start : (nodes : List Link) (beyond end at : Option ℕ) (xs : List ℕ) → at ≡ first_or end xs → Reverses nodes nodes beyond end xs 0 at beyond
-Reverses-start nodes beyond end at xs begins = record {
+pub Reverses-start : (nodes : List Link) (beyond end : Option ℕ) {at : Option ℕ} (xs : List ℕ) → at ≡ first_or end xs → Reverses nodes nodes beyond end xs 0 at beyond
+Reverses-start nodes beyond end xs begins = record {
   at_is = begins;
   onto_is = refl;
   reversed = tt;
@@ -69,7 +69,7 @@ pub record AreReversed (old now : List Link) (beyond end : Option ℕ) (xs : Lis
   pub reversed : LeadsOn (after_at now) (reverse xs) beyond
   pub others : (k : ℕ) → has k xs ≡ false → after_at now k ≡ after_at old k
 
-module _ (old now : List Link) (beyond end : Option ℕ) (xs : List ℕ) (i : ℕ) (at onto : Option ℕ) (reverses : Reverses old now beyond end xs i at onto) where
+module _ {old now : List Link} {beyond end : Option ℕ} {xs : List ℕ} {i : ℕ} {at onto : Option ℕ} (reverses : Reverses old now beyond end xs i at onto) where
   -- after the last node all links are reversed
   pub reversed_all : length xs ≤ i → AreReversed old now beyond end xs at onto
   reversed_all all =
@@ -86,13 +86,13 @@ module _ (old now : List Link) (beyond end : Option ℕ) (xs : List ℕ) (i : �
     pub reverse_at : at ≡ Some (get_or xs i 0)
     reverse_at = reverses.at_is ∙ ap (first_or end) (drop-cons xs i 0 more)
 
-    module _ (apart : IsApart xs) (leads : LeadsOn (after_at old) xs end) (n : ℕ) (is : n ≡ get_or xs i 0) (low : n < length now) where
+    module _ (apart : IsApart xs) (leads : LeadsOn (after_at old) xs end) {n : ℕ} (is : n ≡ get_or xs i 0) (low : n < length now) where
       off : has n (take i xs) ≡ false
       off = ap (λ j. has j (take i xs)) is ∙ absent_take xs i apart more
 
       -- one more step reverses its link
-      pub Reverses-more : (y : Link) (later : List Link) (at' onto' : Option ℕ) → y ≡ linked_at now n → later ≡ set now n (record y { next = onto }) → at' ≡ y.next → onto' ≡ Some n → Reverses old later beyond end xs (i + 1) at' onto'
-      Reverses-more y later at' onto' read write on last =
+      pub Reverses-more : {y : Link} {later : List Link} (at' : Option ℕ) {onto' : Option ℕ} → y ≡ linked_at now n → later ≡ set now n (record y { next = onto }) → at' ≡ y.next → onto' ≡ Some n → Reverses old later beyond end xs (i + 1) at' onto'
+      Reverses-more {y} {later} at' read write on last =
           let known = read in
           let same : (k : ℕ) → k ≢ n → linked_at later k ≡ linked_at now k = λ k other. ap (λ ys. linked_at ys k) write ∙ get_or-set_other now n k (record y { next = onto }) no_link other in
           let new : linked_at later n ≡ record y { next = onto } = ap (λ ys. linked_at ys n) write ∙ get_or-set_same now n (record y { next = onto }) no_link low in
@@ -134,7 +134,7 @@ module _ (nodes : List Link) (first_free : Option ℕ) (free_len : ℕ) (v : ByH
 
   module _ (out post : List ℕ) (split : chain_at v h ≡ h ∷ (out ++ post)) where
     chained : IsChain (after_at nodes) (span_at nodes h) h (h ∷ (out ++ post))
-    chained = subst (IsChain (after_at nodes) (span_at nodes h) h) split (chain_laid nodes first_free free_len v laid h some_h)
+    chained = subst (IsChain (after_at nodes) (span_at nodes h) h) split (chain_laid laid h some_h)
 
     apart : IsApart (h ∷ (out ++ post))
     apart = subst IsApart split (chain_apart v laid.once h)
@@ -170,7 +170,7 @@ module _ (nodes : List Link) (first_free : Option ℕ) (free_len : ℕ) (v : ByH
         ≡ (if h == k then record { last = (if is_none (first post) then h else (span_at nodes h).last); len = (span_at nodes h).len - length out } else span_at nodes k)) where
       links_off : (k : ℕ) → has k (chain_at v h) ≡ false → after_at new k ≡ after_at nodes k
       links_off k absent =
-          links k (apart_from k h (chain_at v h) (head_in nodes first_free free_len v laid h some_h) absent)
+          links k (apart_from k h (chain_at v h) (head_in laid h some_h) absent)
           (false_from_ne_true _ (λ there. false≢true (sym absent ∙ in_chain k there)))
 
       here : IsChain (after_at new) (record { last = (if is_none (first post) then h else (span_at nodes h).last); len = (span_at nodes h).len - length out }) h (h ∷ post)
@@ -189,13 +189,13 @@ module _ (nodes : List Link) (first_free : Option ℕ) (free_len : ℕ) (v : ByH
       IsChained-parted : (free_len' : ℕ) → free_len' ≡ free_len + length out → IsChained new (first_or first_free (reverse out)) free_len' (record { free = reverse out ++ v.free; chains = set v.chains h (Some (h ∷ post)) })
       IsChained-parted free_len' counts =
           let chain_from = subst (λ s. IsChain (after_at new) s h (h ∷ post)) (sym (spans h ∙ write_here h _ _)) here in
-          IsChained-out nodes first_free free_len v laid h new long links_off out (Some (h ∷ post)) _ free_len' some_h reversed (λ g other. spans g ∙ write_elsewhere h g _ _ other) chain_from
+          IsChained-out laid h new long links_off out (Some (h ∷ post)) _ free_len' some_h reversed (λ g other. spans g ∙ write_elsewhere h g _ _ other) chain_from
           (λ k. omega (arith, ap (times k) split, times-append k (h ∷ []) (out ++ post), times-append k (h ∷ []) post, times-append k out post)) refl counts
 
   -- ---- the `count` nodes after the head
 
   begins : first (chain_at v h) ≡ Some h
-  begins = (chain_laid nodes first_free free_len v laid h some_h).head
+  begins = (chain_laid laid h some_h).head
 
   module _ (count : ℕ) (some : 0 < count) (within : count < length (chain_at v h)) where
     -- the nodes that become free, and those after them
@@ -216,16 +216,16 @@ module _ (nodes : List Link) (first_free : Option ℕ) (free_len : ℕ) (v : ByH
 
     -- with them there are at most as many free nodes as nodes, and the chain is longer than `count`
     pub behind_room : free_len + count ≤ length v.chains
-    behind_room = omega (arith, within, freed_room nodes first_free free_len v laid h some_h, (chain_laid nodes first_free free_len v laid h some_h).len)
+    behind_room = omega (arith, within, freed_room laid h some_h, (chain_laid laid h some_h).len)
 
     pub behind_len : count ≤ (span_at nodes h).len
-    behind_len = omega (arith, within, (chain_laid nodes first_free free_len v laid h some_h).len)
+    behind_len = omega (arith, within, (chain_laid laid h some_h).len)
 
     -- a node follows the head
     pub behind_some : IsSome (after_at nodes h)
     behind_some = subst IsSome (sym ((chained out_of rest_of split).leads.0 ∙ front_left out_of rest_of any)) (front_some out_of any)
 
-    module _ (n : ℕ) (on : after_at nodes h ≡ Some n) where
+    module _ {n : ℕ} (on : after_at nodes h ≡ Some n) where
       -- the links from it on lead through the nodes that become free
       pub behind_path : path nodes count (Some n) ≡ out_of
       behind_path = (λ i. path nodes (sym behind_count i) (sym on i)) ∙ path_out out_of rest_of split

@@ -11,12 +11,12 @@ use Rattle.strm_links.proofs.lists.ListLinks.{LeadsOn-kept, first_front, last_ba
 use Rattle.strm_links.proofs.lists.Counting.{times-append}
 use Rattle.strm_links.proofs.chains.StoredChains.{IsChained-two, head_low, last_in, chain_laid, apart_from, write_elsewhere, write_here, not_in_other, chain_apart, two_few}
 
-module _ (nodes : List Link) (first_free : Option ℕ) (free_len : ℕ) (v : ByHead) (laid : IsChained nodes first_free free_len v) (h g : ℕ) (some_h : IsSome (chain_in v.chains h)) (some_g : IsSome (chain_in v.chains g)) (other : h ≢ g) where
+module _ {nodes : List Link} {first_free : Option ℕ} {free_len : ℕ} {v : ByHead} (laid : IsChained nodes first_free free_len v) (h g : ℕ) (some_h : IsSome (chain_in v.chains h)) (some_g : IsSome (chain_in v.chains g)) (other : h ≢ g) where
   laid_h : IsChain (after_at nodes) (span_at nodes h) h (chain_at v h)
-  laid_h = chain_laid nodes first_free free_len v laid h some_h
+  laid_h = chain_laid laid h some_h
 
   laid_g : IsChain (after_at nodes) (span_at nodes g) g (chain_at v g)
-  laid_g = chain_laid nodes first_free free_len v laid g some_g
+  laid_g = chain_laid laid g some_g
 
   -- two chains together have at most all nodes
   pub joined_few : (span_at nodes h).len + (span_at nodes g).len ≤ length v.chains
@@ -32,7 +32,7 @@ module _ (nodes : List Link) (first_free : Option ℕ) (free_len : ℕ) (v : ByH
   module _ (new : List Link) (long : length new ≡ length nodes) (nexts : (k : ℕ) → after_at new k ≡ (if (span_at nodes h).last == k then Some g else after_at nodes k))
       (spans : (k : ℕ) → span_at new k ≡ (if h == k then record { last = (span_at nodes g).last; len = (span_at nodes h).len + (span_at nodes g).len } else (if g == k then no_span else span_at nodes k))) where
     links : (k : ℕ) → has k (chain_at v h) ≡ false → after_at new k ≡ after_at nodes k
-    links k absent = nexts k ∙ write_elsewhere _ k _ _ (apart_from k _ (chain_at v h) (last_in nodes first_free free_len v laid h some_h) absent)
+    links k absent = nexts k ∙ write_elsewhere _ k _ _ (apart_from k _ (chain_at v h) (last_in laid h some_h) absent)
 
     leads : LeadsOn (after_at new) both None
     unfolding both
@@ -57,7 +57,7 @@ module _ (nodes : List Link) (first_free : Option ℕ) (free_len : ℕ) (v : ByH
     IsChained-joined =
         let away : g ≢ h = λ same. other (sym same) in
         let none : (span_at new g).len ≡ 0 = ap (λ (s : Span). s.len) (spans g ∙ write_elsewhere h g _ _ away ∙ write_here g _ _) in
-        IsChained-two nodes first_free free_len v laid h new long links g h None (Some both) away (head_low nodes first_free free_len v laid g some_g) (head_low nodes first_free free_len v laid h some_h)
+        IsChained-two laid h new long links g h None (Some both) away (head_low laid g some_g) (head_low laid h some_h)
         (λ k off_g off_h. (off_h, spans k ∙ write_elsewhere h k _ _ off_h ∙ write_elsewhere g k _ _ off_g)) none
         (subst (λ s. IsChain (after_at new) s h both) (sym (spans h ∙ write_here h _ _)) here)
         (λ k. omega (arith, times-append k (chain_at v h) (chain_at v g)))

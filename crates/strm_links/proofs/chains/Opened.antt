@@ -37,7 +37,7 @@ no_heads : (s : ℕ) → concat (replicate s []) ≡ []
 no_heads zero = refl
 no_heads (suc s) = no_heads s
 
-module _ {T : Type 0} (n s : ℕ) (load : T) (old new : Table Link T) (laid : IsSoundTable old) (rows : rows_in old ≡ record { nodes = n; lists = replicate s [] }) (carried : carried_by old.nodes.items ≡ replicate n (no_link, load))
+module _ {T : Type 0} {n : ℕ} (s : ℕ) (load : T) (old new : Table Link T) (laid : IsSoundTable old) (rows : rows_in old ≡ record { nodes = n; lists = replicate s [] }) (carried : carried_by old.nodes.items ≡ replicate n (no_link, load))
     (rest : unlinked new.nodes.items ≡ unlinked old.nodes.items) (ends : new.ends ≡ old.ends) (few : n < 2 ^ 32) (long : length new.nodes.items ≡ n)
     (leads : (k : ℕ) → k < n → after_at (links_of new.nodes.items) k ≡ (if nat_lt (k + 1) n then Some (k + 1) else None)) (spans : (k : ℕ) → span_at (links_of new.nodes.items) k ≡ no_span) where
   empty : Rows
@@ -48,7 +48,7 @@ module _ {T : Type 0} (n s : ℕ) (load : T) (old new : Table Link T) (laid : Is
 
   chained : IsChained (links_of new.nodes.items) (if nat_lt 0 n then Some 0 else None) n all_free
   unfolding all_free
-  chained = IsChained-opened n (links_of new.nodes.items) few (length-links new.nodes.items ∙ long) leads spans
+  chained = IsChained-opened (links_of new.nodes.items) few (length-links new.nodes.items ∙ long) leads spans
 
   rows_now : rows_in new ≡ empty
   unfolding empty
@@ -63,7 +63,7 @@ module _ {T : Type 0} (n s : ℕ) (load : T) (old new : Table Link T) (laid : Is
   unfolding empty
   IsWhole-opened = record {
     sound = subst (λ (x : List Place × List Ends). IsSound x.0 x.1 (rows_of x.0 x.1)) (sym (λ i. (places_rest old.nodes.items new.nodes.items rest i, (ends i).items))) laid;
-    chained = IsChained-stored _ _ _ _ chained;
+    chained = IsChained-stored chained;
     begun = λ h on. absurd (false≢true (sym (ap is_some (ap (holder h) rows_now ∙ holder-empty n s h)) ∙ on));
     fewest = omega arith;
   }
@@ -71,7 +71,7 @@ module _ {T : Type 0} (n s : ℕ) (load : T) (old new : Table Link T) (laid : Is
   pub opened_is : lists_in new (if nat_lt 0 n then Some 0 else None) n n ≡ opening_chains n s
   unfolding empty all_free
   opened_is =
-      (λ i. lists_of (by_head_is _ _ _ _ chained i) (rows_now i) n)
+      (λ i. lists_of (by_head_is chained i) (rows_now i) n)
       ∙ (λ i. record {
         free = range_with_len 0 n;
         held = chains_but (no_heads s i) (replicate n None);

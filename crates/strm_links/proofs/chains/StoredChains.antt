@@ -103,29 +103,29 @@ module _ (v : ByHead) (once : (n : ℕ) → times n (all_in v) ≡ (if nat_lt n 
 -- ---- the view
 
 -- the walk from a head finds its chain
-path_is : (nodes : List Link) (span : Span) (h : ℕ) (xs : List ℕ) → IsChain (after_at nodes) span h xs → path nodes span.len (Some h) ≡ xs
+path_is : (nodes : List Link) {span : Span} {h : ℕ} {xs : List ℕ} → IsChain (after_at nodes) span h xs → path nodes span.len (Some h) ≡ xs
 unfolding path
-path_is nodes span h xs laid = rw (laid.len, sym laid.head) (walk_is (after_at nodes) xs None laid.leads)
+path_is nodes {xs} laid = rw (laid.len, sym laid.head) (walk_is (after_at nodes) xs None laid.leads)
 
 -- a contract sees the chain that is stored at a node
 chain_is : (nodes : List Link) (h : ℕ) (m : Option (List ℕ)) → IsHeadOf (after_at nodes) (span_at nodes h) h m → chain_from nodes h ≡ m
 chain_is nodes h None laid = cond-true _ _ _ (eq-eqb (span_at nodes h).len 0 laid)
 chain_is nodes h (Some []) laid = absurd (none-some h laid.head)
 chain_is nodes h (Some (x ∷ xs)) laid =
-    cond-false _ _ _ (ne_eqb (span_at nodes h).len 0 (λ same. absurd (omega (arith, same, laid.len)))) ∙ ap Some (path_is nodes (span_at nodes h) h (x ∷ xs) laid)
+    cond-false _ _ _ (ne_eqb (span_at nodes h).len 0 (λ same. absurd (omega (arith, same, laid.len)))) ∙ ap Some (path_is nodes laid)
 
 -- a contract sees stored nodes as what they hold
-pub by_head_is : (nodes : List Link) (first_free : Option ℕ) (free_len : ℕ) (v : ByHead) → IsChained nodes first_free free_len v → by_head nodes first_free free_len ≡ v
+pub by_head_is : {nodes : List Link} {first_free : Option ℕ} {free_len : ℕ} {v : ByHead} → IsChained nodes first_free free_len v → by_head nodes first_free free_len ≡ v
 unfolding path
-by_head_is nodes first_free free_len v laid =
+by_head_is {nodes} {first_free} {free_len} {v} laid =
     let free : walk (after_at nodes) free_len first_free ≡ v.free = rw (laid.free_count, laid.free_front) (walk_is (after_at nodes) v.free None laid.free_leads) in
     let chains : map (chain_from nodes) (range_with_len 0 (length nodes)) ≡ v.chains =
     sym (fill_by_all (chain_from nodes) v.chains (length nodes) None (sym laid.node_count) (λ h within. sym (chain_is nodes h (chain_in v.chains h) (laid.heads h)))) in
     λ i. record { free = free i; chains = chains i }
 
 -- the stored invariant holds at the value that a contract sees
-pub IsChained-stored : (nodes : List Link) (first_free : Option ℕ) (free_len : ℕ) (v : ByHead) → IsChained nodes first_free free_len v → IsChained nodes first_free free_len (by_head nodes first_free free_len)
-IsChained-stored nodes first_free free_len v laid = subst (IsChained nodes first_free free_len) (sym (by_head_is nodes first_free free_len v laid)) laid
+pub IsChained-stored : {nodes : List Link} {first_free : Option ℕ} {free_len : ℕ} {v : ByHead} → IsChained nodes first_free free_len v → IsChained nodes first_free free_len (by_head nodes first_free free_len)
+IsChained-stored {nodes} {first_free} {free_len} {v} laid = subst (IsChained nodes first_free free_len) (sym (by_head_is laid)) laid
 
 -- ---- what the stored nodes say
 
@@ -134,10 +134,10 @@ some_items None some = absurd (false≢true some)
 some_items (Some xs) some = refl
 
 -- a head stays one if what it keeps and the links of its chain stay
-pub IsHeadOf-kept : (next new : ℕ → Option ℕ) (span span' : Span) (h : ℕ) (m : Option (List ℕ)) → span' ≡ span → ((k : ℕ) → has k (items_of m) ≡ true → new k ≡ next k)
+pub IsHeadOf-kept : (next new : ℕ → Option ℕ) {span span' : Span} (h : ℕ) (m : Option (List ℕ)) → span' ≡ span → ((k : ℕ) → has k (items_of m) ≡ true → new k ≡ next k)
     → IsHeadOf next span h m → IsHeadOf new span' h m
-IsHeadOf-kept next new span span' h None same links was = ap (λ (s : Span). s.len) same ∙ was
-IsHeadOf-kept next new span span' h (Some xs) same links was = record {
+IsHeadOf-kept next new h None same links was = ap (λ (s : Span). s.len) same ∙ was
+IsHeadOf-kept next new h (Some xs) same links was = record {
   head = was.head;
   last = was.last ∙ sym (ap (λ (s : Span). Some s.last) same);
   len = ap (λ (s : Span). s.len) same ∙ was.len;
@@ -149,13 +149,13 @@ has_after [] k j is = absurd (none-some j is)
 has_after (x ∷ []) k j is = grind (arith, nat_tests)
 has_after (x ∷ y ∷ xs) k j is = grind (arith, nat_tests, has_after (y ∷ xs) k j)
 
-module _ (nodes : List Link) (first_free : Option ℕ) (free_len : ℕ) (v : ByHead) (laid : IsChained nodes first_free free_len v) where
+module _ {nodes : List Link} {first_free : Option ℕ} {free_len : ℕ} {v : ByHead} (laid : IsChained nodes first_free free_len v) where
   -- the chain with this head
   pub chain_laid : (h : ℕ) → IsSome (chain_in v.chains h) → IsChain (after_at nodes) (span_at nodes h) h (chain_at v h)
   chain_laid h some = subst (IsHeadOf (after_at nodes) (span_at nodes h) h) (some_items (chain_in v.chains h) some) (laid.heads h)
 
   pub chain_path : (h : ℕ) → IsSome (chain_in v.chains h) → path nodes (span_at nodes h).len (Some h) ≡ chain_at v h
-  chain_path h some = path_is nodes (span_at nodes h) h (chain_at v h) (chain_laid h some)
+  chain_path h some = path_is nodes (chain_laid h some)
 
   -- its head and its last node are in it, and are nodes
   pub head_in : (h : ℕ) → IsSome (chain_in v.chains h) → has h (chain_at v h) ≡ true
@@ -185,14 +185,14 @@ module _ (nodes : List Link) (first_free : Option ℕ) (free_len : ℕ) (v : ByH
   head_leads h (Some xs) was = was.leads
 
   -- from each node of a chain to the next one
-  pub next_in_chain : (h i k : ℕ) → slice_get (chain_at v h) i ≡ Some k → after_at nodes k ≡ slice_get (chain_at v h) (i + 1)
-  next_in_chain h i k is =
+  pub next_in_chain : (h i : ℕ) {k : ℕ} → slice_get (chain_at v h) i ≡ Some k → after_at nodes k ≡ slice_get (chain_at v h) (i + 1)
+  next_in_chain h i {k} is =
       next_is (after_at nodes) (chain_at v h) k (head_leads h (chain_in v.chains h) (laid.heads h)) (has_get (chain_at v h) i k is)
       ∙ after-get (chain_at v h) i k (chain_apart v laid.once h) is
 
   -- only to nodes
-  pub next_within : (k j : ℕ) → after_at nodes k ≡ Some j → j < length v.chains
-  next_within k j is =
+  pub next_within : (k : ℕ) {j : ℕ} → after_at nodes k ≡ Some j → j < length v.chains
+  next_within k {j} is =
       elim (cases_lt k (length v.chains)) [
         | inl within ↦
             elim (somewhere v laid.once k within) [
@@ -220,7 +220,7 @@ pub record Moves (old new : List Link) (v : ByHead) (free touched : List ℕ) (c
   pub free_leads : LeadsOn (after_at new) free None
   pub same : (k : ℕ) → times k free + times k (items_in chains) ≡ times k v.free + times k (items_in v.chains)
 
-module _ (old new : List Link) (v : ByHead) (free touched : List ℕ) (chains : List (Option (List ℕ))) (a b : ℕ) (m o : Option (List ℕ)) (moves : Moves old new v free touched chains a b m o) where
+module _ {old : List Link} (new : List Link) {v : ByHead} (free touched : List ℕ) (chains : List (Option (List ℕ))) (a b : ℕ) (m o : Option (List ℕ)) (moves : Moves old new v free touched chains a b m o) where
   heads : ((h : ℕ) → IsHeadOf (after_at old) (span_at old h) h (chain_in v.chains h)) → (g : ℕ) → IsHeadOf (after_at new) (span_at new g) g (chain_in chains g)
   heads was g =
       elim (cases_eq g a) [
@@ -230,14 +230,14 @@ module _ (old new : List Link) (v : ByHead) (free touched : List ℕ) (chains : 
               | inl same ↦ subst (λ j. IsHeadOf (after_at new) (span_at new j) j (chain_in chains j)) (sym same) (subst (IsHeadOf (after_at new) (span_at new b) b) (sym moves.changes.there) moves.there)
               | inr off_b ↦
                   subst (IsHeadOf (after_at new) (span_at new g) g) (sym (moves.changes.others g off_a off_b))
-                  (IsHeadOf-kept (after_at old) (after_at new) (span_at old g) (span_at new g) g (chain_in v.chains g) (moves.spans g off_a off_b)
+                  (IsHeadOf-kept (after_at old) (after_at new) g (chain_in v.chains g) (moves.spans g off_a off_b)
                   (λ k there. moves.links k (moves.others g k off_a off_b there)) (was g))
             ]
       ]
 
   -- after such a change the nodes store these lists
-  pub IsChained-moved : (first_free first_free' : Option ℕ) (free_len free_len' : ℕ) → IsChained old first_free free_len v → first_free' ≡ first free → free_len' ≡ length free → IsChained new first_free' free_len' (record { free = free; chains = chains })
-  IsChained-moved first_free first_free' free_len free_len' laid begins counts = record {
+  pub IsChained-moved : {first_free first_free' : Option ℕ} {free_len : ℕ} (free_len' : ℕ) → IsChained old first_free free_len v → first_free' ≡ first free → free_len' ≡ length free → IsChained new first_free' free_len' (record { free = free; chains = chains })
+  IsChained-moved free_len' laid begins counts = record {
     node_count = moves.long ∙ laid.node_count ∙ sym moves.changes.long;
     few_nodes = omega (arith, laid.few_nodes, moves.changes.long);
     free_count = counts;
@@ -250,7 +250,7 @@ module _ (old new : List Link) (v : ByHead) (free touched : List ℕ) (chains : 
   }
 
 -- only links of the chain at h change
-module _ (nodes : List Link) (first_free : Option ℕ) (free_len : ℕ) (v : ByHead) (laid : IsChained nodes first_free free_len v) (h : ℕ) (new : List Link) (long : length new ≡ length nodes) (links : (k : ℕ) → has k (chain_at v h) ≡ false → after_at new k ≡ after_at nodes k) where
+module _ {nodes : List Link} {first_free : Option ℕ} {free_len : ℕ} {v : ByHead} (laid : IsChained nodes first_free free_len v) (h : ℕ) (new : List Link) (long : length new ≡ length nodes) (links : (k : ℕ) → has k (chain_at v h) ≡ false → after_at new k ≡ after_at nodes k) where
   -- the free nodes lead on as before
   free_kept : LeadsOn (after_at new) v.free None
   free_kept = LeadsOn-kept (after_at nodes) (after_at new) v.free None (λ k there. links k (not_in_chain v laid.once h k there)) laid.free_leads
@@ -260,8 +260,8 @@ module _ (nodes : List Link) (first_free : Option ℕ) (free_len : ℕ) (v : ByH
       → IsHeadOf (after_at new) (span_at new h) h m → ((k : ℕ) → times k (chain_at v h) ≡ times k out + times k (items_of m)) → first_free' ≡ first_or first_free (reverse out) → free_len' ≡ free_len + length out
       → IsChained new first_free' free_len' (record { free = reverse out ++ v.free; chains = set v.chains h m })
   IsChained-out out m first_free' free_len' some reversed spans here same begins counts =
-      let low = head_low nodes first_free free_len v laid h some in
-      IsChained-moved nodes new v (reverse out ++ v.free) (chain_at v h) (set v.chains h m) h h m m
+      let low = head_low laid h some in
+      IsChained-moved new (reverse out ++ v.free) (chain_at v h) (set v.chains h m) h h m m
       (record {
         long = long;
         changes = Changes-one v.chains h m low;
@@ -272,8 +272,7 @@ module _ (nodes : List Link) (first_free : Option ℕ) (free_len : ℕ) (v : ByH
         there = here;
         free_leads = LeadsOn-append (after_at new) (reverse out) v.free None (subst (LeadsOn (after_at new) (reverse out)) laid.free_front reversed) free_kept;
         same = λ k. omega (arith, same k, times-append k (reverse out) v.free, times-reverse k out, times-set k h m v.chains low);
-      })
-      first_free first_free' free_len free_len' laid
+      }) free_len' laid
       (begins ∙ ap (λ o. first_or o (reverse out)) laid.free_front ∙ sym (first_or-append None (reverse out) v.free))
       (omega (arith, counts, laid.free_count, length-append (reverse out) v.free, length-reverse out))
 
@@ -282,7 +281,7 @@ module _ (nodes : List Link) (first_free : Option ℕ) (free_len : ℕ) (v : ByH
       → IsHeadOf (after_at new) (span_at new a) a m → IsHeadOf (after_at new) (span_at new b) b o → ((k : ℕ) → times k (chain_at v a) + times k (chain_at v b) ≡ times k (items_of m) + times k (items_of o))
       → IsChained new first_free free_len (record v { chains = set (set v.chains a m) b o })
   IsChained-two a b m o other low_a low_b off here there same =
-      IsChained-moved nodes new v v.free (chain_at v h) (set (set v.chains a m) b o) a b m o
+      IsChained-moved new v.free (chain_at v h) (set (set v.chains a m) b o) a b m o
       (record {
         long = long;
         changes = Changes-two v.chains a b m o other low_a low_b;
@@ -293,8 +292,7 @@ module _ (nodes : List Link) (first_free : Option ℕ) (free_len : ℕ) (v : ByH
         there = there;
         free_leads = free_kept;
         same = λ k. omega (arith, same k, times-set_two k a b m o v.chains other low_a low_b);
-      })
-      first_free first_free free_len free_len laid laid.free_front laid.free_count
+      }) free_len laid laid.free_front laid.free_count
 
 -- ---- one write
 

@@ -15,13 +15,13 @@ use Rattle.strm_links.proofs.lists.Counting.{times-append}
 use Rattle.strm_links.proofs.lists.OneList.{ApartParts, IsApart-parts, differ, has_head, has_left, has_right, has_tail}
 use Rattle.strm_links.proofs.chains.StoredChains.{IsChained-two, behind_begins_none, head_low, chain_laid, apart_from, write_elsewhere, write_here, chain_apart, chain_low}
 
-module _ (nodes : List Link) (first_free : Option ℕ) (free_len : ℕ) (v : ByHead) (laid : IsChained nodes first_free free_len v) (h : ℕ) (some_h : IsSome (chain_in v.chains h)) where
+module _ {nodes : List Link} {first_free : Option ℕ} {free_len : ℕ} {v : ByHead} (laid : IsChained nodes first_free free_len v) (h : ℕ) (some_h : IsSome (chain_in v.chains h)) where
   was : IsChain (after_at nodes) (span_at nodes h) h (chain_at v h)
-  was = chain_laid nodes first_free free_len v laid h some_h
+  was = chain_laid laid h some_h
 
   -- ---- n follows t
 
-  module _ (pre post : List ℕ) (n t : ℕ) (split : chain_at v h ≡ pre ++ n ∷ post) (begins : first pre ≡ Some h) (ends : last pre ≡ Some t) where
+  module _ (pre post : List ℕ) (n : ℕ) {t : ℕ} (split : chain_at v h ≡ pre ++ n ∷ post) (begins : first pre ≡ Some h) (ends : last pre ≡ Some t) where
     apart : IsApart (pre ++ n ∷ post)
     apart = subst IsApart split (chain_apart v laid.once h)
 
@@ -88,8 +88,8 @@ module _ (nodes : List Link) (first_free : Option ℕ) (free_len : ℕ) (v : ByH
 
       pub IsChained-apart : IsChained new first_free free_len (record v { chains = set (set v.chains h (Some (pre ++ post))) n (Some (n ∷ [])) })
       IsChained-apart =
-          let n_none = behind_begins_none nodes first_free free_len v laid n h (λ same. n_off_h (sym same)) n_in in
-          IsChained-two nodes first_free free_len v laid h new long links_off h n (Some (pre ++ post)) (Some (n ∷ [])) n_off_h (head_low nodes first_free free_len v laid h some_h) (chain_low v laid.once h n n_in)
+          let n_none = behind_begins_none laid n h (λ same. n_off_h (sym same)) n_in in
+          IsChained-two laid h new long links_off h n (Some (pre ++ post)) (Some (n ∷ [])) n_off_h (head_low laid h some_h) (chain_low v laid.once h n n_in)
           (λ g off_h off_n. (off_h, spans g ∙ write_elsewhere h g _ _ off_h ∙ write_elsewhere n g _ _ off_n))
           (subst (λ s. IsChain (after_at new) s h (pre ++ post)) (sym (spans h ∙ write_here h _ _)) here)
           (subst (λ s. IsChain (after_at new) s n (n ∷ [])) (sym (spans n ∙ write_elsewhere h n _ _ (λ same. n_off_h (sym same)) ∙ write_here n _ _)) there)
@@ -108,7 +108,7 @@ module _ (nodes : List Link) (first_free : Option ℕ) (free_len : ℕ) (v : ByH
     pub place_there : onward (after_at nodes) before (Some h) ≡ Some (get_or (chain_at v h) before 0)
     place_there = ap (onward (after_at nodes) before) (sym was.head) ∙ onward-at (after_at nodes) (chain_at v h) None before was.leads (omega (arith, is, inside))
 
-    module _ (t : ℕ) (walked : onward (after_at nodes) before (Some h) ≡ Some t) where
+    module _ {t : ℕ} (walked : onward (after_at nodes) before (Some h) ≡ Some t) where
       t_is : Some t ≡ Some (get_or (chain_at v h) before 0)
       t_is = sym walked ∙ place_there
 
@@ -117,9 +117,9 @@ module _ (nodes : List Link) (first_free : Option ℕ) (free_len : ℕ) (v : ByH
           ap (after_at nodes) (same_Some _ _ t_is) ∙ link_at (after_at nodes) (chain_at v h) None before was.leads (omega (arith, is, inside))
           ∙ ap (λ j. first (drop j (chain_at v h))) (sym is) ∙ ap first (drop-cons (chain_at v h) place 0 inside)
 
-    module _ (t n : ℕ) (walked : onward (after_at nodes) before (Some h) ≡ Some t) (next : after_at nodes t ≡ Some n) where
+    module _ {t n : ℕ} (walked : onward (after_at nodes) before (Some h) ≡ Some t) (next : after_at nodes t ≡ Some n) where
       n_is : Some n ≡ Some (get_or (chain_at v h) place 0)
-      n_is = sym next ∙ place_next t walked
+      n_is = sym next ∙ place_next walked
 
       pub place_is : slice_get (chain_at v h) place ≡ Some n
       place_is = place_at ∙ sym n_is
@@ -137,25 +137,25 @@ module _ (nodes : List Link) (first_free : Option ℕ) (free_len : ℕ) (v : ByH
       begins = ap (λ j. first (take j (chain_at v h))) is ∙ first-take (chain_at v h) before ∙ was.head
 
       ends : last (take place (chain_at v h)) ≡ Some t
-      ends = ap (λ j. last (take j (chain_at v h))) is ∙ last-take (chain_at v h) before (omega (arith, is, inside)) ∙ sym (t_is t walked)
+      ends = ap (λ j. last (take j (chain_at v h))) is ∙ last-take (chain_at v h) before (omega (arith, is, inside)) ∙ sym (t_is walked)
 
       pub place_low : (t < length v.chains) × (n < length v.chains)
       place_low =
           let pre = take place (chain_at v h) in
           let post = drop (place + 1) (chain_at v h) in (
-            chain_low v laid.once h t (t_in pre post n t split begins ends),
-            chain_low v laid.once h n (n_in pre post n t split begins ends),
+            chain_low v laid.once h t (t_in pre post n split begins ends),
+            chain_low v laid.once h n (n_in pre post n split begins ends),
           )
 
       pub IsChained-taken_out : (new : List Link) → length new ≡ length nodes → ((k : ℕ) → after_at new k ≡ (if n == k then None else (if t == k then after_at nodes n else after_at nodes k)))
           → ((k : ℕ) → span_at new k
           ≡ (if h == k then record { last = (if is_none (after_at nodes n) then t else (span_at nodes h).last); len = (span_at nodes h).len - 1 } else (if n == k then record { last = n; len = 1 } else span_at nodes k)))
           → IsChained new first_free free_len (record v { chains = set (set v.chains h (Some (take place (chain_at v h) ++ drop (place + 1) (chain_at v h)))) n (Some (n ∷ [])) })
-      IsChained-taken_out new long nexts spans = IsChained-apart (take place (chain_at v h)) (drop (place + 1) (chain_at v h)) n t split begins ends new long nexts spans
+      IsChained-taken_out new long nexts spans = IsChained-apart (take place (chain_at v h)) (drop (place + 1) (chain_at v h)) n split begins ends new long nexts spans
 
       -- no chain begins with the node
       pub place_none : chain_in v.chains n ≡ None
       place_none =
           let pre = take place (chain_at v h) in
           let post = drop (place + 1) (chain_at v h) in
-          behind_begins_none nodes first_free free_len v laid n h (λ same. n_off_h pre post n t split begins ends (sym same)) (n_in pre post n t split begins ends)
+          behind_begins_none laid n h (λ same. n_off_h pre post n split begins ends (sym same)) (n_in pre post n split begins ends)

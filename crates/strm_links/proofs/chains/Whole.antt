@@ -40,17 +40,17 @@ module _ {T : Type 0} (old new : List (Node Link T)) (rest : unlinked new ≡ un
   loads_rest = sym (map-map (λ (p : Place × T). p.1) (λ (n : Node Link T). (n.place, n.load)) new) ∙ ap (map (λ (p : Place × T). p.1)) rest ∙ map-map (λ (p : Place × T). p.1) (λ (n : Node Link T). (n.place, n.load)) old
 
 -- the first node of a chain
-first_node : (xs : List ℕ) (x : ℕ) → first xs ≡ Some x → head_node xs ≡ x
-first_node [] x is = absurd (none-some x is)
-first_node (y ∷ ys) x is = same_Some y x is
+first_node : (xs : List ℕ) {x : ℕ} → first xs ≡ Some x → head_node xs ≡ x
+first_node [] {x} is = absurd (none-some x is)
+first_node (y ∷ ys) {x} is = same_Some y x is
 
-first_get : (xs : List ℕ) (h : ℕ) → slice_get xs 0 ≡ Some h → head_node xs ≡ h
-first_get [] h is = absurd (none-some h is)
-first_get (y ∷ ys) h is = same_Some y h is
+first_get : (xs : List ℕ) {h : ℕ} → slice_get xs 0 ≡ Some h → head_node xs ≡ h
+first_get [] {h} is = absurd (none-some h is)
+first_get (y ∷ ys) {h} is = same_Some y h is
 
-some_first : (xs : List ℕ) (x : ℕ) → first xs ≡ Some x → 0 < length xs
-some_first [] x is = absurd (none-some x is)
-some_first (y ∷ ys) x is = omega arith
+some_first : (xs : List ℕ) {x : ℕ} → first xs ≡ Some x → 0 < length xs
+some_first [] {x} is = absurd (none-some x is)
+some_first (y ∷ ys) is = omega arith
 
 module _ {T : Type 0} {t : Table Link T} {front : Option ℕ} {free least : ℕ} (whole : IsWhole t front free least) where
   abbrev chains : ByHead
@@ -64,14 +64,14 @@ module _ {T : Type 0} {t : Table Link T} {front : Option ℕ} {free least : ℕ}
 
   -- a chain that is there begins with its number
   pub begins : (h : ℕ) → IsSome (chain_in chains.chains h) → first (chain_at chains h) ≡ Some h
-  begins h some = (chain_laid _ _ _ _ whole.chained h some).head
+  begins h some = (chain_laid whole.chained h some).head
 
   -- a head on a shelf is on that list, and begins a chain
   on_list : (x s : ℕ) → has x (list_at s rows) ≡ true → holder x rows ≡ Some s
   on_list x s there = some_of s (holder x rows) (sym (has-holder x s rows parting.apart) ∙ there)
 
   pub head_listed : (x s : ℕ) → has x (list_at s rows) ≡ true → head_node (chain_at chains x) ≡ x
-  head_listed x s there = first_node (chain_at chains x) x (begins x (whole.begun x (ap is_some (on_list x s there))))
+  head_listed x s there = first_node (chain_at chains x) (begins x (whole.begun x (ap is_some (on_list x s there))))
 
   -- as many places as links
   node_room : rows.nodes ≡ length chains.chains
@@ -100,14 +100,14 @@ module _ {T : Type 0} {t : Table Link T} {front : Option ℕ} {free least : ℕ}
               ] refl;
           shelved = λ s.
               subst (All (λ m. 0 < length m)) (sym (shelf-get chains rows s))
-              (long (list_at s rows) (λ h there. some_first (chain_at chains h) h (begins h (whole.begun h (ap is_some (on_list h s there))))));
+              (long (list_at s rows) (λ h there. some_first (chain_at chains h) (begins h (whole.begun h (ap is_some (on_list h s there))))));
         };
         least = omega (arith, whole.fewest, whole.chained.free_count);
       }
     where
       heads : (h : ℕ) (m : Option (List ℕ)) → IsHeadOf (after_at (links_of t.nodes.items)) (span_at (links_of t.nodes.items) h) h m → IfSome m (λ xs. (0 < length xs) × (head_node xs ≡ h))
       heads h None is = tt
-      heads h (Some xs) is = (some_first xs h is.head, first_node xs h is.head)
+      heads h (Some xs) is = (some_first xs is.head, first_node xs is.head)
 
       long : (hs : List ℕ) → ((h : ℕ) → has h hs ≡ true → 0 < length (chain_at chains h)) → All (λ m. 0 < length m) (map (chain_at chains) hs)
       long [] each i d within = absurd (omega arith)
@@ -160,10 +160,10 @@ module _ {T : Type 0} {t : Table Link T} {front : Option ℕ} {free least : ℕ}
     low_room k low = omega (arith, low, room, count_is)
 
     pub held_low : (h : ℕ) → IsSome (chain_in v.lists.held h) → h < length t.nodes.items
-    held_low h some = low_room h (head_low _ _ _ _ whole.chained h (there h some))
+    held_low h some = low_room h (head_low whole.chained h (there h some))
 
-    pub held_read : (h : ℕ) → IsSome (chain_in v.lists.held h) → (x : Node Link T) → x ≡ get_or t.nodes.items h x → x.link ≡ linked_at (links_of t.nodes.items) h
-    held_read h some x read = link_read t.nodes.items h x (held_low h some) read
+    pub held_read : (h : ℕ) → IsSome (chain_in v.lists.held h) → {x : Node Link T} → x ≡ get_or t.nodes.items h x → x.link ≡ linked_at (links_of t.nodes.items) h
+    held_read h some {x} read = link_read t.nodes.items h (held_low h some) read
 
     -- a node that begins no chain is on no shelf
     pub none_off : (h : ℕ) → chain_in chains.chains h ≡ None → holder h rows ≡ None
@@ -208,7 +208,7 @@ module _ {T : Type 0} {t : Table Link T} {front : Option ℕ} {free least : ℕ}
       where
         at : (xs : List ℕ) → ((x : ℕ) → has x xs ≡ true → has x (list_at s rows) ≡ true) → (j : ℕ) → slice_get (get_or (map (chain_at chains) xs) j []) 0 ≡ Some h → chain_at chains h ≡ get_or (map (chain_at chains) xs) j []
         at [] there j begins = absurd (none-some h begins)
-        at (x ∷ xs) there zero begins = ap (chain_at chains) (sym (first_get (chain_at chains x) h begins) ∙ head_listed x s (there x (has_head x x xs refl)))
+        at (x ∷ xs) there zero begins = ap (chain_at chains) (sym (first_get (chain_at chains x) begins) ∙ head_listed x s (there x (has_head x x xs refl)))
         at (x ∷ xs) there (suc j) begins = at xs (λ y found. there y (has_tail x y xs found)) j begins
 
     pub holds_at : (h n : ℕ) → 0 < n → (is_some (chain_in v.lists.held h) && length (nodes_at v.lists h) == n) ≡ ((span_at (links_of t.nodes.items) h).len == n && not (is_some (holder h rows)))
@@ -227,8 +227,8 @@ module _ {T : Type 0} {t : Table Link T} {front : Option ℕ} {free least : ℕ}
         alone (Some xs) is = ap (λ k. k == n) (sym is.len)
 
     -- the load of a node
-    pub load_at : (k : ℕ) (x : Node Link T) → k < length t.nodes.items → x ≡ get_or t.nodes.items k x → slice_get v.loads k ≡ Some x.load
-    load_at k x within read =
+    pub load_at : (k : ℕ) {x : Node Link T} → k < length t.nodes.items → x ≡ get_or t.nodes.items k x → slice_get v.loads k ≡ Some x.load
+    load_at k {x} within read =
         ap (λ (u : LoadedChains T). slice_get u.loads k) (sym view)
         ∙ slice_get-get_or (loads_of t.nodes.items) k x.load (omega (arith, within, length-map t.nodes.items (λ (n : Node Link T). n.load)))
         ∙ ap Some (get_or-map (λ (n : Node Link T). n.load) t.nodes.items k x x.load within ∙ sym (ap (λ (n : Node Link T). n.load) read))
@@ -277,11 +277,11 @@ module _ {T : Type 0} {t : Table Link T} {front : Option ℕ} {free least : ℕ}
           → IsChained (links_of nodes.items) front' free' (record { free = fs; chains = set (set chains.chains a m) b o }) → least' ≤ free'
           → IsWhole new front' free' least' × (lists_in new front' free' least' ≡ record v.lists { free = fs; held = set (set v.lists.held a m) b o; least = least' })
       IsWhole-two a b m o fs front' free' least' off_a off_b laid few =
-          let now = by_head_is _ _ _ _ laid in
+          let now = by_head_is laid in
           let one : ByHead = record { free = fs; chains = set chains.chains a m } in (
             record {
               sound = subst (λ ps. IsSound ps t.ends.items (rows_of ps t.ends.items)) (sym (places_rest t.nodes.items nodes.items rest)) whole.sound;
-              chained = IsChained-stored _ _ _ _ laid;
+              chained = IsChained-stored laid;
               begun = λ g on.
                   let was : IsSome (holder g rows) = subst (λ r. IsSome (holder g r)) rows_same on in
                   subst (λ (u : ByHead). IsSome (chain_in u.chains g)) (sym now)
@@ -302,9 +302,9 @@ module _ {T : Type 0} {t : Table Link T} {front : Option ℕ} {free least : ℕ}
           differs g h on none same = false≢true (sym (ap (λ k. is_some (holder k rows)) same ∙ ap is_some none) ∙ on)
 
       -- at one
-      pub IsWhole-one : (h : ℕ) (o : Option (List ℕ)) (fs : List ℕ) (front' : Option ℕ) (free' least' : ℕ) → holder h rows ≡ None → IsChained (links_of nodes.items) front' free' (record { free = fs; chains = set chains.chains h o }) → least' ≤ free'
+      pub IsWhole-one : (h : ℕ) (o : Option (List ℕ)) (fs : List ℕ) {front' : Option ℕ} {free' : ℕ} (least' : ℕ) → holder h rows ≡ None → IsChained (links_of nodes.items) front' free' (record { free = fs; chains = set chains.chains h o }) → least' ≤ free'
           → IsWhole new front' free' least' × (lists_in new front' free' least' ≡ record v.lists { free = fs; held = set v.lists.held h o; least = least' })
-      IsWhole-one h o fs front' free' least' off_h laid few =
+      IsWhole-one h o fs {front'} {free'} least' off_h laid few =
           let both = IsWhole-two h h o o fs front' free' least' off_h off_h (subst (λ xs. IsChained (links_of nodes.items) front' free' (record { free = fs; chains = xs })) (sym (set-set chains.chains h o o)) laid) few in
           (both.0, both.1 ∙ (λ i. record v.lists { free = fs; held = set-set v.lists.held h o o i; least = least' }))
 
@@ -335,11 +335,11 @@ module _ {T : Type 0} {t : Table Link T} {front : Option ℕ} {free least : ℕ}
       }
 
       -- what is seen, if the chain at the head is held or not, and the shelf has these chains
-      pub reheaded_is : (o : Option (List ℕ)) → (holder h (rows_in new) ≡ None → o ≡ chain_in chains.chains h) → (IsSome (holder h (rows_in new)) → o ≡ None) → (ms : List (List ℕ)) → map (chain_at chains) ys ≡ ms
+      pub reheaded_is : (o : Option (List ℕ)) → (holder h (rows_in new) ≡ None → o ≡ chain_in chains.chains h) → (IsSome (holder h (rows_in new)) → o ≡ None) → {ms : List (List ℕ)} → map (chain_at chains) ys ≡ ms
           → lists_in new front free least ≡ record v.lists { held = set v.lists.held h o; shelves = set v.lists.shelves s ms }
-      reheaded_is o off_h on ms row =
+      reheaded_is o off_h on {ms} row =
           let u = lists_in t front free least in
-          let inside : h < length u.held = omega (arith, head_low _ _ _ _ whole.chained h begun, length-held chains rows) in
+          let inside : h < length u.held = omega (arith, head_low whole.chained h begun, length-held chains rows) in
           let here : chain_in (set u.held h o) h ≡ o = get_or-set_same u.held h o None inside in
           let is_held : held chains (rows_in new) ≡ set u.held h o =
           held_as chains (rows_in new) (set u.held h o) (length-set u.held h o ∙ length-held chains rows)
@@ -359,7 +359,7 @@ module _ {T : Type 0} {t : Table Link T} {front : Option ℕ} {free least : ℕ}
 
     -- ---- a load changes
 
-    module _ (nodes : Vec (Node Link T) Global) (k : ℕ) (x : Node Link T) (load : T) (read : x ≡ get_or t.nodes.items k x) (is : nodes.items ≡ set t.nodes.items k (record x { load = load })) where
+    module _ (nodes : Vec (Node Link T) Global) (k : ℕ) {x : Node Link T} (load : T) (read : x ≡ get_or t.nodes.items k x) (is : nodes.items ≡ set t.nodes.items k (record x { load = load })) where
       places_kept : places_of nodes.items ≡ places_of t.nodes.items
       places_kept = ap places_of is ∙ map-set_same (λ (n : Node Link T). n.place) t.nodes.items k (record x { load = load }) x (ap (λ (n : Node Link T). n.place) read)
 

@@ -15,8 +15,8 @@ pub links_long : {T : Type 0} (new old : List (Node Link T)) → length new ≡ 
 links_long new old long = length-links new ∙ long ∙ sym (length-links old)
 
 -- the link of a node
-pub link_read : {T : Type 0} (nodes : List (Node Link T)) (k : ℕ) (x : Node Link T) → k < length nodes → x ≡ get_or nodes k x → x.link ≡ linked_at (links_of nodes) k
-link_read {T} nodes k x within read = ap (λ (y : Node Link T). y.link) read ∙ sym (get_or-map (λ (y : Node Link T). y.link) nodes k x no_link within)
+pub link_read : {T : Type 0} (nodes : List (Node Link T)) (k : ℕ) {x : Node Link T} → k < length nodes → x ≡ get_or nodes k x → x.link ≡ linked_at (links_of nodes) k
+link_read {T} nodes k {x} within read = ap (λ (y : Node Link T). y.link) read ∙ sym (get_or-map (λ (y : Node Link T). y.link) nodes k x no_link within)
 
 -- the links after one of them is written
 pub links-set : {T : Type 0} (nodes : List (Node Link T)) (n : ℕ) (x : Node Link T) → links_of (set nodes n x) ≡ set (links_of nodes) n x.link
@@ -35,15 +35,15 @@ module _ {T X : Type 0} (f : Link → X) (nodes : List (Node Link T)) (n k : ℕ
       ]
 
   -- a part that the write leaves
-  pub kept : (old : Node Link T) (link : Link) → old ≡ get_or nodes n old → n < length nodes → f link ≡ f old.link
+  pub kept : {old : Node Link T} (link : Link) → old ≡ get_or nodes n old → n < length nodes → f link ≡ f old.link
       → f (linked_at (links_of (set nodes n (record old { link = link }))) k) ≡ f (linked_at (links_of nodes) k)
-  kept old link read within same =
+  kept {old} link read within same =
       written (record old { link = link }) within
       ∙ elim (cases_eq n k) [
-        | inl here ↦ cond-true _ _ _ (eq-eqb n k here) ∙ same ∙ ap f (link_read nodes n old within read) ∙ ap (λ j. f (linked_at (links_of nodes) j)) here
+        | inl here ↦ cond-true _ _ _ (eq-eqb n k here) ∙ same ∙ ap f (link_read nodes n within read) ∙ ap (λ j. f (linked_at (links_of nodes) j)) here
         | inr other ↦ cond-false _ _ _ (ne_eqb n k other)
       ]
 
 -- all but the links stay
-pub rest_kept : {T : Type 0} (nodes : List (Node Link T)) (n : ℕ) (old : Node Link T) (link : Link) → old ≡ get_or nodes n old → unlinked (set nodes n (record old { link = link })) ≡ unlinked nodes
-rest_kept {T} nodes n old link read = map-set_same (λ (y : Node Link T). (y.place, y.load)) nodes n (record old { link = link }) old (ap (λ (y : Node Link T). (y.place, y.load)) read)
+pub rest_kept : {T : Type 0} (nodes : List (Node Link T)) (n : ℕ) {old : Node Link T} (link : Link) → old ≡ get_or nodes n old → unlinked (set nodes n (record old { link = link })) ≡ unlinked nodes
+rest_kept {T} nodes n {old} link read = map-set_same (λ (y : Node Link T). (y.place, y.load)) nodes n (record old { link = link }) old (ap (λ (y : Node Link T). (y.place, y.load)) read)

@@ -16,7 +16,7 @@ module _ {L T : Type 0} (nodes : List (Node L T)) (k : ℕ) (x : Node L T) where
   places-set = map-set (λ (y : Node L T). y.place) nodes k x
 
   -- one of its neighbours is
-  module _ (at to : Option ℕ) (is : at ≡ Some k) (within : k < length nodes) (read : x ≡ get_or nodes k x) where
+  module _ {at : Option ℕ} (to : Option ℕ) (is : at ≡ Some k) (within : k < length nodes) (read : x ≡ get_or nodes k x) where
     pub next_written : places_of (set nodes k (record x { place = record x.place { next = to } })) ≡ with_next at to (places_of nodes)
     next_written =
         map-set (λ (y : Node L T). y.place) nodes k (record x { place = record x.place { next = to } })

@@ -37,9 +37,9 @@ Gives-start places list n at within =
     })
 
 -- the walk gives away one more node
-pub Gives-more : (old now : List Place) (list : Option ℕ) (xs rest : List ℕ) (n : ℕ) (x : Place) → Gives old now list xs (n ∷ rest)
+pub Gives-more : {old now : List Place} {list : Option ℕ} {xs : List ℕ} (rest : List ℕ) (n : ℕ) (x : Place) → Gives old now list xs (n ∷ rest)
     → x.list ≡ list → x.next ≡ next_at now n → x.previous ≡ previous_at now n → Gives old (set now n x) list xs rest
-Gives-more old now list xs rest n x gives owner next previous =
+Gives-more {now} rest n x gives owner next previous =
     let here : place_at (set now n x) n ≡ x = get_or-set_same now n x no_place (gives.within n (has_head n n rest refl)) in
     let away : (k : ℕ) → k ≢ n → place_at (set now n x) k ≡ place_at now k = λ k. get_or-set_other now n k x no_place in
     record {
@@ -56,20 +56,20 @@ walk_none next zero = refl
 walk_none next (suc m) = refl
 
 -- the loop's step where the walk is at a node
-pub Gives-some : (old now later : List Place) (list : Option ℕ) (xs : List ℕ) (left m n : ℕ) (at onward : Option ℕ) (x : Place) → Gives old now list xs (walk (next_at old) left at)
+pub Gives-some : {old now later : List Place} {list : Option ℕ} {xs : List ℕ} {left : ℕ} (m : ℕ) {n : ℕ} {at onward : Option ℕ} (x : Place) → Gives old now list xs (walk (next_at old) left at)
     → left ≡ suc m → at ≡ Some n → (n < length now → x ≡ place_at now n) → later ≡ set now n (record x { list = list }) → onward ≡ x.next
     → Gives old later list xs (walk (next_at old) m onward)
-Gives-some old now later list xs left m n at onward x gives count is read write on =
+Gives-some {old} {now} {later} {list} {xs} m {n} {at} x gives count is read write on =
     let here : Gives old now list xs (n ∷ walk (next_at old) m (next_at old n)) = rw (count, is) at gives in
     let known : x ≡ place_at now n = read (here.within n (has_head n n _ refl)) in
     let next : x.next ≡ next_at now n = ap (λ (y : Place). y.next) known in
     subst (λ o. Gives old later list xs (walk (next_at old) m o)) (sym (on ∙ next ∙ gives.nexts n))
-    (rw write (Gives-more old now list xs (walk (next_at old) m (next_at old n)) n (record x { list = list }) here refl next (ap (λ (y : Place). y.previous) known)))
+    (rw write (Gives-more (walk (next_at old) m (next_at old n)) n (record x { list = list }) here refl next (ap (λ (y : Place). y.previous) known)))
 
 -- the loop's step where the walk is over
-pub Gives-none : (old now later : List Place) (list : Option ℕ) (xs : List ℕ) (left m : ℕ) (at onward : Option ℕ) → Gives old now list xs (walk (next_at old) left at)
+pub Gives-none : {old now later : List Place} {list : Option ℕ} {xs : List ℕ} (left m : ℕ) {at onward : Option ℕ} → Gives old now list xs (walk (next_at old) left at)
     → at ≡ None → later ≡ now → onward ≡ at → Gives old later list xs (walk (next_at old) m onward)
-Gives-none old now later list xs left m at onward gives is same on =
+Gives-none {old} left m {at} {onward} gives is same on =
     let nothing : walk (next_at old) left at ≡ walk (next_at old) m onward = ap (walk (next_at old) left) is ∙ walk_none (next_at old) left ∙ sym (ap (walk (next_at old) m) (on ∙ is) ∙ walk_none (next_at old) m) in
     rw (same, ← nothing) gives
 
@@ -274,7 +274,7 @@ module _ (nodes mid new : List Place) (n l : ℕ) (pre post : List ℕ) (e e' : 
 
 -- ---- the other lists, and the free nodes
 
-module _ (nodes mid new : List Place) (ends : List Ends) (rows : Rows) (l n : ℕ) (x : Place) (pre post : List ℕ) (e e' : Ends) (on back : Option ℕ) (sound : IsSound nodes ends rows) (within : l < length rows.lists) (puts : Puts nodes mid n x) (rewires : Rewires mid new e e' (last pre) (first post) on back) (off : (has n pre ≡ false) × (has n post ≡ false)) (parts : (k : ℕ) → has k (list_at l rows) ≡ false → (has k pre ≡ false) × (has k post ≡ false)) (was : (m : ℕ) → m ≢ l → is_some_of m (owner_at nodes n) ≡ false) (is : (m : ℕ) → m ≢ l → is_some_of m x.list ≡ false) (free : x.list ≡ None → (x.next ≡ None) × (x.previous ≡ None)) where
+module _ {nodes mid new : List Place} {ends : List Ends} {rows : Rows} (l : ℕ) {n : ℕ} {x : Place} (pre post : List ℕ) {e e' : Ends} {on back : Option ℕ} (sound : IsSound nodes ends rows) (within : l < length rows.lists) (puts : Puts nodes mid n x) (rewires : Rewires mid new e e' (last pre) (first post) on back) (off : (has n pre ≡ false) × (has n post ≡ false)) (parts : (k : ℕ) → has k (list_at l rows) ≡ false → (has k pre ≡ false) × (has k post ≡ false)) (was : (m : ℕ) → m ≢ l → is_some_of m (owner_at nodes n) ≡ false) (is : (m : ℕ) → m ≢ l → is_some_of m x.list ≡ false) (free : x.list ≡ None → (x.next ≡ None) × (x.previous ≡ None)) where
   -- the owners after the change
   new_owner : (k : ℕ) → n ≢ k → owner_at new k ≡ owner_at nodes k
   new_owner k other = rewires.owners k ∙ ap (λ (m : Place). m.list) (puts.others k other)
@@ -328,7 +328,7 @@ module _ (nodes mid new : List Place) (ends : List Ends) (rows : Rows) (l n : �
         Linked-set new ends rows.lists l m e'' ys (omega (arith, low, sound.list_count)) low here (λ other. others_linked m low other);
   }
 
-module _ (nodes mid new : List Place) (ends : List Ends) (rows : Rows) (l n : ℕ) (pre post : List ℕ) (e' : Ends) (sound : IsSound nodes ends rows) (within : l < length rows.lists) (long : length new ≡ length nodes) where
+module _ {nodes : List Place} (mid new : List Place) {ends : List Ends} {rows : Rows} (l n : ℕ) (pre post : List ℕ) (e' : Ends) (sound : IsSound nodes ends rows) (within : l < length rows.lists) (long : length new ≡ length nodes) where
   -- all is sound after a free node joins
   pub IsSound-insert : owner_at nodes n ≡ None → list_at l rows ≡ pre ++ post
       → Puts nodes mid n (record { list = Some l; previous = last pre; next = first post })
@@ -336,7 +336,7 @@ module _ (nodes mid new : List Place) (ends : List Ends) (rows : Rows) (l n : �
       → IsSound new (set ends l (record e' { len = e'.len + 1 })) (record rows { lists = set rows.lists l (pre ++ n ∷ post) })
   IsSound-insert free split puts rewires =
       let list : Linked nodes (ends_at ends l) l (pre ++ post) = subst (Linked nodes (ends_at ends l) l) split (sound.linked l within) in
-      IsSound-node nodes mid new ends rows l n _ pre post (ends_at ends l) e' (Some n) (Some n) sound within puts rewires
+      IsSound-node l pre post sound within puts rewires
       (absent_both n pre post (list.owned n ∙ ap (is_some_of l) free))
       (λ k absent. absent_both k pre post (ap (has k) (sym split) ∙ absent))
       (λ m other. ap (is_some_of m) free)
@@ -352,7 +352,7 @@ module _ (nodes mid new : List Place) (ends : List Ends) (rows : Rows) (l n : �
   IsSound-remove split puts rewires =
       let list : Linked nodes (ends_at ends l) l (pre ++ n ∷ post) = subst (Linked nodes (ends_at ends l) l) split (sound.linked l within) in
       let owner : owner_at nodes n ≡ Some l = some_of l (owner_at nodes n) (sym (list.owned n) ∙ has_right n pre (n ∷ post) (has_head n n post refl)) in
-      IsSound-node nodes mid new ends rows l n no_place pre post (ends_at ends l) e' (first post) (last pre) sound within puts rewires
+      IsSound-node l pre post sound within puts rewires
       (absent_around pre post n list.apart)
       (λ k absent. let both = absent_both k pre (n ∷ post) (ap (has k) (sym split) ∙ absent) in (both.0, (absent_parts n k post both.1).1))
       (λ m other. ap (is_some_of m) owner ∙ ne_eqb l m (λ same. other (sym same)))
@@ -368,7 +368,7 @@ last-append : (xs ys : List ℕ) → (if is_none (last ys) then last xs else las
 last-append xs [] = ap last (sym (append-nil xs))
 last-append xs (y ∷ ys) = cond-false _ _ _ (last_some y ys) ∙ sym (last_or-append None xs (y ∷ ys))
 
-module _ (nodes mid new : List Place) (ends : List Ends) (rows : Rows) (to from : ℕ) (e' : Ends) (back : Option ℕ) (sound : IsSound nodes ends rows) (to_within : to < length rows.lists) (from_within : from < length rows.lists) (other : to ≢ from) (gives : Gives nodes mid (Some to) (list_at from rows) []) (rewires : Rewires mid new (ends_at ends to) e' (last (list_at to rows)) (first (list_at from rows)) (first (list_at from rows)) (last (list_at to rows))) where
+module _ (nodes mid new : List Place) (ends : List Ends) {rows : Rows} {to : ℕ} (from : ℕ) {e' : Ends} (back : Option ℕ) (sound : IsSound nodes ends rows) (to_within : to < length rows.lists) (from_within : from < length rows.lists) (other : to ≢ from) (gives : Gives nodes mid (Some to) (list_at from rows) []) (rewires : Rewires mid new (ends_at ends to) e' (last (list_at to rows)) (first (list_at from rows)) (first (list_at from rows)) (last (list_at to rows))) where
   -- the owners after the change
   moved_owner : (k : ℕ) → has k (list_at from rows) ≡ true → owner_at new k ≡ Some to
   moved_owner k there = rewires.owners k ∙ gives.owners k ∙ cond-true _ _ _ there

@@ -16,59 +16,59 @@ use Rattle.strm_links.proofs.lists.ListLinks.{walk_is, next_is, previous_is, Rea
 -- ---- the view
 
 -- the walk between the ends of a list finds it
-between_is : (nodes : List Place) (e : Ends) (l : ℕ) (xs : List ℕ) → IsLinked (owner_at nodes) (previous_at nodes) (next_at nodes) e l xs → nodes_between nodes e ≡ xs
+between_is : (nodes : List Place) {e : Ends} {l : ℕ} {xs : List ℕ} → IsLinked (owner_at nodes) (previous_at nodes) (next_at nodes) e l xs → nodes_between nodes e ≡ xs
 unfolding nodes_between
-between_is nodes e l xs linked = rw (linked.len, linked.front) (walk_is (next_at nodes) xs None linked.leads_on)
+between_is nodes {xs} linked = rw (linked.len, linked.front) (walk_is (next_at nodes) xs None linked.leads_on)
 
 -- a contract sees sound nodes and ends as the rows that they hold
-pub rows_of_is : (nodes : List Place) (ends : List Ends) (rows : Rows) → IsSound nodes ends rows → rows_of nodes ends ≡ rows
-rows_of_is nodes ends rows sound =
+pub rows_of_is : {nodes : List Place} {ends : List Ends} {rows : Rows} → IsSound nodes ends rows → rows_of nodes ends ≡ rows
+rows_of_is {nodes} {ends} {rows} sound =
     let lists : map (nodes_between nodes) ends ≡ rows.lists =
     same_lists _ _ (length-map ends (nodes_between nodes) ∙ sound.list_count)
     (λ l d inside.
     let within : l < length rows.lists = omega (arith, length-map ends (nodes_between nodes), sound.list_count) in
     get_or-map (nodes_between nodes) ends l no_ends d (omega (arith, sound.list_count))
-    ∙ between_is nodes (ends_at ends l) l (list_at l rows) (sound.linked l within)
+    ∙ between_is nodes (sound.linked l within)
     ∙ get_or_default rows.lists l [] d within) in
     λ i. record { nodes = sound.node_count i; lists = lists i }
 
 -- the stored invariant holds at the rows that a contract sees
-pub IsSound-rows : (nodes : List Place) (ends : List Ends) (rows : Rows) → rows_of nodes ends ≡ rows → IsSound nodes ends (rows_of nodes ends) → IsSound nodes ends rows
-IsSound-rows nodes ends rows view sound = subst (IsSound nodes ends) view sound
+pub IsSound-rows : {nodes : List Place} {ends : List Ends} {rows : Rows} → rows_of nodes ends ≡ rows → IsSound nodes ends (rows_of nodes ends) → IsSound nodes ends rows
+IsSound-rows {nodes} {ends} view sound = subst (IsSound nodes ends) view sound
 
 -- and the other way round
-pub IsSound-stored : (nodes : List Place) (ends : List Ends) (rows : Rows) → IsSound nodes ends rows → IsSound nodes ends (rows_of nodes ends)
-IsSound-stored nodes ends rows sound = subst (IsSound nodes ends) (sym (rows_of_is nodes ends rows sound)) sound
+pub IsSound-stored : {nodes : List Place} {ends : List Ends} {rows : Rows} → IsSound nodes ends rows → IsSound nodes ends (rows_of nodes ends)
+IsSound-stored {nodes} {ends} {rows} sound = subst (IsSound nodes ends) (sym (rows_of_is sound)) sound
 
 -- ---- what sound nodes and ends say
 
 -- a number with an owner is a node
-pub node_within : (nodes : List Place) (k l : ℕ) → owner_at nodes k ≡ Some l → k < length nodes
-node_within nodes k l is =
+pub node_within : (nodes : List Place) (k : ℕ) {l : ℕ} → owner_at nodes k ≡ Some l → k < length nodes
+node_within nodes k {l} is =
     elim (cases_lt k (length nodes)) [
       | inl within ↦ within
       | inr past ↦ absurd (none-some l (sym (ap (λ (n : Place). n.list) (get_or_past nodes k no_place past)) ∙ is))
     ]
 
-module _ (nodes : List Place) (ends : List Ends) (rows : Rows) (sound : IsSound nodes ends rows) where
+module _ {nodes : List Place} {ends : List Ends} {rows : Rows} (sound : IsSound nodes ends rows) where
   -- the list that holds a node is its stored owner
   pub holder-owner : (k : ℕ) → holder k rows ≡ owner_at nodes k
   holder-owner k = holder_is k rows (owner_at nodes k) (λ l within. (sound.linked l within).owned k) (sound.known k)
 
-  pub ends_read : (l : ℕ) (e : Ends) → l < length rows.lists → e ≡ get_or ends l e → e ≡ ends_at ends l
-  ends_read l e within read = get_or_read ends l e (omega (arith, sound.list_count)) read no_ends
+  pub ends_read : (l : ℕ) {e : Ends} → l < length rows.lists → e ≡ get_or ends l e → e ≡ ends_at ends l
+  ends_read l {e} within read = get_or_read ends l e (omega (arith, sound.list_count)) read no_ends
 
   -- the owner of a node in list l is l
   pub owner_from : (l k : ℕ) → l < length rows.lists → has k (list_at l rows) ≡ true → owner_at nodes k ≡ Some l
   owner_from l k within there = some_of l (owner_at nodes k) (sym ((sound.linked l within).owned k) ∙ there)
 
   -- a node with owner l is in list l
-  pub has_owned : (l k : ℕ) → owner_at nodes k ≡ Some l → has k (list_at l rows) ≡ true
-  has_owned l k is = (sound.linked l (sound.known k l is)).owned k ∙ is_some_of-same l (owner_at nodes k) is
+  pub has_owned : {l : ℕ} (k : ℕ) → owner_at nodes k ≡ Some l → has k (list_at l rows) ≡ true
+  has_owned {l} k is = (sound.linked l (sound.known k l is)).owned k ∙ is_some_of-same l (owner_at nodes k) is
 
   -- a number in a list is a node
   pub listed_within : (l k : ℕ) → l < length rows.lists → has k (list_at l rows) ≡ true → k < length nodes
-  listed_within l k within there = node_within nodes k l (owner_from l k within there)
+  listed_within l k within there = node_within nodes k (owner_from l k within there)
 
   -- a stored link is the neighbour in the rows, if it is in each list, and is none for a free node
   neighbour-at : (k : ℕ) (link : Option ℕ) (beside : List ℕ → Option ℕ) → (owner_at nodes k ≡ None → beside [] ≡ link) → ((l : ℕ) → owner_at nodes k ≡ Some l → beside (list_at l rows) ≡ link) → beside (row_of k rows) ≡ link
@@ -81,12 +81,12 @@ module _ (nodes : List Place) (ends : List Ends) (rows : Rows) (sound : IsSound 
   pub next_in-at : (k : ℕ) → next_in rows k ≡ next_at nodes k
   next_in-at k =
       neighbour-at k (next_at nodes k) (after k) (λ none. sym (sound.free_next k none))
-      (λ l is. sym (next_is (next_at nodes) (list_at l rows) k (sound.linked l (sound.known k l is)).leads_on (has_owned l k is)))
+      (λ l is. sym (next_is (next_at nodes) (list_at l rows) k (sound.linked l (sound.known k l is)).leads_on (has_owned k is)))
 
   pub previous_in-at : (k : ℕ) → previous_in rows k ≡ previous_at nodes k
   previous_in-at k =
       neighbour-at k (previous_at nodes k) (before k) (λ none. sym (sound.free_previous k none))
-      (λ l is. sym (previous_is (previous_at nodes) None (list_at l rows) k (sound.linked l (sound.known k l is)).leads_back (has_owned l k is)))
+      (λ l is. sym (previous_is (previous_at nodes) None (list_at l rows) k (sound.linked l (sound.known k l is)).leads_back (has_owned k is)))
 
   -- following `next` from the front reads the list
   pub reads_forward : (l : ℕ) → Reads (next_in rows) (first (list_at l rows)) (list_at l rows)
@@ -146,7 +146,7 @@ module _ (owner : ℕ → Option ℕ) where
             absurd (omega (arith, same, later.1)));
       })
 
-module _ (nodes : List Place) (ends : List Ends) (rows : Rows) (sound : IsSound nodes ends rows) where
+module _ {nodes : List Place} {ends : List Ends} {rows : Rows} (sound : IsSound nodes ends rows) where
   -- the rows are such lists
   owns_all : Owns (owner_at nodes) 0 rows.lists
   unfolding Owns
@@ -163,7 +163,7 @@ module _ (nodes : List Place) (ends : List Ends) (rows : Rows) (sound : IsSound 
   in_range = λ i d within.
       let k = get_or (linked_nodes rows) i d in
       let found = owner_among (owner_at nodes) 0 rows.lists k owns_all (has_at (linked_nodes rows) i d within) in
-      omega (arith, node_within nodes k found.0 found.2, sound.node_count)
+      omega (arith, node_within nodes k found.2, sound.node_count)
 
 -- ---- empty lists
 
@@ -202,4 +202,4 @@ IsSound-new n m few_nodes few_lists =
 
 -- sound nodes and ends hold each node at most once
 pub parts : (nodes : List Place) (ends : List Ends) (rows : Rows) → IsSound nodes ends rows → IsParting rows
-parts nodes ends rows sound = record { apart = apart_all nodes ends rows sound; within = in_range nodes ends rows sound }
+parts nodes ends rows sound = record { apart = apart_all sound; within = in_range sound }

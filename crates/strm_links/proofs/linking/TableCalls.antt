@@ -44,9 +44,9 @@ module _ (xs : List ℕ) where
   put_in-at (Some at) n there = ap (put_before at n) (split_at at xs (there at refl)) ∙ put_before-at (upto at xs) (beyond at xs) at n (absent_upto at xs)
 
   -- the node before the place is the last of the first part
-  ahead_is : (previous : ℕ → Option ℕ) (back : Option ℕ) (next : Option ℕ) → ((at : ℕ) → has at xs ≡ true → previous at ≡ last (upto at xs)) → back ≡ last xs → ((at : ℕ) → next ≡ Some at → has at xs ≡ true) → option_map_or previous next back ≡ last (pre_of next xs)
-  ahead_is previous back None before end there = end
-  ahead_is previous back (Some at) before end there = before at (there at refl)
+  ahead_is : (previous : ℕ → Option ℕ) {back : Option ℕ} (next : Option ℕ) → ((at : ℕ) → has at xs ≡ true → previous at ≡ last (upto at xs)) → back ≡ last xs → ((at : ℕ) → next ≡ Some at → has at xs ≡ true) → option_map_or previous next back ≡ last (pre_of next xs)
+  ahead_is previous None before end there = end
+  ahead_is previous (Some at) before end there = before at (there at refl)
 
 -- the list has the new node and what it had
 has-put_in : (next : Option ℕ) (n k : ℕ) (xs : List ℕ) → ((at : ℕ) → next ≡ Some at → has at xs ≡ true) → has k (put_in next n xs) ≡ ((n == k) || has k xs)
@@ -60,7 +60,7 @@ put_in-first n (x ∷ xs) = cond-true _ _ _ (eq-eqb x x refl)
 
 -- ---- neighbours
 
-module _ (nodes : List Place) (ends : List Ends) (rows : Rows) (sound : IsSound nodes ends rows) (l : ℕ) (within : l < length rows.lists) where
+module _ {nodes : List Place} {ends : List Ends} {rows : Rows} (sound : IsSound nodes ends rows) (l : ℕ) (within : l < length rows.lists) where
   -- the stored previous node is the last of those before k
   pub previous-last : (k : ℕ) → has k (list_at l rows) ≡ true → previous_at nodes k ≡ last (upto k (list_at l rows))
   previous-last k there =
@@ -74,37 +74,37 @@ module _ (nodes : List Place) (ends : List Ends) (rows : Rows) (sound : IsSound 
       ∙ ap (after k) (split_at k (list_at l rows) there) ∙ after-at (upto k (list_at l rows)) (beyond k (list_at l rows)) k (absent_upto k (list_at l rows))
 
   -- the last of a part of the list is a node
-  pub last_within : (pre post : List ℕ) (k : ℕ) → list_at l rows ≡ pre ++ post → last pre ≡ Some k → k < length nodes
-  last_within pre post k split is =
-      listed_within nodes ends rows sound l k within (ap (has k) split ∙ has_left k pre post (last_has pre k (is_some_of-same k (last pre) is)))
+  pub last_within : (pre post : List ℕ) {k : ℕ} → list_at l rows ≡ pre ++ post → last pre ≡ Some k → k < length nodes
+  last_within pre post {k} split is =
+      listed_within sound l k within (ap (has k) split ∙ has_left k pre post (last_has pre k (is_some_of-same k (last pre) is)))
 
   -- the first of a part of the list is a node
-  pub first_within : (pre post : List ℕ) (k : ℕ) → list_at l rows ≡ pre ++ post → first post ≡ Some k → k < length nodes
-  first_within pre post k split is =
-      listed_within nodes ends rows sound l k within (ap (has k) split ∙ has_right k pre post (first_has post k (is_some_of-same k (first post) is)))
+  pub first_within : (pre post : List ℕ) {k : ℕ} → list_at l rows ≡ pre ++ post → first post ≡ Some k → k < length nodes
+  first_within pre post {k} split is =
+      listed_within sound l k within (ap (has k) split ∙ has_right k pre post (first_has post k (is_some_of-same k (first post) is)))
 
 -- ---- a node joins
 
-module _ (nodes : List Place) (ends : List Ends) (rows : Rows) (sound : IsSound nodes ends rows) (l n : ℕ) (next : Option ℕ) (within : l < length rows.lists) (inside : n < rows.nodes) (free : holder n rows ≡ None) (there : (at : ℕ) → next ≡ Some at → holder at rows ≡ Some l) where
+module _ {nodes : List Place} {ends : List Ends} {rows : Rows} (sound : IsSound nodes ends rows) (l n : ℕ) (next : Option ℕ) (within : l < length rows.lists) (inside : n < rows.nodes) (free : holder n rows ≡ None) (there : (at : ℕ) → next ≡ Some at → holder at rows ≡ Some l) where
   -- the node has no owner
   owner_none : owner_at nodes n ≡ None
-  owner_none = sym (holder-owner nodes ends rows sound n) ∙ free
+  owner_none = sym (holder-owner sound n) ∙ free
 
   -- the list has the node at the place
   joined_has : (at : ℕ) → next ≡ Some at → has at (list_at l rows) ≡ true
-  joined_has at is = has_owned nodes ends rows sound l at (sym (holder-owner nodes ends rows sound at) ∙ there at is)
+  joined_has at is = has_owned sound at (sym (holder-owner sound at) ∙ there at is)
 
   -- the node at the place is a node of the arena
-  pub joined_next_within : (at : ℕ) → next ≡ Some at → at < length nodes
-  joined_next_within at is = listed_within nodes ends rows sound l at within (joined_has at is)
+  pub joined_next_within : {at : ℕ} → next ≡ Some at → at < length nodes
+  joined_next_within {at} is = listed_within sound l at within (joined_has at is)
 
   -- what the code reads as the previous node is the last of the first part
   pub joined_ahead : option_map_or (λ k. previous_at nodes k) next (ends_at ends l).back ≡ last (pre_of next (list_at l rows))
-  joined_ahead = ahead_is (list_at l rows) (previous_at nodes) (ends_at ends l).back next (previous-last nodes ends rows sound l within) (sound.linked l within).back joined_has
+  joined_ahead = ahead_is (list_at l rows) (previous_at nodes) next (previous-last sound l within) (sound.linked l within).back joined_has
 
   -- it is a node of the arena
-  pub joined_ahead_within : (k : ℕ) → option_map_or (λ j. previous_at nodes j) next (ends_at ends l).back ≡ Some k → k < length nodes
-  joined_ahead_within k is = last_within nodes ends rows sound l within (pre_of next (list_at l rows)) (post_of next (list_at l rows)) k (split_is (list_at l rows) next joined_has) (sym joined_ahead ∙ is)
+  pub joined_ahead_within : {k : ℕ} → option_map_or (λ j. previous_at nodes j) next (ends_at ends l).back ≡ Some k → k < length nodes
+  joined_ahead_within {k} is = last_within sound l within (pre_of next (list_at l rows)) (post_of next (list_at l rows)) (split_is (list_at l rows) next joined_has) (sym joined_ahead ∙ is)
 
   -- a list that lacks a node is shorter than the number of nodes
   pub joined_len : (ends_at ends l).len < rows.nodes
@@ -113,15 +113,15 @@ module _ (nodes : List Place) (ends : List Ends) (rows : Rows) (sound : IsSound 
       let most = length_below (length nodes) (n ∷ list_at l rows) (list.owned n ∙ ap (is_some_of l) owner_none, list.apart)
       (λ k found. elim (has_cases n k (list_at l rows) found) [
         | inl same ↦ omega (arith, same, sound.node_count)
-        | inr later ↦ listed_within nodes ends rows sound l k within later
+        | inr later ↦ listed_within sound l k within later
       ]) in
       omega (arith, list.len, most, sound.node_count)
 
   -- the nodes and the ends are sound after the writes
-  pub IsSound-joined : (list p own : Option ℕ) (e e1 e2 : Ends) → list ≡ Some l → own ≡ Some n → e ≡ ends_at ends l → p ≡ option_map_or (λ k. previous_at nodes k) next e.back
+  pub IsSound-joined : {list p own : Option ℕ} {e e1 e2 : Ends} → list ≡ Some l → own ≡ Some n → e ≡ ends_at ends l → p ≡ option_map_or (λ k. previous_at nodes k) next e.back
       → e1 ≡ record e { front = (if is_none p then own else e.front) } → e2 ≡ record e1 { back = (if is_none next then own else e1.back) }
       → IsSound (with_previous next own (with_next p own (set nodes n (record { list = list; previous = p; next = next })))) (set ends l (record e2 { len = e2.len + 1 })) (record rows { lists = set rows.lists l (put_in next n (list_at l rows)) })
-  IsSound-joined list p own e e1 e2 list_is own_is e_is p_is front back =
+  IsSound-joined {list} {p} {own} {e} {e1} {e2} list_is own_is e_is p_is front back =
       let pre = pre_of next (list_at l rows) in
       let post = post_of next (list_at l rows) in
       let x : Place = record { list = list; previous = p; next = next } in
@@ -132,10 +132,10 @@ module _ (nodes : List Place) (ends : List Ends) (rows : Rows) (sound : IsSound 
       let puts : Puts nodes mid n (record { list = Some l; previous = last pre; next = first post }) =
       subst (Puts nodes mid n) (λ i. record { list = list_is i; previous = ahead i; next = on i }) (Puts-set nodes n x (omega (arith, inside, sound.node_count))) in
       let written = Rewires-same
-      (Rewires-both mid e e1 e2 p next own own (λ k is. omega (arith, length-set nodes n x, joined_ahead_within k (sym there ∙ is))) (λ at is. omega (arith, length-set nodes n x, joined_next_within at is)) front back)
+      (Rewires-both mid e e1 e2 p next own own (λ k is. omega (arith, length-set nodes n x, joined_ahead_within (sym there ∙ is))) (λ at is. omega (arith, length-set nodes n x, joined_next_within is)) front back)
       e_is ahead on own_is own_is in
       rw (put_in-at (list_at l rows) next n joined_has)
-      (IsSound-insert nodes mid _ ends rows l n pre post e2 sound within (length-written mid p next own own ∙ length-set nodes n x) owner_none (split_is (list_at l rows) next joined_has) puts written)
+      (IsSound-insert mid _ l n pre post e2 sound within (length-written mid p next own own ∙ length-set nodes n x) owner_none (split_is (list_at l rows) next joined_has) puts written)
 
   -- what the list has after the writes
   put_in_has : (k : ℕ) → has k (put_in next n (list_at l rows)) ≡ ((n == k) || has k (list_at l rows))
@@ -143,11 +143,11 @@ module _ (nodes : List Place) (ends : List Ends) (rows : Rows) (sound : IsSound 
 
   -- the list holds the node
   pub joined_holder : holder n (record rows { lists = set rows.lists l (put_in next n (list_at l rows)) }) ≡ Some l
-  joined_holder = holder-insert_here rows (apart_all nodes ends rows sound) n l _ within free (put_in_has n)
+  joined_holder = holder-insert_here rows (apart_all sound) n l _ within free (put_in_has n)
 
   -- every other node is held as before
   pub other_holder : (k : ℕ) → k ≢ n → holder k (record rows { lists = set rows.lists l (put_in next n (list_at l rows)) }) ≡ holder k rows
-  other_holder k = holder-insert_other rows (apart_all nodes ends rows sound) n l k _ within free (put_in_has k)
+  other_holder k = holder-insert_other rows (apart_all sound) n l k _ within free (put_in_has k)
 
 -- ---- what the stored ends and links name
 
@@ -161,19 +161,19 @@ module _ (nodes : List Place) (ends : List Ends) (rows : Rows) (sound : IsSound 
 
   -- a node in the list is held by it
   pub listed_holder : (k : ℕ) → has k (list_at l rows) ≡ true → holder k rows ≡ Some l
-  listed_holder k there = holder-owner nodes ends rows sound k ∙ owner_from nodes ends rows sound l k within there
+  listed_holder k there = holder-owner sound k ∙ owner_from sound l k within there
 
   -- the list holds its front and its back
-  pub front_holder : (k : ℕ) → e.front ≡ Some k → holder k rows ≡ Some l
-  front_holder k is = listed_holder k (first_has (list_at l rows) k (is_some_of-same k (first (list_at l rows)) (sym front_is ∙ is)))
+  pub front_holder : {k : ℕ} → e.front ≡ Some k → holder k rows ≡ Some l
+  front_holder {k} is = listed_holder k (first_has (list_at l rows) k (is_some_of-same k (first (list_at l rows)) (sym front_is ∙ is)))
 
-  pub back_holder : (k : ℕ) → e.back ≡ Some k → holder k rows ≡ Some l
-  back_holder k is = listed_holder k (last_has (list_at l rows) k (is_some_of-same k (last (list_at l rows)) (sym back_is ∙ is)))
+  pub back_holder : {k : ℕ} → e.back ≡ Some k → holder k rows ≡ Some l
+  back_holder {k} is = listed_holder k (last_has (list_at l rows) k (is_some_of-same k (last (list_at l rows)) (sym back_is ∙ is)))
 
-module _ (nodes : List Place) (ends : List Ends) (rows : Rows) (sound : IsSound nodes ends rows) where
+module _ {nodes : List Place} {ends : List Ends} {rows : Rows} (sound : IsSound nodes ends rows) where
   -- a node that a list holds is a node of the arena
-  pub holder_within : (k l : ℕ) → holder k rows ≡ Some l → k < rows.nodes
-  holder_within k l is = omega (arith, node_within nodes k l (sym (holder-owner nodes ends rows sound k) ∙ is), sound.node_count)
+  pub holder_within : (k : ℕ) {l : ℕ} → holder k rows ≡ Some l → k < rows.nodes
+  holder_within k {l} is = omega (arith, node_within nodes k (sym (holder-owner sound k) ∙ is), sound.node_count)
 
   -- a node that is in the list of k is held as k is
   neighbour : (k j : ℕ) → owner_at nodes k ≢ None → ((l : ℕ) → owner_at nodes k ≡ Some l → has j (list_at l rows) ≡ true) → (holder j rows ≡ holder k rows) × (j < rows.nodes)
@@ -182,107 +182,107 @@ module _ (nodes : List Place) (ends : List Ends) (rows : Rows) (sound : IsSound 
         | None ↦ λ is. absurd (owned is)
         | Some l ↦ λ is.
             let held = listed_holder nodes ends rows sound l (sound.known k l is) (ends_at ends l) refl j (beside l is) in
-            (held ∙ sym (holder-owner nodes ends rows sound k ∙ is), holder_within j l held)
+            (held ∙ sym (holder-owner sound k ∙ is), holder_within j held)
       ] refl
 
   -- the next node is in the list of k
-  pub next_neighbour : (k j : ℕ) → next_at nodes k ≡ Some j → (holder j rows ≡ holder k rows) × (j < rows.nodes)
-  next_neighbour k j at =
+  pub next_neighbour : (k : ℕ) {j : ℕ} → next_at nodes k ≡ Some j → (holder j rows ≡ holder k rows) × (j < rows.nodes)
+  next_neighbour k {j} at =
       neighbour k j (λ none. none-some j (sym (sound.free_next k none) ∙ at))
       (λ l is.
       let xs = list_at l rows in
-      let there = has_owned nodes ends rows sound l k is in
-      let behind = first_has (beyond k xs) j (is_some_of-same j (first (beyond k xs)) (sym (next-first nodes ends rows sound l (sound.known k l is) k there) ∙ at)) in
+      let there = has_owned sound k is in
+      let behind = first_has (beyond k xs) j (is_some_of-same j (first (beyond k xs)) (sym (next-first sound l (sound.known k l is) k there) ∙ at)) in
       ap (has j) (split_at k xs there) ∙ has_right j (upto k xs) (k ∷ beyond k xs) (has_tail k j (beyond k xs) behind))
 
   -- the previous node is in the list of k
-  pub previous_neighbour : (k j : ℕ) → previous_at nodes k ≡ Some j → (holder j rows ≡ holder k rows) × (j < rows.nodes)
-  previous_neighbour k j at =
+  pub previous_neighbour : (k : ℕ) {j : ℕ} → previous_at nodes k ≡ Some j → (holder j rows ≡ holder k rows) × (j < rows.nodes)
+  previous_neighbour k {j} at =
       neighbour k j (λ none. none-some j (sym (sound.free_previous k none) ∙ at))
       (λ l is.
       let xs = list_at l rows in
-      let there = has_owned nodes ends rows sound l k is in
-      let ahead = last_has (upto k xs) j (is_some_of-same j (last (upto k xs)) (sym (previous-last nodes ends rows sound l (sound.known k l is) k there) ∙ at)) in
+      let there = has_owned sound k is in
+      let ahead = last_has (upto k xs) j (is_some_of-same j (last (upto k xs)) (sym (previous-last sound l (sound.known k l is) k there) ∙ at)) in
       ap (has j) (split_at k xs there) ∙ has_left j (upto k xs) (k ∷ beyond k xs) ahead)
 
 -- ---- a node that some list holds
 
-module _ (nodes : List Place) (ends : List Ends) (rows : Rows) (sound : IsSound nodes ends rows) (n : ℕ) (some : IsSome (holder n rows)) where
+module _ {nodes : List Place} {ends : List Ends} {rows : Rows} (sound : IsSound nodes ends rows) (n : ℕ) (some : IsSome (holder n rows)) where
   -- it is a node of the arena
   pub held_within : n < rows.nodes
   held_within =
       let list = number_of (holder n rows) some in
-      omega (arith, node_within nodes n list.0 (sym (holder-owner nodes ends rows sound n) ∙ list.1), sound.node_count)
+      omega (arith, node_within nodes n (sym (holder-owner sound n) ∙ list.1), sound.node_count)
 
 module _ {L T : Type 0} (t : Table L T) (sound : IsSoundTable t) (n : ℕ) (some : IsSome (holder n (rows_in t))) where
   pub held_low : n < length t.nodes.items
-  held_low = omega (arith, held_within _ _ _ sound n some, sound.node_count, length-map t.nodes.items (λ x. x.place))
+  held_low = omega (arith, held_within sound n some, sound.node_count, length-map t.nodes.items (λ x. x.place))
 
-  module _ (x : Node L T) (read : x ≡ get_or t.nodes.items n x) where
+  module _ {x : Node L T} (read : x ≡ get_or t.nodes.items n x) where
     -- what the code reads is its place
     pub held_place : x.place ≡ place_at (places_of t.nodes.items) n
     held_place = place_read t.nodes.items n x held_low read
 
     -- the stored list holds it
     pub held_list : holder n (rows_in t) ≡ x.place.list
-    held_list = holder-owner _ _ _ sound n ∙ sym (ap (λ (p : Place). p.list) held_place)
+    held_list = holder-owner sound n ∙ sym (ap (λ (p : Place). p.list) held_place)
 
 -- ---- a node leaves
 
-module _ (nodes : List Place) (ends : List Ends) (rows : Rows) (sound : IsSound nodes ends rows) (l n : ℕ) (is : holder n rows ≡ Some l) where
+module _ {nodes : List Place} {ends : List Ends} {rows : Rows} (sound : IsSound nodes ends rows) {l : ℕ} (n : ℕ) (is : holder n rows ≡ Some l) where
   -- its stored owner is that list
   owner_is : owner_at nodes n ≡ Some l
-  owner_is = sym (holder-owner nodes ends rows sound n) ∙ is
+  owner_is = sym (holder-owner sound n) ∙ is
 
   pub left_list : l < length rows.lists
   left_list = sound.known n l owner_is
 
   pub left_node : n < length nodes
-  left_node = node_within nodes n l owner_is
+  left_node = node_within nodes n owner_is
 
   -- the list has it
   left_has : has n (list_at l rows) ≡ true
-  left_has = has_owned nodes ends rows sound l n owner_is
+  left_has = has_owned sound n owner_is
 
   -- the list is the part before it, the node and the part after it
   left_split : list_at l rows ≡ upto n (list_at l rows) ++ n ∷ beyond n (list_at l rows)
   left_split = split_at n (list_at l rows) left_has
 
-  pub left_previous : (k : ℕ) → previous_at nodes n ≡ Some k → k < length nodes
-  left_previous k at = last_within nodes ends rows sound l left_list (upto n (list_at l rows)) (n ∷ beyond n (list_at l rows)) k left_split (sym (previous-last nodes ends rows sound l left_list n left_has) ∙ at)
+  pub left_previous : {k : ℕ} → previous_at nodes n ≡ Some k → k < length nodes
+  left_previous {k} at = last_within sound l left_list (upto n (list_at l rows)) (n ∷ beyond n (list_at l rows)) left_split (sym (previous-last sound l left_list n left_has) ∙ at)
 
-  pub left_next : (k : ℕ) → next_at nodes n ≡ Some k → k < length nodes
-  left_next k at = first_within nodes ends rows sound l left_list (upto n (list_at l rows) ++ n ∷ []) (beyond n (list_at l rows)) k
-      (left_split ∙ sym (append_assoc (upto n (list_at l rows)) (n ∷ []) (beyond n (list_at l rows)))) (sym (next-first nodes ends rows sound l left_list n left_has) ∙ at)
+  pub left_next : {k : ℕ} → next_at nodes n ≡ Some k → k < length nodes
+  left_next {k} at = first_within sound l left_list (upto n (list_at l rows) ++ n ∷ []) (beyond n (list_at l rows))
+      (left_split ∙ sym (append_assoc (upto n (list_at l rows)) (n ∷ []) (beyond n (list_at l rows)))) (sym (next-first sound l left_list n left_has) ∙ at)
 
   pub left_len : 0 < (ends_at ends l).len
   left_len = omega (arith, (sound.linked l left_list).len, ap length left_split, length-append (upto n (list_at l rows)) (n ∷ beyond n (list_at l rows)))
 
   -- the nodes and the ends are sound after the writes
-  pub IsSound-left : (x free : Place) (e e1 e2 : Ends) → x ≡ place_at nodes n → free ≡ no_place → e ≡ ends_at ends l
+  pub IsSound-left : {x free : Place} {e e1 e2 : Ends} → x ≡ place_at nodes n → free ≡ no_place → e ≡ ends_at ends l
       → e1 ≡ record e { front = (if is_none x.previous then x.next else e.front) } → e2 ≡ record e1 { back = (if is_none x.next then x.previous else e1.back) }
       → IsSound (with_previous x.next x.previous (with_next x.previous x.next (set nodes n free))) (set ends l (record e2 { len = e2.len - 1 })) (record rows { lists = map (without n) rows.lists })
-  IsSound-left x free e e1 e2 x_is free_is e_is front back =
+  IsSound-left {x} {free} {e} {e1} {e2} x_is free_is e_is front back =
       let list = list_at l rows in
       let pre = upto n list in
       let post = beyond n list in
       let mid = set nodes n free in
       let off = absent_around pre post n (subst IsApart left_split (sound.linked l left_list).apart) in
-      let behind : x.next ≡ first post = ap (λ (y : Place). y.next) x_is ∙ next-first nodes ends rows sound l left_list n left_has in
-      let ahead : x.previous ≡ last pre = ap (λ (y : Place). y.previous) x_is ∙ previous-last nodes ends rows sound l left_list n left_has in
+      let behind : x.next ≡ first post = ap (λ (y : Place). y.next) x_is ∙ next-first sound l left_list n left_has in
+      let ahead : x.previous ≡ last pre = ap (λ (y : Place). y.previous) x_is ∙ previous-last sound l left_list n left_has in
       let puts : Puts nodes mid n no_place = subst (Puts nodes mid n) free_is (Puts-set nodes n free left_node) in
       let written = Rewires-same
-      (Rewires-both mid e e1 e2 x.previous x.next x.next x.previous (λ k is. omega (arith, length-set nodes n free, left_previous k (sym (ap (λ (y : Place). y.previous) x_is) ∙ is)))
-      (λ k is. omega (arith, length-set nodes n free, left_next k (sym (ap (λ (y : Place). y.next) x_is) ∙ is))) front back)
+      (Rewires-both mid e e1 e2 x.previous x.next x.next x.previous (λ k is. omega (arith, length-set nodes n free, left_previous (sym (ap (λ (y : Place). y.previous) x_is) ∙ is)))
+      (λ k is. omega (arith, length-set nodes n free, left_next (sym (ap (λ (y : Place). y.next) x_is) ∙ is))) front back)
       e_is ahead behind behind ahead in
       let lists : map (without n) rows.lists ≡ set rows.lists l (pre ++ post) =
-      map-without rows (apart_all nodes ends rows sound) n l is
+      map-without rows (apart_all sound) n l is
       ∙ ap (set rows.lists l) (ap (without n) left_split ∙ without-at pre post n off.0 off.1) in
-      rw lists (IsSound-remove nodes mid _ ends rows l n pre post e2 sound left_list (length-written mid x.previous x.next x.next x.previous ∙ length-set nodes n free) left_split puts written)
+      rw lists (IsSound-remove mid _ l n pre post e2 sound left_list (length-written mid x.previous x.next x.next x.previous ∙ length-set nodes n free) left_split puts written)
 
 -- ---- a list joins another
 
-module _ (nodes : List Place) (ends : List Ends) (rows : Rows) (sound : IsSound nodes ends rows) (l : ℕ) (within : l < length rows.lists) (e : Ends) (e_is : e ≡ ends_at ends l) where
+module _ {nodes : List Place} {ends : List Ends} {rows : Rows} (sound : IsSound nodes ends rows) (l : ℕ) (within : l < length rows.lists) {e : Ends} (e_is : e ≡ ends_at ends l) where
   -- the walk between the ends of a list finds it
   pub walk_list : walk (next_at nodes) e.len e.front ≡ list_at l rows
   walk_list =
@@ -291,15 +291,15 @@ module _ (nodes : List Place) (ends : List Ends) (rows : Rows) (sound : IsSound 
 
   -- each number that the walk finds is a node of the arena
   pub walk_within : (k : ℕ) → has k (walk (next_at nodes) e.len e.front) ≡ true → k < length nodes
-  walk_within k found = listed_within nodes ends rows sound l k within (ap (has k) (sym walk_list) ∙ found)
+  walk_within k found = listed_within sound l k within (ap (has k) (sym walk_list) ∙ found)
 
-  pub front_within : (k : ℕ) → e.front ≡ Some k → k < length nodes
-  front_within k is = first_within nodes ends rows sound l within [] (list_at l rows) k refl (sym (ap (λ (f : Ends). f.front) e_is ∙ (sound.linked l within).front) ∙ is)
+  pub front_within : {k : ℕ} → e.front ≡ Some k → k < length nodes
+  front_within {k} is = first_within sound l within [] (list_at l rows) refl (sym (ap (λ (f : Ends). f.front) e_is ∙ (sound.linked l within).front) ∙ is)
 
-  pub back_within : (k : ℕ) → e.back ≡ Some k → k < length nodes
-  back_within k is = last_within nodes ends rows sound l within (list_at l rows) [] k (sym (append-nil (list_at l rows))) (sym (ap (λ (f : Ends). f.back) e_is ∙ (sound.linked l within).back) ∙ is)
+  pub back_within : {k : ℕ} → e.back ≡ Some k → k < length nodes
+  back_within {k} is = last_within sound l within (list_at l rows) [] (sym (append-nil (list_at l rows))) (sym (ap (λ (f : Ends). f.back) e_is ∙ (sound.linked l within).back) ∙ is)
 
-module _ (nodes : List Place) (ends : List Ends) (rows : Rows) (sound : IsSound nodes ends rows) (to from : ℕ) (to_within : to < length rows.lists) (from_within : from < length rows.lists) (other : to ≢ from) where
+module _ {nodes : List Place} {ends : List Ends} {rows : Rows} (sound : IsSound nodes ends rows) (to from : ℕ) (to_within : to < length rows.lists) (from_within : from < length rows.lists) (other : to ≢ from) where
   -- two lists together are no longer than the number of nodes
   pub both_len : (ends_at ends to).len + (ends_at ends from).len ≤ rows.nodes
   both_len =
@@ -311,17 +311,17 @@ module _ (nodes : List Place) (ends : List Ends) (rows : Rows) (sound : IsSound 
       (record {
         left = head.apart;
         right = tail.apart;
-        cross = λ k there. tail.owned k ∙ ap (is_some_of from) (owner_from nodes ends rows sound to k to_within there) ∙ ne_eqb to from other;
+        cross = λ k there. tail.owned k ∙ ap (is_some_of from) (owner_from sound to k to_within there) ∙ ne_eqb to from other;
       }) in
       let most = length_below (length nodes) (xs ++ ys) apart
       (λ k found. elim (or_cases _ _ (sym (has-append k xs ys) ∙ found)) [
-        | inl here ↦ listed_within nodes ends rows sound to k to_within here
-        | inr there ↦ listed_within nodes ends rows sound from k from_within there
+        | inl here ↦ listed_within sound to k to_within here
+        | inr there ↦ listed_within sound from k from_within there
       ]) in
       omega (arith, most, head.len, tail.len, sound.node_count, length-append xs ys)
 
   -- the nodes and the ends are sound after the writes
-  pub IsSound-appended : (mid : List Place) (list : Option ℕ) (e f e1 e2 empty : Ends) (back : Option ℕ) → list ≡ Some to → e ≡ ends_at ends to → f ≡ ends_at ends from → empty ≡ no_ends
+  pub IsSound-appended : (mid : List Place) {list : Option ℕ} {e f e1 e2 empty : Ends} {back : Option ℕ} → list ≡ Some to → e ≡ ends_at ends to → f ≡ ends_at ends from → empty ≡ no_ends
       → length mid ≡ length nodes
       → ((k : ℕ) → owner_at mid k ≡ (if has k (walk (next_at nodes) f.len f.front) then list else owner_at nodes k))
       → ((k : ℕ) → next_at mid k ≡ next_at nodes k)
@@ -330,11 +330,11 @@ module _ (nodes : List Place) (ends : List Ends) (rows : Rows) (sound : IsSound 
       → back ≡ (if is_none f.back then e.back else f.back)
       → IsSound (with_previous f.front e.back (with_next e.back f.front mid)) (set (set ends to (record { len = e2.len + f.len; front = e2.front; back = back })) from empty)
       (record rows { lists = set (set rows.lists to (list_at to rows ++ list_at from rows)) from [] })
-  IsSound-appended mid list e f e1 e2 empty back list_is e_is f_is empty_is mid_long owners nexts previous front_end back_end back_is =
+  IsSound-appended mid {list} {e} {f} {e1} {e2} {back} list_is e_is f_is empty_is mid_long owners nexts previous front_end back_end back_is =
       let head = sound.linked to to_within in
       let tail = sound.linked from from_within in
       let gives : Gives nodes mid (Some to) (list_at from rows) [] = record {
-        owners = λ k. owners k ∙ ap (λ ys. if has k ys then list else owner_at nodes k) (walk_list nodes ends rows sound from from_within f f_is) ∙ ap (λ o. if has k (list_at from rows) then o else owner_at nodes k) list_is;
+        owners = λ k. owners k ∙ ap (λ ys. if has k ys then list else owner_at nodes k) (walk_list sound from from_within f_is) ∙ ap (λ o. if has k (list_at from rows) then o else owner_at nodes k) list_is;
         nexts = nexts;
         previous = previous;
         within = λ k nowhere. absurd (false≢true nowhere);
@@ -343,9 +343,9 @@ module _ (nodes : List Place) (ends : List Ends) (rows : Rows) (sound : IsSound 
       let end_is : e.back ≡ last (list_at to rows) = ap (λ (g : Ends). g.back) e_is ∙ head.back in
       let front_is : f.front ≡ first (list_at from rows) = ap (λ (g : Ends). g.front) f_is ∙ tail.front in
       let written = Rewires-same
-      (Rewires-both mid e e1 e2 e.back f.front f.front e.back (λ k is. omega (arith, mid_long, back_within nodes ends rows sound to to_within e e_is k is)) (λ k is. omega (arith, mid_long, front_within nodes ends rows sound from from_within f f_is k is))
+      (Rewires-both mid e e1 e2 e.back f.front f.front e.back (λ k is. omega (arith, mid_long, back_within sound to to_within e_is is)) (λ k is. omega (arith, mid_long, front_within sound from from_within f_is is))
       front_end back_end)
       e_is end_is front_is front_is end_is in
       rw (empty_is, ap (λ (g : Ends). g.len) f_is)
-      (IsSound-append nodes mid _ ends rows to from e2 back sound to_within from_within other gives written (length-written mid e.back f.front f.front e.back ∙ mid_long)
+      (IsSound-append nodes mid _ ends from back sound to_within from_within other gives written (length-written mid e.back f.front f.front e.back ∙ mid_long)
       (back_is ∙ ap (λ o. if is_none o then e.back else o) (ap (λ (g : Ends). g.back) f_is ∙ tail.back) ∙ ap (λ o. if is_none (last (list_at from rows)) then o else last (list_at from rows)) end_is))

@@ -7,7 +7,7 @@ pub returns-clause-nexts : goal.returns-clause-nexts
 returns-clause-nexts g c k = written (λ (l : Link). l.next) c.args.nodes.now.items c.args.at k (record c.index_mut.result.now { link = record c.index_mut.result.now.link { next = c.args.next } }) (omega (arith, c.requires))
 
 pub returns-clause-spans : goal.returns-clause-spans
-returns-clause-spans g c k = kept (λ (l : Link). l.span) c.args.nodes.now.items c.args.at k c.index_mut.result.now (record c.index_mut.result.now.link { next = c.args.next }) c.index_mut.ensures.value (omega (arith, c.requires)) refl
+returns-clause-spans g c k = kept (λ (l : Link). l.span) c.args.nodes.now.items c.args.at k (record c.index_mut.result.now.link { next = c.args.next }) c.index_mut.ensures.value (omega (arith, c.requires)) refl
 
 pub returns-clause-rest : goal.returns-clause-rest
-returns-clause-rest g c = rest_kept c.args.nodes.now.items c.args.at c.index_mut.result.now (record c.index_mut.result.now.link { next = c.args.next }) c.index_mut.ensures.value
+returns-clause-rest g c = rest_kept c.args.nodes.now.items c.args.at (record c.index_mut.result.now.link { next = c.args.next }) c.index_mut.ensures.value

@@ -9,7 +9,7 @@ use Rattle.strm_links.proofs.chained.node_behind.Goals.{After-index-nodes-at}
 
 -- the link that the code reads, and the steps that are left
 link : (g : Over) (c : After-index-nodes-at g) → c.index-nodes-at.result.link.next ≡ after_at (links_of c.args.nodes.now) c.loop-step.at
-link g c = ap (λ (l : Link). l.next) (link_read c.args.nodes.now c.loop-step.at c.index-nodes-at.result c.loop-step.invariant.within c.index-nodes-at.is)
+link g c = ap (λ (l : Link). l.next) (link_read c.args.nodes.now c.loop-step.at c.loop-step.invariant.within c.index-nodes-at.is)
 
 left : (g : Over) (c : After-index-nodes-at g) → c.args.steps - c.loop-step._step ≡ suc (c.args.steps - (c.loop-step._step + 1))
 left g c = omega (arith, c.loop-step-test.true)

@@ -23,9 +23,9 @@ begins : (links : List Link) (h len : ℕ) → Some h ≡ first_or (onward (afte
 unfolding path
 begins links h len = walk_from (after_at links) len (Some h)
 
-some : (xs : List ℕ) (h : ℕ) → first xs ≡ Some h → 0 < length xs
-some [] h is = absurd (cc)
-some (x ∷ xs) h is = omega arith
+some : (xs : List ℕ) {h : ℕ} → first xs ≡ Some h → 0 < length xs
+some [] is = absurd (cc)
+some (x ∷ xs) is = omega arith
 
 pub index_mut-node-requires : goal.index_mut-node-requires
 index_mut-node-requires g c = omega (arith, c.requires.within c.args.head (has_first _ c.args.head c.requires.begins))
@@ -38,26 +38,26 @@ loop-reversed-init g c =
     let nodes = c.args.nodes.now.items in
     let node = c.index_mut-node.result.now in
     let link : Link = record node.link { next = c.args.beyond } in
-    let starts : Reverses (links_of nodes) (links_of nodes) c.args.beyond _ _ 0 (Some c.args.head) c.args.beyond = Reverses-start _ _ _ _ _ (begins (links_of nodes) c.args.head c.args.len) in
-    let any = some _ c.args.head c.requires.begins in
+    let starts : Reverses (links_of nodes) (links_of nodes) c.args.beyond _ _ 0 (Some c.args.head) c.args.beyond = Reverses-start _ _ _ _ (begins (links_of nodes) c.args.head c.args.len) in
+    let any = some _ c.requires.begins in
     let low : c.args.head < length nodes = omega (arith, c.requires.within c.args.head (has_first _ c.args.head c.requires.begins)) in
     record {
-      reverses = Reverses-more _ _ _ _ _ _ _ _ starts any c.requires.apart (leads (links_of nodes) c.args.head c.args.len) c.args.head (same_Some _ _ (reverse_at _ _ _ _ _ _ _ _ starts any))
-          (omega (arith, low, length-links nodes)) node.link _ _ _ (link_read nodes c.args.head node low c.index_mut-node.ensures.value) (links-set nodes c.args.head (record node { link = link })) refl c.some-onto.ensures;
-      rest = rest_kept nodes c.args.head node link c.index_mut-node.ensures.value;
+      reverses = Reverses-more starts any c.requires.apart (leads (links_of nodes) c.args.head c.args.len) (same_Some _ _ (reverse_at starts any))
+          (omega (arith, low, length-links nodes)) _ (link_read nodes c.args.head low c.index_mut-node.ensures.value) (links-set nodes c.args.head (record node { link = link })) refl c.some-onto.ensures;
+      rest = rest_kept nodes c.args.head link c.index_mut-node.ensures.value;
     }
 
 -- ---- each later node
 
 pub number-number-requires : goal.number-number-requires
-number-number-requires g c = subst IsSome (sym (reverse_at _ _ _ _ _ _ _ _ c.loop-reversed.invariant.reverses (omega (arith, c.requires.len, c.loop-reversed-test.true)))) refl
+number-number-requires g c = subst IsSome (sym (reverse_at c.loop-reversed.invariant.reverses (omega (arith, c.requires.len, c.loop-reversed-test.true)))) refl
 
 -- a node is left, and the walk is at the first that is
 more : (g : Over) (c : After-number-number g) → c.loop-reversed._reversed < length (path (links_of c.args.nodes.now.items) c.args.len (Some c.args.head))
 more g c = omega (arith, c.requires.len, c.loop-reversed-test.true)
 
 here : (g : Over) (c : After-number-number g) → c.number-number.result ≡ get_or (path (links_of c.args.nodes.now.items) c.args.len (Some c.args.head)) c.loop-reversed._reversed 0
-here g c = same_Some _ _ (sym c.number-number.ensures ∙ reverse_at _ _ _ _ _ _ _ _ c.loop-reversed.invariant.reverses (more g c))
+here g c = same_Some _ _ (sym c.number-number.ensures ∙ reverse_at c.loop-reversed.invariant.reverses (more g c))
 
 low : (g : Over) (c : After-number-number g) → c.number-number.result < length c.loop-reversed.nodes.items
 low g c =
@@ -92,10 +92,10 @@ loop-reversed-preserved g c =
     let n = c.number-number.result in
     let link : Link = record node.link { next = c.loop-reversed.onto } in
     record {
-      reverses = Reverses-more _ _ _ _ _ _ _ _ c.loop-reversed.invariant.reverses (more g at) c.requires.apart (leads (links_of c.args.nodes.now.items) c.args.head c.args.len) n (here g at)
-          (omega (arith, low g at, length-links nodes)) node.link _ _ _ (link_read nodes n node (low g at) c.index_mut-node-in-loop-reversed.ensures.value) (links-set nodes n (record node { link = link })) refl
+      reverses = Reverses-more c.loop-reversed.invariant.reverses (more g at) c.requires.apart (leads (links_of c.args.nodes.now.items) c.args.head c.args.len) (here g at)
+          (omega (arith, low g at, length-links nodes)) _ (link_read nodes n (low g at) c.index_mut-node-in-loop-reversed.ensures.value) (links-set nodes n (record node { link = link })) refl
           c.some-onto-in-loop-reversed.ensures;
-      rest = rest_kept nodes n node link c.index_mut-node-in-loop-reversed.ensures.value ∙ c.loop-reversed.invariant.rest;
+      rest = rest_kept nodes n link c.index_mut-node-in-loop-reversed.ensures.value ∙ c.loop-reversed.invariant.rest;
     }
 
 -- ---- after the loop
@@ -104,7 +104,7 @@ pub returns : goal.returns
 returns g c =
     let all : AreReversed (links_of c.args.nodes.now.items) (links_of c.loop-reversed.nodes.items) c.args.beyond (onward (after_at (links_of c.args.nodes.now.items)) c.args.len (Some c.args.head)) (path (links_of c.args.nodes.now.items) c.args.len (Some c.args.head)) c.loop-reversed.at
     c.loop-reversed.onto =
-    reversed_all _ _ _ _ _ _ _ _ c.loop-reversed.invariant.reverses (omega (arith, c.requires.len, c.loop-reversed-test.false)) in
+    reversed_all c.loop-reversed.invariant.reverses (omega (arith, c.requires.len, c.loop-reversed-test.false)) in
     record {
       last = all.onto_is;
       next = all.at_is;

@@ -22,13 +22,13 @@ loop-done-preserved g c =
           let n = w.in-Some.k in
           let place : Place = record node.place { list = c.args.list } in
           record {
-            gives = Gives-some _ _ _ _ _ _ _ n _ _ node.place c.loop-done.invariant.gives left (sym c.get.ensures ∙ w.in-Some.is)
+            gives = Gives-some _ node.place c.loop-done.invariant.gives left (sym c.get.ensures ∙ w.in-Some.is)
                 (λ low. place_read _ n node (omega (arith, low, length-map c.loop-done.nodes.items (λ x. x.place))) w.index_mut-node.ensures.value)
                 (ap (λ v. places_of v.items) w.nodes-is ∙ places-set c.loop-done.nodes.items n (record node { place = place })) w.at-is;
             carried = ap (λ v. carried_by v.items) w.nodes-is ∙ carried-set c.loop-done.nodes.items n node place w.index_mut-node.ensures.value ∙ c.loop-done.invariant.carried;
           }
       | in_default w ↦ record {
-        gives = Gives-none _ _ _ _ _ _ _ _ _ c.loop-done.invariant.gives (sym c.get.ensures ∙ w.in_default.is) (ap (λ v. places_of v.items) w.nodes-is) w.at-is;
+        gives = Gives-none _ _ c.loop-done.invariant.gives (sym c.get.ensures ∙ w.in_default.is) (ap (λ v. places_of v.items) w.nodes-is) w.at-is;
         carried = ap (λ v. carried_by v.items) w.nodes-is ∙ c.loop-done.invariant.carried;
       }
     ]

@@ -5,7 +5,7 @@ use Rattle.strm_links.proofs.table.set_previous.Goals as goal
 pub returns-in-Some-clause-places : goal.returns-in-Some-clause-places
 returns-in-Some-clause-places g c =
     let is = sym c.get.ensures ∙ c.in-Some.is in
-    previous_written _ c.in-Some.k c.index_mut.result.now c.args.at c.args.previous is (omega (arith, c.requires c.in-Some.k is)) c.index_mut.ensures.value
+    previous_written _ c.in-Some.k c.index_mut.result.now c.args.previous is (omega (arith, c.requires c.in-Some.k is)) c.index_mut.ensures.value
 
 pub returns-in-Some-clause-carried : goal.returns-in-Some-clause-carried
 returns-in-Some-clause-carried g c = carried-set _ c.in-Some.k c.index_mut.result.now (record c.index_mut.result.now.place { previous = c.args.previous }) c.index_mut.ensures.value

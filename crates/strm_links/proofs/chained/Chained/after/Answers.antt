@@ -9,4 +9,4 @@ pub index-requires : goal.index-requires
 index-requires g c = omega (arith, c.requires, room c.self.invariant c.self.view_is)
 
 pub returns : goal.returns
-returns g c s there = c.get.ensures ∙ ap (λ (p : Place). p.next) (place_read _ c.args.head c.index.result.now (omega (arith, c.requires, room c.self.invariant c.self.view_is)) c.index.ensures) ∙ sym (next_in-at _ _ _ c.self.invariant.sound c.args.head) ∙ after_is c.self.invariant c.self.view_is c.args.head s there
+returns g c s there = c.get.ensures ∙ ap (λ (p : Place). p.next) (place_read _ c.args.head c.index.result.now (omega (arith, c.requires, room c.self.invariant c.self.view_is)) c.index.ensures) ∙ sym (next_in-at c.self.invariant.sound c.args.head) ∙ after_is c.self.invariant c.self.view_is c.args.head s there

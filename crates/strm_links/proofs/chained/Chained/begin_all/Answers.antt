@@ -19,7 +19,7 @@ number-head-requires g c = front_there c.self.invariant c.self.view_is (omega (a
 
 -- the head is a node, and the walk takes one step less than the count
 low : (g : Over) (c : After-number-head g) → c.number-head.result < length c.self.inside.table.nodes.items
-low g c = low_room c.self.invariant c.self.view_is _ (front_low _ _ _ _ c.self.invariant.chained _ c.number-head.ensures)
+low g c = low_room c.self.invariant c.self.view_is _ (front_low _ _ _ _ c.self.invariant.chained c.number-head.ensures)
 
 is_suc : (g : Over) (c : After-number-head g) → c.args.count ≡ suc (c.args.count - 1)
 is_suc g c = omega (arith, c.requires.some)
@@ -33,7 +33,7 @@ node_behind-last-requires g c =
     let last = several_there _ _ _ _ c.self.invariant.chained c.number-head.result c.args.count (c.args.count - 1) c.number-head.ensures (is_suc g at) (enough g at) in
     record {
       from = omega (arith, c.deref.ensures.len, low g at);
-      within = λ k j is. omega (arith, c.deref.ensures.len, low_room c.self.invariant c.self.view_is j (next_within _ _ _ _ c.self.invariant.chained k j (ap (λ ns. after_at (links_of ns) k) (sym c.deref.ensures.value) ∙ is)));
+      within = λ k j is. omega (arith, c.deref.ensures.len, low_room c.self.invariant c.self.view_is j (next_within c.self.invariant.chained k (ap (λ ns. after_at (links_of ns) k) (sym c.deref.ensures.value) ∙ is)));
       there = subst IsSome (sym (ap (λ ns. onward (after_at (links_of ns)) (c.args.count - 1) (Some c.number-head.result)) c.deref.ensures.value ∙ last)) refl;
     }
 
@@ -45,11 +45,11 @@ chain_up-requires-clause-head g c = omega (arith, low g (goal.at.chain_up-requir
 
 moved : (g : Over) (c : After-chain_up g) (at : After-number-head g) → c.number-head.result < length c.self.inside.table.nodes.items → c.args.count ≡ suc (c.args.count - 1)
     → c.args.count - 1 < length (chains_in c.self.inside.table c.self.inside.first_free c.self.inside.free_len).free
-    → (m : ℕ) → m ≡ min c.self.inside.least (c.self.inside.free_len - c.args.count)
+    → {m : ℕ} → m ≡ min c.self.inside.least (c.self.inside.free_len - c.args.count)
     → (IsWhole (record c.self.inside.table { nodes = c.chain_up.new.nodes }) c.index.result.now.link.next (c.self.inside.free_len - c.args.count) m)
     × (lists_in (record c.self.inside.table { nodes = c.chain_up.new.nodes }) c.index.result.now.link.next (c.self.inside.free_len - c.args.count) m
     ≡ with_begun c.args.self.now.lists c.number-head.result c.args.count)
-moved g c at low is enough m fewest =
+moved g c at low is enough {m} fewest =
     let chained = c.self.invariant.chained in
     let h = c.number-head.result in
     let t = c.node_behind-last.result in
@@ -57,13 +57,13 @@ moved g c at low is enough m fewest =
     let v = chains_in c.self.inside.table c.self.inside.first_free c.self.inside.free_len in
     let links = links_of c.self.inside.table.nodes.items in
     let walked : onward (after_at links) (n - 1) (Some h) ≡ Some t = ap (λ ns. onward (after_at (links_of ns)) (n - 1) (Some h)) (sym c.deref.ensures.value) ∙ c.node_behind-last.ensures.value in
-    let last = low_room c.self.invariant c.self.view_is t (several_low _ _ _ _ chained h n (n - 1) c.number-head.ensures is enough t walked).1 in
-    let laid = IsChained-begun_several _ _ _ _ chained h n (n - 1) c.number-head.ensures is enough t walked (links_of c.chain_up.new.nodes.items) (links_long _ _ (omega (arith, c.chain_up.ensures.len)))
+    let last = low_room c.self.invariant c.self.view_is t (several_low _ _ _ _ chained h n (n - 1) c.number-head.ensures is enough walked).1 in
+    let laid = IsChained-begun_several _ _ _ _ chained h n (n - 1) c.number-head.ensures is enough walked (links_of c.chain_up.new.nodes.items) (links_long _ _ (omega (arith, c.chain_up.ensures.len)))
     c.chain_up.ensures.nexts c.chain_up.ensures.spans in
-    let both = IsWhole-one c.self.invariant c.self.view_is c.chain_up.new.nodes c.chain_up.ensures.rest h (Some (take n v.free)) (drop n v.free) c.index.result.now.link.next (c.self.inside.free_len - n) m
-    (none_off c.self.invariant c.self.view_is h (front_none _ _ _ _ chained h c.number-head.ensures))
+    let both = IsWhole-one c.self.invariant c.self.view_is c.chain_up.new.nodes c.chain_up.ensures.rest h (Some (take n v.free)) (drop n v.free) m
+    (none_off c.self.invariant c.self.view_is h (front_none _ _ _ _ chained c.number-head.ensures))
     (subst (λ o. IsChained (links_of c.chain_up.new.nodes.items) o (c.self.inside.free_len - n) (record { free = drop n v.free; chains = set v.chains h (Some (take n v.free)) }))
-    (sym (ap (λ (l : Link). l.next) (link_read _ t c.index.result.now last c.index.ensures))) laid) (omega (arith, fewest, min-le_right c.self.inside.least (c.self.inside.free_len - n))) in
+    (sym (ap (λ (l : Link). l.next) (link_read _ t last c.index.ensures))) laid) (omega (arith, fewest, min-le_right c.self.inside.least (c.self.inside.free_len - n))) in
     let left : c.self.inside.free_len - n ≡ length (drop n v.free) = omega (arith, length-drop n v.free, chained.free_count) in (
       both.0,
       both.1
@@ -72,12 +72,12 @@ moved g c at low is enough m fewest =
     )
 
 pub invariant_of-self : goal.invariant_of-self
-invariant_of-self g c = let at = goal.at.invariant_of-self g c in (moved g at.After-chain_up at.After-number-head (low g at.After-number-head) (is_suc g at.After-number-head) (enough g at.After-number-head) _ c.min-self-inside.ensures).0
+invariant_of-self g c = let at = goal.at.invariant_of-self g c in (moved g at.After-chain_up at.After-number-head (low g at.After-number-head) (is_suc g at.After-number-head) (enough g at.After-number-head) c.min-self-inside.ensures).0
 
 pub returns : goal.returns
 returns g c =
     let at = goal.at.returns g c in
-    let both = moved g at.After-chain_up at.After-number-head (low g at.After-number-head) (is_suc g at.After-number-head) (enough g at.After-number-head) _ c.min-self-inside.ensures in
+    let both = moved g at.After-chain_up at.After-number-head (low g at.After-number-head) (is_suc g at.After-number-head) (enough g at.After-number-head) c.min-self-inside.ensures in
     record {
       answer = ap first (sym (free_is c.self.invariant c.self.view_is)) ∙ sym c.self.invariant.chained.free_front ∙ c.number-head.ensures;
       after = both.1;

@@ -16,7 +16,7 @@ index-requires g c = omega (arith, held_low c.self.invariant c.self.view_is c.ar
 
 -- what the code reads at the head
 read : (g : Over) (c : After-get g) → c.index.result.now.link ≡ linked_at (links_of c.self.inside.table.nodes.items) c.args.head
-read g c = held_read c.self.invariant c.self.view_is c.args.head c.requires c.index.result.now c.index.ensures
+read g c = held_read c.self.invariant c.self.view_is c.args.head c.requires c.index.ensures
 
 next : (g : Over) (c : After-get g) → c.get.result ≡ after_at (links_of c.self.inside.table.nodes.items) c.args.head
 next g c = c.get.ensures ∙ ap (λ (l : Link). l.next) (read g c)
@@ -24,7 +24,7 @@ next g c = c.get.ensures ∙ ap (λ (l : Link). l.next) (read g c)
 pub returns-in_err-rest : goal.returns-in_err-rest
 returns-in_err-rest g c =
     let same = nodes_are c.self.invariant c.self.view_is c.args.head c.requires
-    ∙ alone _ _ _ _ c.self.invariant.chained c.args.head (there c.self.invariant c.self.view_is c.args.head c.requires) (sym (next g (goal.at.returns-in_err-rest g c).After-get) ∙ c.in_err-rest.was) in
+    ∙ alone c.self.invariant.chained c.args.head (there c.self.invariant c.self.view_is c.args.head c.requires) (sym (next g (goal.at.returns-in_err-rest g c).After-get) ∙ c.in_err-rest.was) in
     record {
       answer = c.from_residual.ensures ∙ sym (ap (λ xs. slice_get xs 1) same);
       after = λ i. record c.args.self.now.lists { held = chain_divided (λ n. n) c.args.head (sym same i) c.args.self.now.lists.held };
@@ -38,7 +38,7 @@ overflow_sub-span g c =
     omega (
       arith,
       ap (λ (l : Link). l.span.len) (read g at),
-      divided_len _ _ _ _ c.self.invariant.chained c.args.head (there c.self.invariant c.self.view_is c.args.head c.requires) c.in_ok-rest.rest (sym (next g at) ∙ c.in_ok-rest.was),
+      divided_len c.self.invariant.chained c.args.head (there c.self.invariant c.self.view_is c.args.head c.requires) (sym (next g at) ∙ c.in_ok-rest.was),
     )
 
 pub chain_up-requires : goal.chain_up-requires
@@ -50,7 +50,7 @@ keep-requires g c =
       arith,
       c.chain_up.ensures.len,
       low_room c.self.invariant c.self.view_is _
-          (divided_low _ _ _ _ c.self.invariant.chained c.args.head (there c.self.invariant c.self.view_is c.args.head c.requires) c.in_ok-rest.rest (sym (next g (goal.at.keep-requires g c).After-get) ∙ c.in_ok-rest.was)),
+          (divided_low c.self.invariant.chained c.args.head (there c.self.invariant c.self.view_is c.args.head c.requires) (sym (next g (goal.at.keep-requires g c).After-get) ∙ c.in_ok-rest.was)),
     )
 
 moved : (g : Over) (c : After-keep g) → c.get.result ≡ after_at (links_of c.self.inside.table.nodes.items) c.args.head → c.index.result.now.link ≡ linked_at (links_of c.self.inside.table.nodes.items) c.args.head
@@ -63,12 +63,12 @@ moved g c next is =
     let r = c.in_ok-rest.rest in
     let some = there c.self.invariant c.self.view_is h c.requires in
     let on = sym next ∙ c.in_ok-rest.was in
-    let rest = two _ _ _ _ chained h some r on in
-    let laid = IsChained-divided _ _ _ _ chained h some r on (links_of c.keep.new.nodes.items) (links_long _ _ (omega (arith, c.keep.ensures.len, c.chain_up.ensures.len)))
+    let rest = two chained h some on in
+    let laid = IsChained-divided chained h some on (links_of c.keep.new.nodes.items) (links_long _ _ (omega (arith, c.keep.ensures.len, c.chain_up.ensures.len)))
     (λ k. c.keep.ensures.nexts k ∙ c.chain_up.ensures.nexts k)
     (λ k. c.keep.ensures.spans k ∙ (λ i. if r == k then record { last = (is i).span.last; len = (is i).span.len - 1 } else c.chain_up.ensures.spans k i)) in
     let both = IsWhole-two c.self.invariant c.self.view_is c.keep.new.nodes (c.keep.ensures.rest ∙ c.chain_up.ensures.rest) h r (Some (h ∷ [])) (Some (r ∷ rest.0)) (chains_in c.self.inside.table c.self.inside.first_free c.self.inside.free_len).free _ _ _ (off c.self.invariant c.self.view_is h c.requires)
-    (none_off c.self.invariant c.self.view_is r (divided_none _ _ _ _ chained h some r on)) laid c.self.invariant.fewest in
+    (none_off c.self.invariant c.self.view_is r (divided_none chained h some on)) laid c.self.invariant.fewest in
     (both.0, both.1 ∙ (λ i. record now { free = free_is c.self.invariant c.self.view_is i; held = chain_divided (λ n. n) h (sym (nodes_are c.self.invariant c.self.view_is h c.requires ∙ rest.1) i) now.held; least = least_is c.self.invariant c.self.view_is i }))
 
 pub invariant_of-self : goal.invariant_of-self
@@ -80,7 +80,7 @@ returns g c =
     let both = moved g at.After-keep (next g at.After-get) (read g at.After-get) in
     record {
       answer = sym (ap (λ xs. slice_get xs 1) (nodes_are c.self.invariant c.self.view_is c.args.head c.requires)
-          ∙ divided_second _ _ _ _ c.self.invariant.chained c.args.head (there c.self.invariant c.self.view_is c.args.head c.requires) c.in_ok-rest.rest (sym (next g at.After-get) ∙ c.in_ok-rest.was));
+          ∙ divided_second c.self.invariant.chained c.args.head (there c.self.invariant c.self.view_is c.args.head c.requires) (sym (next g at.After-get) ∙ c.in_ok-rest.was));
       after = both.1;
       loads = loads_kept c.self.invariant c.self.view_is c.keep.new.nodes (c.keep.ensures.rest ∙ c.chain_up.ensures.rest);
       parted = IsLawful-whole both.0;

@@ -14,17 +14,17 @@ use Rattle.strm_links.proofs.chained.Chained.free.Goals.{After-self, After-keep}
 
 -- the number of nodes is the one that the head stores
 counted : (g : Over) (c : After-self g) → c.args.len ≡ (span_at (links_of c.self.inside.table.nodes.items) c.args.head).len
-counted g c = c.requires.len ∙ ap length (nodes_are c.self.invariant c.self.view_is c.args.head c.requires.head) ∙ sym (chain_laid _ _ _ _ c.self.invariant.chained c.args.head (there c.self.invariant c.self.view_is c.args.head c.requires.head)).len
+counted g c = c.requires.len ∙ ap length (nodes_are c.self.invariant c.self.view_is c.args.head c.requires.head) ∙ sym (chain_laid c.self.invariant.chained c.args.head (there c.self.invariant c.self.view_is c.args.head c.requires.head)).len
 
 -- the nodes whose links the call reverses are the chain
 reversed : (g : Over) (c : After-self g) → path (links_of c.self.inside.table.nodes.items) c.args.len (Some c.args.head) ≡ chain_at (chains_in c.self.inside.table c.self.inside.first_free c.self.inside.free_len) c.args.head
-reversed g c = ap (λ n. path (links_of c.self.inside.table.nodes.items) n (Some c.args.head)) (counted g c) ∙ chain_path _ _ _ _ c.self.invariant.chained c.args.head (there c.self.invariant c.self.view_is c.args.head c.requires.head)
+reversed g c = ap (λ n. path (links_of c.self.inside.table.nodes.items) n (Some c.args.head)) (counted g c) ∙ chain_path c.self.invariant.chained c.args.head (there c.self.invariant c.self.view_is c.args.head c.requires.head)
 
 pub reverse_links-reversed-requires : goal.reverse_links-reversed-requires
 reverse_links-reversed-requires g c =
     let at = (goal.at.reverse_links-reversed-requires g c).After-self in
     let chained = c.self.invariant.chained in
-    let chain = chain_laid _ _ _ _ chained c.args.head (there c.self.invariant c.self.view_is c.args.head c.requires.head) in
+    let chain = chain_laid chained c.args.head (there c.self.invariant c.self.view_is c.args.head c.requires.head) in
     let is = reversed g at in
     record {
       few = omega (arith, room c.self.invariant c.self.view_is, count_is c.self.invariant c.self.view_is, chained.few_nodes);
@@ -39,7 +39,7 @@ keep-requires g c = omega (arith, c.reverse_links-reversed.ensures.len, held_low
 
 pub overflow_add-self : goal.overflow_add-self
 overflow_add-self g c =
-    omega (arith, c.self.invariant.chained.few_nodes, freed_room _ _ _ _ c.self.invariant.chained c.args.head (there c.self.invariant c.self.view_is c.args.head c.requires.head), counted g (goal.at.overflow_add-self g c).After-self)
+    omega (arith, c.self.invariant.chained.few_nodes, freed_room c.self.invariant.chained c.args.head (there c.self.invariant c.self.view_is c.args.head c.requires.head), counted g (goal.at.overflow_add-self g c).After-self)
 
 moved : (g : Over) (c : After-keep g) → c.args.len ≡ (span_at (links_of c.self.inside.table.nodes.items) c.args.head).len → path (links_of c.self.inside.table.nodes.items) c.args.len (Some c.args.head) ≡ chain_at (chains_in c.self.inside.table c.self.inside.first_free c.self.inside.free_len) c.args.head
     → (IsWhole (record c.self.inside.table { nodes = c.keep.new.nodes }) c.reverse_links-reversed.result.last (c.self.inside.free_len + c.args.len) c.self.inside.least)
@@ -52,11 +52,11 @@ moved g c counted reversed =
     let new = links_of c.keep.new.nodes.items in
     let leads : LeadsOn (after_at new) (reverse (chain_at v h)) c.self.inside.first_free =
     subst (λ (xs : List ℕ). LeadsOn (after_at new) (reverse xs) c.self.inside.first_free) reversed (LeadsOn-kept _ (after_at new) _ _ (λ k _. c.keep.ensures.nexts k) c.reverse_links-reversed.ensures.reversed) in
-    let laid = IsChained-freed _ _ _ _ c.self.invariant.chained h (there c.self.invariant c.self.view_is h c.requires.head) new (links_long _ _ (omega (arith, c.keep.ensures.len, c.reverse_links-reversed.ensures.len))) leads
+    let laid = IsChained-freed c.self.invariant.chained h (there c.self.invariant c.self.view_is h c.requires.head) new (links_long _ _ (omega (arith, c.keep.ensures.len, c.reverse_links-reversed.ensures.len))) leads
     (λ k absent. c.keep.ensures.nexts k ∙ c.reverse_links-reversed.ensures.others k (ap (has k) reversed ∙ absent))
     (λ k. c.keep.ensures.spans k ∙ (λ i. if h == k then c.none.ensures i else c.reverse_links-reversed.ensures.spans k i))
     c.reverse_links-reversed.result.last (c.self.inside.free_len + c.args.len) (c.reverse_links-reversed.ensures.last ∙ ap (λ (xs : List ℕ). first_or c.self.inside.first_free (reverse xs)) reversed) (omega (arith, counted)) in
-    let both = IsWhole-one c.self.invariant c.self.view_is c.keep.new.nodes (c.keep.ensures.rest ∙ c.reverse_links-reversed.ensures.rest) h None (reverse (chain_at v h) ++ v.free) _ _ _ (off c.self.invariant c.self.view_is h c.requires.head) laid (omega (arith, c.self.invariant.fewest)) in
+    let both = IsWhole-one c.self.invariant c.self.view_is c.keep.new.nodes (c.keep.ensures.rest ∙ c.reverse_links-reversed.ensures.rest) h None (reverse (chain_at v h) ++ v.free) _ (off c.self.invariant c.self.view_is h c.requires.head) laid (omega (arith, c.self.invariant.fewest)) in
     (both.0, both.1 ∙ (λ i. record now { free = reverse (sym (nodes_are c.self.invariant c.self.view_is h c.requires.head) i) ++ free_is c.self.invariant c.self.view_is i; held = set now.held h None; least = least_is c.self.invariant c.self.view_is i }))
 
 pub invariant_of-self : goal.invariant_of-self

@@ -34,7 +34,7 @@ returns-then-count-eq0 g c = record {
 module _ (g : Over) (c : After-index g) (some : IsSome (chain_in c.args.self.now.lists.held c.args.head)) where
   -- what the code reads at the head
   read : c.index.result.now.link ≡ linked_at (links_of c.self.inside.table.nodes.items) c.args.head
-  read = held_read c.self.invariant c.self.view_is c.args.head some c.index.result.now c.index.ensures
+  read = held_read c.self.invariant c.self.view_is c.args.head some c.index.ensures
 
   -- the chain is longer than the count
   longer : c.args.count < length (chain_at (chains_in c.self.inside.table c.self.inside.first_free c.self.inside.free_len) c.args.head)
@@ -58,7 +58,7 @@ module _ (g : Over) (c : After-number g) (some : IsSome (chain_in c.args.self.no
   on = sym (ap (λ (l : Link). l.next) read) ∙ c.number.ensures
 
   reversed : path (links_of c.self.inside.table.nodes.items) c.args.count (Some c.number.result) ≡ take c.args.count (drop 1 (chain_at (chains_in c.self.inside.table c.self.inside.first_free c.self.inside.free_len) c.args.head))
-  reversed = behind_path _ _ _ _ c.self.invariant.chained c.args.head (there c.self.invariant c.self.view_is c.args.head some) c.args.count any longer c.number.result on
+  reversed = behind_path _ _ _ _ c.self.invariant.chained c.args.head (there c.self.invariant c.self.view_is c.args.head some) c.args.count any longer on
 
 pub reverse_links-freed-requires : goal.reverse_links-freed-requires
 reverse_links-freed-requires g c =
@@ -72,7 +72,7 @@ reverse_links-freed-requires g c =
     let is = reversed g at.After-number some read longer in
     record {
       few = omega (arith, room c.self.invariant c.self.view_is, count_is c.self.invariant c.self.view_is, chained.few_nodes);
-      begins = ap first is ∙ behind_first _ _ _ _ chained c.args.head h c.args.count any longer c.number.result (on g at.After-number some read longer);
+      begins = ap first is ∙ behind_first _ _ _ _ chained c.args.head h c.args.count any longer (on g at.After-number some read longer);
       len = ap length is ∙ behind_count _ _ _ _ chained c.args.head h c.args.count any longer;
       apart = subst IsApart (sym is) (behind_apart _ _ _ _ chained c.args.head h c.args.count any longer);
       within = λ k inside. omega (arith, low_room c.self.invariant c.self.view_is k (behind_low _ _ _ _ chained c.args.head h c.args.count any longer k (sym (ap (has k) is) ∙ inside)));
@@ -122,7 +122,7 @@ moved g c some read longer any on reversed =
     let out = take n (drop 1 (chain_at v h)) in
     let rest = take 1 (chain_at v h) ++ drop (n + 1) (chain_at v h) in
     let outside : has h out ≡ false = behind_off _ _ _ _ chained h chain n any longer in
-    let beyond : c.reverse_links-freed.result.next ≡ first (drop (n + 1) (chain_at v h)) = c.reverse_links-freed.ensures.next ∙ behind_onward _ _ _ _ chained h chain n any longer c.number.result on in
+    let beyond : c.reverse_links-freed.result.next ≡ first (drop (n + 1) (chain_at v h)) = c.reverse_links-freed.ensures.next ∙ behind_onward _ _ _ _ chained h chain n any longer on in
     let last : c.reverse_links-freed.result.last ≡ first_or c.self.inside.first_free (reverse out) = c.reverse_links-freed.ensures.last ∙ ap (λ (xs : List ℕ). first_or c.self.inside.first_free (reverse xs)) reversed in
     let others : (k : ℕ) → k ≢ h → after_at new k ≡ after_at (links_of c.reverse_links-freed.new.nodes.items) k = λ k other. c.keep.ensures.nexts k ∙ c.lead.ensures.nexts k ∙ write_elsewhere h k _ _ other in
     let leads : LeadsOn (after_at new) (reverse out) c.self.inside.first_free =
@@ -134,8 +134,7 @@ moved g c some read longer any on reversed =
     (λ k. c.keep.ensures.spans k
     ∙ (λ i. if h == k then c.without.ensures i else c.lead.ensures.spans k i)
     ∙ (λ i. if h == k then record { last = (if is_none (beyond i) then h else (read i).span.last); len = (read i).span.len - n } else c.reverse_links-freed.ensures.spans k i)) in
-    let both = IsWhole-one c.self.invariant c.self.view_is c.keep.new.nodes (c.keep.ensures.rest ∙ c.lead.ensures.rest ∙ c.reverse_links-freed.ensures.rest) h (Some rest) (reverse out ++ v.free)
-    c.reverse_links-freed.result.last (c.self.inside.free_len + n) c.self.inside.least (off c.self.invariant c.self.view_is h some)
+    let both = IsWhole-one c.self.invariant c.self.view_is c.keep.new.nodes (c.keep.ensures.rest ∙ c.lead.ensures.rest ∙ c.reverse_links-freed.ensures.rest) h (Some rest) (reverse out ++ v.free) c.self.inside.least (off c.self.invariant c.self.view_is h some)
     (subst (λ o. IsChained new o (c.self.inside.free_len + n) (record { free = reverse out ++ v.free; chains = set v.chains h (Some rest) })) (sym last) laid) (omega (arith, c.self.invariant.fewest)) in
     (both.0, both.1 ∙ (λ i. record now { free = reverse out ++ free_is c.self.invariant c.self.view_is i; held = set now.held h (Some rest); least = least_is c.self.invariant c.self.view_is i }) ∙ ap (λ xs. with_behind_freed h n xs now) (sym (nodes_are c.self.invariant c.self.view_is h some)))
 

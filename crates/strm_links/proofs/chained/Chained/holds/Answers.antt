@@ -19,12 +19,12 @@ pub returns-then-node-len : goal.returns-then-node-len
 returns-then-node-len g c =
     let low = room c.self.invariant c.self.view_is in
     let node = c.index-node.result.now in
-    let span = ap (λ (l : Link). l.span.len) (link_read _ c.args.head node (omega (arith, c.requires.head, low)) c.index-node.ensures) in
-    let list = holder-owner _ _ _ c.self.invariant.sound c.args.head ∙ sym (ap (λ (p : Place). p.list) (place_read _ c.args.head node (omega (arith, c.requires.head, low)) c.index-node.ensures)) in
+    let span = ap (λ (l : Link). l.span.len) (link_read _ c.args.head (omega (arith, c.requires.head, low)) c.index-node.ensures) in
+    let list = holder-owner c.self.invariant.sound c.args.head ∙ sym (ap (λ (p : Place). p.list) (place_read _ c.args.head node (omega (arith, c.requires.head, low)) c.index-node.ensures)) in
     sym (not-not c.is_none.result) ∙ ap not (sym c.is_none.ensures ∙ ap is_some (c.get.ensures ∙ sym list))
     ∙ ap (λ b. b && not (is_some (holder c.args.head (rows_in c.self.inside.table)))) (sym (eq-eqb _ _ (sym span ∙ c.if-node-len.true))) ∙ sym (holds_at c.self.invariant c.self.view_is c.args.head c.args.len c.requires.some)
 
 pub returns-else-node-len : goal.returns-else-node-len
 returns-else-node-len g c =
-    let span = ap (λ (l : Link). l.span.len) (link_read _ c.args.head c.index-node.result.now (omega (arith, c.requires.head, room c.self.invariant c.self.view_is)) c.index-node.ensures) in
+    let span = ap (λ (l : Link). l.span.len) (link_read _ c.args.head (omega (arith, c.requires.head, room c.self.invariant c.self.view_is)) c.index-node.ensures) in
     ne_eqb _ _ c.if-node-len.false ∙ ap (λ b. b && not (is_some (holder c.args.head (rows_in c.self.inside.table)))) (sym (ne_eqb _ _ (λ same. c.if-node-len.false (span ∙ same)))) ∙ sym (holds_at c.self.invariant c.self.view_is c.args.head c.args.len c.requires.some)

@@ -19,17 +19,17 @@ index-requires-2 g c = omega (arith, held_low c.self.invariant c.self.view_is c.
 
 -- what the code reads at the two heads
 at_head : (g : Over) (c : After-index g) → c.index.result.now.link.span ≡ span_at (links_of c.self.inside.table.nodes.items) c.args.head
-at_head g c = ap (λ (l : Link). l.span) (held_read c.self.invariant c.self.view_is c.args.head c.requires.head c.index.result.now c.index.ensures)
+at_head g c = ap (λ (l : Link). l.span) (held_read c.self.invariant c.self.view_is c.args.head c.requires.head c.index.ensures)
 
 at_tail : (g : Over) (c : After-index-2 g) → c.index-2.result.now.link.span ≡ span_at (links_of c.self.inside.table.nodes.items) c.args.tail
-at_tail g c = ap (λ (l : Link). l.span) (held_read c.self.invariant c.self.view_is c.args.tail c.requires.tail c.index-2.result.now c.index-2.ensures)
+at_tail g c = ap (λ (l : Link). l.span) (held_read c.self.invariant c.self.view_is c.args.tail c.requires.tail c.index-2.ensures)
 
 pub lead-requires : goal.lead-requires
 lead-requires g c =
     omega (
       arith,
       ap (λ (s : Span). s.last) (at_head g (goal.at.lead-requires g c).After-index),
-      low_room c.self.invariant c.self.view_is _ (last_low _ _ _ _ c.self.invariant.chained c.args.head (there c.self.invariant c.self.view_is c.args.head c.requires.head)),
+      low_room c.self.invariant c.self.view_is _ (last_low c.self.invariant.chained c.args.head (there c.self.invariant c.self.view_is c.args.head c.requires.head)),
     )
 
 pub some-requires : goal.some-requires
@@ -49,7 +49,7 @@ overflow_add-span g c =
       c.self.invariant.chained.few_nodes,
       ap (λ (s : Span). s.len) (at_head g at.After-index),
       ap (λ (s : Span). s.len) (at_tail g at.After-index-2),
-      joined_few _ _ _ _ c.self.invariant.chained c.args.head c.args.tail (there c.self.invariant c.self.view_is c.args.head c.requires.head) (there c.self.invariant c.self.view_is c.args.tail c.requires.tail) c.requires.other,
+      joined_few c.self.invariant.chained c.args.head c.args.tail (there c.self.invariant c.self.view_is c.args.head c.requires.head) (there c.self.invariant c.self.view_is c.args.tail c.requires.tail) c.requires.other,
     )
 
 moved : (g : Over) (c : After-keep-2 g) → c.index.result.now.link.span ≡ span_at (links_of c.self.inside.table.nodes.items) c.args.head → c.index-2.result.now.link.span ≡ span_at (links_of c.self.inside.table.nodes.items) c.args.tail
@@ -61,7 +61,7 @@ moved g c first second =
     let now = c.args.self.now.lists in
     let h = c.args.head in
     let t = c.args.tail in
-    let laid = IsChained-joined _ _ _ _ c.self.invariant.chained h t (there c.self.invariant c.self.view_is h c.requires.head) (there c.self.invariant c.self.view_is t c.requires.tail) c.requires.other
+    let laid = IsChained-joined c.self.invariant.chained h t (there c.self.invariant c.self.view_is h c.requires.head) (there c.self.invariant c.self.view_is t c.requires.tail) c.requires.other
     (links_of c.keep-2.new.nodes.items) (links_long _ _ (omega (arith, c.keep-2.ensures.len, c.keep.ensures.len, c.lead.ensures.len)))
     (λ k. c.keep-2.ensures.nexts k ∙ c.keep.ensures.nexts k ∙ c.lead.ensures.nexts k ∙ (λ i. if (first i).last == k then c.some.ensures i else after_at links k))
     (λ k. c.keep-2.ensures.spans k ∙ ap (λ s. if h == k then record { last = c.index-2.result.now.link.span.last; len = c.index.result.now.link.span.len + c.index-2.result.now.link.span.len } else s) (c.keep.ensures.spans k)

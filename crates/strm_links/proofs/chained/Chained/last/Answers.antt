@@ -10,4 +10,4 @@ pub returns : goal.returns
 returns g c =
     let laid = c.self.invariant.sound in
     let within : c.args.shelf < length (rows_in c.self.inside.table).lists = omega (arith, c.requires, shelf_room c.self.invariant c.self.view_is) in
-    c.get.ensures ∙ back_is _ _ _ laid c.args.shelf within _ (ends_read _ _ _ laid c.args.shelf _ within c.index.ensures) ∙ ap last (sym (heads_at c.self.invariant c.self.view_is c.args.shelf))
+    c.get.ensures ∙ back_is _ _ _ laid c.args.shelf within _ (ends_read laid c.args.shelf within c.index.ensures) ∙ ap last (sym (heads_at c.self.invariant c.self.view_is c.args.shelf))

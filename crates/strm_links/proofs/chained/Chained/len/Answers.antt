@@ -16,6 +16,6 @@ stored next span h (Some xs) is = is.len
 
 pub returns : goal.returns
 returns g c =
-    ap (λ (l : Link). l.span.len) (link_read _ c.args.head c.index.result.now (omega (arith, c.requires, room c.self.invariant c.self.view_is)) c.index.ensures)
+    ap (λ (l : Link). l.span.len) (link_read _ c.args.head (omega (arith, c.requires, room c.self.invariant c.self.view_is)) c.index.ensures)
     ∙ stored _ _ c.args.head _ (c.self.invariant.chained.heads c.args.head)
     ∙ ap length (sym (chain_of_is c.self.invariant c.self.view_is c.args.head))

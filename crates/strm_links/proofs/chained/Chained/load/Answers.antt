@@ -6,4 +6,4 @@ pub index-requires : goal.index-requires
 index-requires g c = omega (arith, c.requires, load_room c.self.invariant c.self.view_is)
 
 pub returns : goal.returns
-returns g c = load_at c.self.invariant c.self.view_is c.args.node c.index.result.now (omega (arith, c.requires, load_room c.self.invariant c.self.view_is)) c.index.ensures
+returns g c = load_at c.self.invariant c.self.view_is c.args.node (omega (arith, c.requires, load_room c.self.invariant c.self.view_is)) c.index.ensures

@@ -55,10 +55,10 @@ module _ (g : Over) (c : After-first_of g) (carried : carried_by c.in_ok-table.t
       let known = c.in_ok-table.ensures in
       let left = c.loop-number.invariant in (
         subst (λ o. IsWhole new o c.args.nodes c.args.nodes) (sym c.first_of.ensures)
-            (IsWhole-opened c.args.nodes c.args.shelves c.args.load old new known.sound known.rows carried left.rest left.ends c.ranges.nodes.fits left.len leads left.spans),
+            (IsWhole-opened c.args.shelves c.args.load old new known.sound known.rows carried left.rest left.ends c.ranges.nodes.fits left.len leads left.spans),
         (λ i. lists_in new (c.first_of.ensures i) c.args.nodes c.args.nodes)
-            ∙ opened_is c.args.nodes c.args.shelves c.args.load old new known.sound known.rows carried left.rest left.ends c.ranges.nodes.fits left.len leads left.spans,
-        loads_now c.args.nodes c.args.shelves c.args.load old new known.sound known.rows carried left.rest left.ends c.ranges.nodes.fits left.len leads left.spans,
+            ∙ opened_is c.args.shelves c.args.load old new known.sound known.rows carried left.rest left.ends c.ranges.nodes.fits left.len leads left.spans,
+        loads_now c.args.shelves c.args.load old new known.sound known.rows carried left.rest left.ends c.ranges.nodes.fits left.len leads left.spans,
       )
 
 pub invariant_of-result : goal.invariant_of-result

@@ -9,4 +9,4 @@ pub index-requires : goal.index-requires
 index-requires g c = omega (arith, c.requires, room c.self.invariant c.self.view_is)
 
 pub returns : goal.returns
-returns g c = c.get.ensures ∙ ap (λ (p : Place). p.list) (place_read _ c.args.head c.index.result.now (omega (arith, c.requires, room c.self.invariant c.self.view_is)) c.index.ensures) ∙ sym (holder-owner _ _ _ c.self.invariant.sound c.args.head) ∙ sym (shelf_with_is c.self.invariant c.self.view_is c.args.head)
+returns g c = c.get.ensures ∙ ap (λ (p : Place). p.list) (place_read _ c.args.head c.index.result.now (omega (arith, c.requires, room c.self.invariant c.self.view_is)) c.index.ensures) ∙ sym (holder-owner c.self.invariant.sound c.args.head) ∙ sym (shelf_with_is c.self.invariant c.self.view_is c.args.head)

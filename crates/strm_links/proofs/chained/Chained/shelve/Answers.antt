@@ -15,7 +15,7 @@ use Rattle.strm_links.proofs.chained.Chained.shelve.Goals.{After-link_at}
 
 pub of-requires : goal.of-requires
 of-requires g c at is =
-    omega (arith, c.self.invariant.sound.few_nodes, holder_within _ _ _ c.self.invariant.sound at c.args.shelf (shelved_at c.self.invariant c.self.view_is at c.args.shelf (c.requires.before at is)))
+    omega (arith, c.self.invariant.sound.few_nodes, holder_within c.self.invariant.sound at (shelved_at c.self.invariant c.self.view_is at c.args.shelf (c.requires.before at is)))
 
 pub link_at-requires : goal.link_at-requires
 link_at-requires g c = record {
@@ -44,7 +44,6 @@ moved g c =
       IsWhole-reheaded c.self.invariant c.self.view_is c.link_at.new.self c.link_at.ensures.carried c.link_at.ensures.sound h s ys c.link_at.ensures.lists c.link_at.ensures.others begun,
       reheaded_is c.self.invariant c.self.view_is c.link_at.new.self c.link_at.ensures.carried c.link_at.ensures.sound h s ys c.link_at.ensures.lists c.link_at.ensures.others begun None
           (λ none. absurd (none-some s (sym none ∙ c.link_at.ensures.held))) (λ some. refl)
-          (put_before_head head_node c.args.before (nodes_at now h) (shelf_in now.shelves s))
           (placed_in (chains_in c.self.inside.table c.self.inside.first_free c.self.inside.free_len) c.of.result h row (λ k found. head_listed c.self.invariant k s found) (λ k is. (holder_has k s rows (on k is)).1)
           ∙ (λ i. put_before_head head_node (c.of.ensures i) (sym (nodes_are c.self.invariant c.self.view_is h c.requires.held) i) (sym (shelf_is c.self.invariant c.self.view_is s) i))),
     )

@@ -19,7 +19,7 @@ index-requires g c = omega (arith, held_low c.self.invariant c.self.view_is c.ar
 -- what the code reads at the head; the walk takes one step less than the place, which is there
 module _ (g : Over) (c : After-index g) where
   at_head : c.index.result.now.link.span ≡ span_at (links_of c.self.inside.table.nodes.items) c.args.head
-  at_head = ap (λ (l : Link). l.span) (held_read c.self.invariant c.self.view_is c.args.head c.requires.held c.index.result.now c.index.ensures)
+  at_head = ap (λ (l : Link). l.span) (held_read c.self.invariant c.self.view_is c.args.head c.requires.held c.index.ensures)
 
   is_suc : c.args.place ≡ suc (c.args.place - 1)
   is_suc = omega (arith, c.requires.behind)
@@ -29,16 +29,16 @@ module _ (g : Over) (c : After-index g) where
     arith,
     c.requires.there,
     ap length (nodes_are c.self.invariant c.self.view_is c.args.head c.requires.held),
-    (chain_laid _ _ _ _ c.self.invariant.chained c.args.head (there c.self.invariant c.self.view_is c.args.head c.requires.held)).len,
+    (chain_laid c.self.invariant.chained c.args.head (there c.self.invariant c.self.view_is c.args.head c.requires.held)).len,
   )
 
 pub node_behind-ahead-requires : goal.node_behind-ahead-requires
 node_behind-ahead-requires g c =
     let at = (goal.at.node_behind-ahead-requires g c).After-index in
-    let ahead = place_there _ _ _ _ c.self.invariant.chained c.args.head (there c.self.invariant c.self.view_is c.args.head c.requires.held) c.args.place (c.args.place - 1) (is_suc g at) (fits g at) in
+    let ahead = place_there c.self.invariant.chained c.args.head (there c.self.invariant c.self.view_is c.args.head c.requires.held) c.args.place (c.args.place - 1) (is_suc g at) (fits g at) in
     record {
       from = omega (arith, c.deref.ensures.len, held_low c.self.invariant c.self.view_is c.args.head c.requires.held);
-      within = λ k j is. omega (arith, c.deref.ensures.len, low_room c.self.invariant c.self.view_is j (next_within _ _ _ _ c.self.invariant.chained k j (ap (λ ns. after_at (links_of ns) k) (sym c.deref.ensures.value) ∙ is)));
+      within = λ k j is. omega (arith, c.deref.ensures.len, low_room c.self.invariant c.self.view_is j (next_within c.self.invariant.chained k (ap (λ ns. after_at (links_of ns) k) (sym c.deref.ensures.value) ∙ is)));
       there = subst IsSome (sym (ap (λ ns. onward (after_at (links_of ns)) (c.args.place - 1) (Some c.args.head)) c.deref.ensures.value ∙ ahead)) refl;
     }
 
@@ -51,12 +51,12 @@ module _ (g : Over) (c : After-index-2 g) where
   ahead_low = omega (arith, c.node_behind-ahead.ensures.in_range, c.deref.ensures.len)
 
   link : c.index-2.result.now.link.next ≡ after_at (links_of c.self.inside.table.nodes.items) c.node_behind-ahead.result
-  link = ap (λ (l : Link). l.next) (link_read _ c.node_behind-ahead.result c.index-2.result.now ahead_low c.index-2.ensures)
+  link = ap (λ (l : Link). l.next) (link_read _ c.node_behind-ahead.result ahead_low c.index-2.ensures)
 
 pub number-node-requires : goal.number-node-requires
 number-node-requires g c =
     let at = goal.at.number-node-requires g c in
-    let next = place_next _ _ _ _ c.self.invariant.chained c.args.head (there c.self.invariant c.self.view_is c.args.head c.requires.held) c.args.place (c.args.place - 1) (is_suc g at.After-index) (fits g at.After-index) c.node_behind-ahead.result
+    let next = place_next c.self.invariant.chained c.args.head (there c.self.invariant c.self.view_is c.args.head c.requires.held) c.args.place (c.args.place - 1) (is_suc g at.After-index) (fits g at.After-index)
     (walked g at.After-index-2) in
     subst IsSome (sym (link g at.After-index-2 ∙ next)) refl
 
@@ -67,11 +67,11 @@ module _ (g : Over) (c : After-number-node g) (is : c.args.place ≡ suc (c.args
   on = sym link ∙ c.number-node.ensures
 
   node_is : slice_get (chain_at (chains_in c.self.inside.table c.self.inside.first_free c.self.inside.free_len) c.args.head) c.args.place ≡ Some c.number-node.result
-  node_is = place_is _ _ _ _ c.self.invariant.chained c.args.head (there c.self.invariant c.self.view_is c.args.head c.requires.held) c.args.place (c.args.place - 1) is fits _ c.number-node.result walked on
+  node_is = place_is c.self.invariant.chained c.args.head (there c.self.invariant c.self.view_is c.args.head c.requires.held) c.args.place (c.args.place - 1) is fits walked on
 
   node_low : c.number-node.result < length c.self.inside.table.nodes.items
   node_low = low_room c.self.invariant c.self.view_is _
-      (place_low _ _ _ _ c.self.invariant.chained c.args.head (there c.self.invariant c.self.view_is c.args.head c.requires.held) c.args.place (c.args.place - 1) is fits _ c.number-node.result walked on).1
+      (place_low c.self.invariant.chained c.args.head (there c.self.invariant c.self.view_is c.args.head c.requires.held) c.args.place (c.args.place - 1) is fits walked on).1
 
 pub index-requires-3 : goal.index-requires-3
 index-requires-3 g c =
@@ -105,17 +105,17 @@ moved g c read is fits walked on low =
     let t = c.node_behind-ahead.result in
     let n = c.number-node.result in
     let some = there c.self.invariant c.self.view_is h c.requires.held in
-    let behind : c.index-3.result.now.link.next ≡ after_at links n = ap (λ (l : Link). l.next) (link_read _ n c.index-3.result.now low c.index-3.ensures) in
+    let behind : c.index-3.result.now.link.next ≡ after_at links n = ap (λ (l : Link). l.next) (link_read _ n low c.index-3.ensures) in
     let less : c.without.result ≡ record { last = (if is_none (after_at links n) then t else (span_at links h).last); len = (span_at links h).len - 1 } =
     c.without.ensures ∙ (λ i. record { last = (if is_none (behind i) then t else (read i).last); len = (read i).len - 1 }) in
-    let laid = IsChained-taken_out _ _ _ _ chained h some c.args.place (c.args.place - 1) is fits t n walked on
+    let laid = IsChained-taken_out chained h some c.args.place (c.args.place - 1) is fits walked on
     (links_of c.keep.new.nodes.items) (links_long _ _ (omega (arith, c.keep.ensures.len, c.chain_up.ensures.len, c.lead.ensures.len)))
     (λ k. c.keep.ensures.nexts k ∙ c.chain_up.ensures.nexts k ∙ (λ i. if n == k then None else c.lead.ensures.nexts k i) ∙ (λ i. if n == k then None else (if t == k then behind i else after_at links k)))
     (λ k. c.keep.ensures.spans k
     ∙ (λ i. if h == k then less i else c.chain_up.ensures.spans k i)
     ∙ (λ i. if h == k then record { last = (if is_none (after_at links n) then t else (span_at links h).last); len = (span_at links h).len - 1 } else (if n == k then record { last = n; len = 1 } else c.lead.ensures.spans k i))) in
     let both = IsWhole-two c.self.invariant c.self.view_is c.keep.new.nodes (c.keep.ensures.rest ∙ c.chain_up.ensures.rest ∙ c.lead.ensures.rest) h n (Some (without_place c.args.place (chain_at (chains_in c.self.inside.table c.self.inside.first_free c.self.inside.free_len) h))) (Some (n ∷ [])) (chains_in c.self.inside.table c.self.inside.first_free c.self.inside.free_len).free _ _ _ (off c.self.invariant c.self.view_is h c.requires.held)
-    (none_off c.self.invariant c.self.view_is n (place_none _ _ _ _ chained h some c.args.place (c.args.place - 1) is fits t n walked on)) laid c.self.invariant.fewest in
+    (none_off c.self.invariant c.self.view_is n (place_none chained h some c.args.place (c.args.place - 1) is fits walked on)) laid c.self.invariant.fewest in
     (both.0, both.1 ∙ (λ i. record now { free = free_is c.self.invariant c.self.view_is i; held = set (set now.held h (Some (without_place c.args.place (sym (nodes_are c.self.invariant c.self.view_is h c.requires.held) i)))) n (Some (n ∷ [])); least = least_is c.self.invariant c.self.view_is i }))
 
 pub invariant_of-self : goal.invariant_of-self

@@ -32,7 +32,7 @@ moved g c =
     let row = list_at s rows in
     let on = shelved_at c.self.invariant c.self.view_is h s c.requires.there in
     let begun = c.self.invariant.begun h (ap is_some on) in
-    let lists = c.remove.ensures.lists ∙ (λ i. record rows { lists = map-without rows (apart_all _ _ _ c.self.invariant.sound) h s on i }) in
+    let lists = c.remove.ensures.lists ∙ (λ i. record rows { lists = map-without rows (apart_all c.self.invariant.sound) h s on i }) in
     let shelf = shelf_is c.self.invariant c.self.view_is s in
     let each : (k : ℕ) → has k row ≡ true → head_node (chain_at v k) ≡ k = λ k found. head_listed c.self.invariant k s found in (
       IsWhole-reheaded c.self.invariant c.self.view_is c.remove.new.self c.remove.ensures.carried c.remove.ensures.sound h s (without h row) lists c.remove.ensures.others begun,
@@ -40,7 +40,6 @@ moved g c =
           (with_head head_node h (shelf_in now.shelves s))
           (λ _. ap (with_head head_node h) shelf ∙ sym (with-map v h row each (holder_has h s rows on).1) ∙ sym (some_items _ begun))
           (λ some. absurd (false≢true (sym (ap is_some c.remove.ensures.freed) ∙ some)))
-          (without_head head_node h (shelf_in now.shelves s))
           (without-map v h row each ∙ ap (without_head head_node h) (sym shelf)),
     )
 

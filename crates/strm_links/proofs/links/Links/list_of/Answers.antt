@@ -8,9 +8,9 @@ use Rattle.strm_links.proofs.links.Links.list_of.Goals as goal
 
 pub returns : goal.returns
 returns c =
-    let sound = IsSound-rows _ _ _ c.self.view_is c.self.invariant in
+    let sound = IsSound-rows c.self.view_is c.self.invariant in
     let is = c.get.ensures ∙ ap (λ (p : Place). p.list) (place_read _ c.args.node c.index.result.now (omega (arith, sound.node_count, c.requires, length-map c.self.inside.table.nodes.items (λ n. n.place))) c.index.ensures) in
     record {
-      value = is ∙ sym (holder-owner _ _ _ sound c.args.node);
+      value = is ∙ sym (holder-owner sound c.args.node);
       in_range = IfSome-from c.get.result _ (λ l some. sound.known c.args.node l (sym is ∙ some));
     }

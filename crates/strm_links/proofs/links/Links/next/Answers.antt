@@ -9,10 +9,10 @@ use Rattle.strm_links.proofs.links.Links.next.Goals as goal
 
 pub returns : goal.returns
 returns c =
-    let sound = IsSound-rows _ _ _ c.self.view_is c.self.invariant in
+    let sound = IsSound-rows c.self.view_is c.self.invariant in
     let is = c.get.ensures ∙ ap (λ (p : Place). p.next) (place_read _ c.args.node c.index.result.now (omega (arith, sound.node_count, c.requires, length-map c.self.inside.table.nodes.items (λ n. n.place))) c.index.ensures) in
     record {
-      value = is ∙ sym (next_in-at _ _ _ sound c.args.node);
-      neighbour = IfSome-from c.get.result _ (λ k some. (next_neighbour _ _ _ sound c.args.node k (sym is ∙ some)).0);
-      in_range = IfSome-from c.get.result _ (λ k some. (next_neighbour _ _ _ sound c.args.node k (sym is ∙ some)).1);
+      value = is ∙ sym (next_in-at sound c.args.node);
+      neighbour = IfSome-from c.get.result _ (λ k some. (next_neighbour sound c.args.node (sym is ∙ some)).0);
+      in_range = IfSome-from c.get.result _ (λ k some. (next_neighbour sound c.args.node (sym is ∙ some)).1);
     }

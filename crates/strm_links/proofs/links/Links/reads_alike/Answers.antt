@@ -3,5 +3,5 @@ use Rattle.strm_links.proofs.links.Links.reads_alike.Goals as goal
 
 pub returns : goal.returns
 returns c =
-    let sound = IsSound-rows _ _ _ c.self.view_is c.self.invariant in
-    record { forward = reads_forward _ _ _ sound; backward = reads_backward _ _ _ sound }
+    let sound = IsSound-rows c.self.view_is c.self.invariant in
+    record { forward = reads_forward sound; backward = reads_backward sound }

@@ -17,7 +17,7 @@ set_owners-requires g c k found =
     omega (
       arith,
       length-map c.args.self.now.nodes.items (λ n. n.place),
-      walk_within _ _ _ c.requires.sound c.args.from c.requires.from _ (ends_read _ _ _ c.requires.sound c.args.from _ c.requires.from c.index-tail.ensures) k found,
+      walk_within c.requires.sound c.args.from c.requires.from (ends_read c.requires.sound c.args.from c.requires.from c.index-tail.ensures) k found,
     )
 
 pub set_next-requires : goal.set_next-requires
@@ -26,7 +26,7 @@ set_next-requires g c k is =
       arith,
       c.set_owners.ensures.len,
       length-map c.args.self.now.nodes.items (λ n. n.place),
-      back_within _ _ _ c.requires.sound c.args.to c.requires.to _ (ends_read _ _ _ c.requires.sound c.args.to _ c.requires.to c.index.ensures) k is,
+      back_within c.requires.sound c.args.to c.requires.to (ends_read c.requires.sound c.args.to c.requires.to c.index.ensures) is,
     )
 
 pub set_previous-requires : goal.set_previous-requires
@@ -36,18 +36,18 @@ set_previous-requires g c k is =
       c.set_owners.ensures.len,
       c.set_next.ensures.len,
       length-map c.args.self.now.nodes.items (λ n. n.place),
-      front_within _ _ _ c.requires.sound c.args.from c.requires.from _ (ends_read _ _ _ c.requires.sound c.args.from _ c.requires.from c.index-tail.ensures) k is,
+      front_within c.requires.sound c.args.from c.requires.from (ends_read c.requires.sound c.args.from c.requires.from c.index-tail.ensures) is,
     )
 
 pub overflow_add-ends : goal.overflow_add-ends
 overflow_add-ends g c =
-    let len = ap (λ (e : Ends). e.len) c.set_previous.ensures.ends ∙ ap (λ (e : Ends). e.len) c.set_next.ensures.ends ∙ ap (λ (e : Ends). e.len) (ends_read _ _ _ c.requires.sound c.args.to _ c.requires.to c.index.ensures) in
+    let len = ap (λ (e : Ends). e.len) c.set_previous.ensures.ends ∙ ap (λ (e : Ends). e.len) c.set_next.ensures.ends ∙ ap (λ (e : Ends). e.len) (ends_read c.requires.sound c.args.to c.requires.to c.index.ensures) in
     omega (
       arith,
       len,
-      ap (λ (e : Ends). e.len) (ends_read _ _ _ c.requires.sound c.args.from _ c.requires.from c.index-tail.ensures),
+      ap (λ (e : Ends). e.len) (ends_read c.requires.sound c.args.from c.requires.from c.index-tail.ensures),
       c.requires.sound.few_nodes,
-      both_len _ _ _ c.requires.sound c.args.to c.args.from c.requires.to c.requires.from c.requires.other,
+      both_len c.requires.sound c.args.to c.args.from c.requires.to c.requires.from c.requires.other,
     )
 
 -- the table after the writes
@@ -61,27 +61,27 @@ changes g c =
     let long : length (places_of c.set_owners.new.nodes.items) ≡ length (places_of c.args.self.now.nodes.items) =
     omega (arith, length-map c.set_owners.new.nodes.items (λ n. n.place), c.set_owners.ensures.len, length-map c.args.self.now.nodes.items (λ n. n.place)) in
     rw places
-    (IsSound-appended _ _ _ c.requires.sound c.args.to c.args.from c.requires.to c.requires.from c.requires.other _ _ _ _ _ _ _ _ c.some.ensures
-    (ends_read _ _ _ c.requires.sound c.args.to _ c.requires.to c.index.ensures) (ends_read _ _ _ c.requires.sound c.args.from _ c.requires.from c.index-tail.ensures) c.empty.ensures long c.set_owners.ensures.owners c.set_owners.ensures.nexts
+    (IsSound-appended c.requires.sound c.args.to c.args.from c.requires.to c.requires.from c.requires.other _ c.some.ensures
+    (ends_read c.requires.sound c.args.to c.requires.to c.index.ensures) (ends_read c.requires.sound c.args.from c.requires.from c.index-tail.ensures) c.empty.ensures long c.set_owners.ensures.owners c.set_owners.ensures.nexts
     c.set_owners.ensures.previous c.set_next.ensures.ends c.set_previous.ensures.ends c.or-ends.ensures)
 
 pub returns-clause-sound : goal.returns-clause-sound
-returns-clause-sound g c = IsSound-stored _ _ _ (changes g (goal.at.returns-clause-sound g c).After-index_mut-2)
+returns-clause-sound g c = IsSound-stored (changes g (goal.at.returns-clause-sound g c).After-index_mut-2)
 
 pub returns-clause-parting : goal.returns-clause-parting
 returns-clause-parting g c = parts _ _ _ (returns-clause-sound g c)
 
 pub returns-clause-lists : goal.returns-clause-lists
-returns-clause-lists g c = rows_of_is _ _ _ (changes g (goal.at.returns-clause-lists g c).After-index_mut-2)
+returns-clause-lists g c = rows_of_is (changes g (goal.at.returns-clause-lists g c).After-index_mut-2)
 
 pub returns-clause-moved : goal.returns-clause-moved
 returns-clause-moved g c k was =
-    ap (holder k) (rows_of_is _ _ _ (changes g (goal.at.returns-clause-moved g c).After-index_mut-2))
-    ∙ holder-append (rows_in c.args.self.now) (apart_all _ _ _ c.requires.sound) c.args.to c.args.from k c.requires.to c.requires.from c.requires.other
+    ap (holder k) (rows_of_is (changes g (goal.at.returns-clause-moved g c).After-index_mut-2))
+    ∙ holder-append (rows_in c.args.self.now) (apart_all c.requires.sound) c.args.to c.args.from k c.requires.to c.requires.from c.requires.other
     ∙ cond-true _ _ _ (is_some_of-same c.args.from (holder k (rows_in c.args.self.now)) was)
 
 pub returns-clause-others : goal.returns-clause-others
 returns-clause-others g c k was =
-    ap (holder k) (rows_of_is _ _ _ (changes g (goal.at.returns-clause-others g c).After-index_mut-2))
-    ∙ holder-append (rows_in c.args.self.now) (apart_all _ _ _ c.requires.sound) c.args.to c.args.from k c.requires.to c.requires.from c.requires.other
+    ap (holder k) (rows_of_is (changes g (goal.at.returns-clause-others g c).After-index_mut-2))
+    ∙ holder-append (rows_in c.args.self.now) (apart_all c.requires.sound) c.args.to c.args.from k c.requires.to c.requires.from c.requires.other
     ∙ cond-false _ _ _ (false_from_ne_true _ (λ is. was (some_of c.args.from (holder k (rows_in c.args.self.now)) is)))

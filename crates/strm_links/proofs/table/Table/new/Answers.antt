@@ -16,13 +16,13 @@ made g c =
     (subst (λ es. IsSound (replicate c.args.nodes no_place) es rows) (sym ends) (IsSound-new c.args.nodes c.args.lists c.ranges.nodes.fits c.ranges.lists.fits))
 
 pub returns-clause-sound : goal.returns-clause-sound
-returns-clause-sound g c = IsSound-stored _ _ _ (made g c)
+returns-clause-sound g c = IsSound-stored (made g c)
 
 pub returns-clause-parting : goal.returns-clause-parting
 returns-clause-parting g c = parts _ _ _ (returns-clause-sound g c)
 
 pub returns-clause-rows : goal.returns-clause-rows
-returns-clause-rows g c = rows_of_is _ _ _ (made g c)
+returns-clause-rows g c = rows_of_is (made g c)
 
 pub returns-clause-carried : goal.returns-clause-carried
 returns-clause-carried g c = carried_alike c.args.nodes _ c.resize.new.self.items _ _ c.in_ok-resize.ensures.items c.in_ok-table.ensures.items c.in_ok-table.ensures.len

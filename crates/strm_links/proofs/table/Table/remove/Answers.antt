@@ -17,7 +17,7 @@ pub index-requires : goal.index-requires
 index-requires g c = omega (arith, held_low c.args.self.now c.requires.sound c.args.node c.requires.held)
 
 pub number-list-requires : goal.number-list-requires
-number-list-requires g c = subst IsSome (held_list c.args.self.now c.requires.sound c.args.node c.requires.held c.index.result.now c.index.ensures) c.requires.held
+number-list-requires g c = subst IsSome (held_list c.args.self.now c.requires.sound c.args.node c.requires.held c.index.ensures) c.requires.held
 
 pub put-requires : goal.put-requires
 put-requires g c = omega (arith, held_low c.args.self.now c.requires.sound c.args.node c.requires.held)
@@ -25,13 +25,13 @@ put-requires g c = omega (arith, held_low c.args.self.now c.requires.sound c.arg
 -- the list that holds the node, and what the code reads
 module _ (g : Over) (c : After-put g) where
   holds : holder c.args.node (rows_in c.args.self.now) ≡ Some c.number-list.result
-  holds = held_list c.args.self.now c.requires.sound c.args.node c.requires.held c.index.result.now c.index.ensures ∙ c.number-list.ensures
+  holds = held_list c.args.self.now c.requires.sound c.args.node c.requires.held c.index.ensures ∙ c.number-list.ensures
 
   read : c.index.result.now.place ≡ place_at (places_of c.args.self.now.nodes.items) c.args.node
-  read = held_place c.args.self.now c.requires.sound c.args.node c.requires.held c.index.result.now c.index.ensures
+  read = held_place c.args.self.now c.requires.sound c.args.node c.requires.held c.index.ensures
 
   within : c.number-list.result < length (rows_in c.args.self.now).lists
-  within = left_list _ _ _ c.requires.sound c.number-list.result c.args.node holds
+  within = left_list c.requires.sound c.args.node holds
 
 pub index_mut-ends-requires : goal.index_mut-ends-requires
 index_mut-ends-requires g c = omega (arith, within g (goal.at.index_mut-ends-requires g c).After-put, c.requires.sound.list_count)
@@ -43,7 +43,7 @@ set_next-requires g c k is =
       arith,
       c.put.ensures.len,
       length-map c.args.self.now.nodes.items (λ n. n.place),
-      left_previous _ _ _ c.requires.sound c.number-list.result c.args.node (holds g at) k (sym (ap (λ (p : Place). p.previous) (read g at)) ∙ is),
+      left_previous c.requires.sound c.args.node (holds g at) (sym (ap (λ (p : Place). p.previous) (read g at)) ∙ is),
     )
 
 pub set_previous-requires : goal.set_previous-requires
@@ -54,14 +54,14 @@ set_previous-requires g c k is =
       c.put.ensures.len,
       c.set_next.ensures.len,
       length-map c.args.self.now.nodes.items (λ n. n.place),
-      left_next _ _ _ c.requires.sound c.number-list.result c.args.node (holds g at) k (sym (ap (λ (p : Place). p.next) (read g at)) ∙ is),
+      left_next c.requires.sound c.args.node (holds g at) (sym (ap (λ (p : Place). p.next) (read g at)) ∙ is),
     )
 
 pub overflow_sub-ends : goal.overflow_sub-ends
 overflow_sub-ends g c =
     let at = (goal.at.overflow_sub-ends g c).After-put in
-    let len = ap (λ (e : Ends). e.len) c.set_previous.ensures.ends ∙ ap (λ (e : Ends). e.len) c.set_next.ensures.ends ∙ ap (λ (e : Ends). e.len) (ends_read _ _ _ c.requires.sound c.number-list.result _ (within g at) c.index_mut-ends.ensures.value) in
-    omega (arith, len, left_len _ _ _ c.requires.sound c.number-list.result c.args.node (holds g at))
+    let len = ap (λ (e : Ends). e.len) c.set_previous.ensures.ends ∙ ap (λ (e : Ends). e.len) c.set_next.ensures.ends ∙ ap (λ (e : Ends). e.len) (ends_read c.requires.sound c.number-list.result (within g at) c.index_mut-ends.ensures.value) in
+    omega (arith, len, left_len c.requires.sound c.args.node (holds g at))
 
 -- the table after the writes
 changes : (g : Over) (c : After-set_previous g) (at : After-put g) → holder c.args.node (rows_in c.args.self.now) ≡ Some c.number-list.result → c.index.result.now.place ≡ place_at (places_of c.args.self.now.nodes.items) c.args.node
@@ -71,26 +71,26 @@ changes g c at holds read =
     let x = c.index.result.now.place in
     let places = c.set_previous.ensures.places ∙ ap (with_previous x.next x.previous) (c.set_next.ensures.places ∙ ap (with_next x.previous x.next) c.put.ensures.places) in
     rw places
-    (IsSound-left _ _ _ c.requires.sound c.number-list.result c.args.node holds x _ _ _ _ read c.free.ensures
-    (ends_read _ _ _ c.requires.sound c.number-list.result _ (left_list _ _ _ c.requires.sound c.number-list.result c.args.node holds) c.index_mut-ends.ensures.value) c.set_next.ensures.ends c.set_previous.ensures.ends)
+    (IsSound-left c.requires.sound c.args.node holds read c.free.ensures
+    (ends_read c.requires.sound c.number-list.result (left_list c.requires.sound c.args.node holds) c.index_mut-ends.ensures.value) c.set_next.ensures.ends c.set_previous.ensures.ends)
 
 pub returns-clause-sound : goal.returns-clause-sound
-returns-clause-sound g c = let at = goal.at.returns-clause-sound g c in IsSound-stored _ _ _ (changes g at.After-set_previous at.After-put (holds g at.After-put) (read g at.After-put))
+returns-clause-sound g c = let at = goal.at.returns-clause-sound g c in IsSound-stored (changes g at.After-set_previous at.After-put (holds g at.After-put) (read g at.After-put))
 
 pub returns-clause-parting : goal.returns-clause-parting
 returns-clause-parting g c = parts _ _ _ (returns-clause-sound g c)
 
 pub returns-clause-lists : goal.returns-clause-lists
-returns-clause-lists g c = let at = goal.at.returns-clause-lists g c in rows_of_is _ _ _ (changes g at.After-set_previous at.After-put (holds g at.After-put) (read g at.After-put))
+returns-clause-lists g c = let at = goal.at.returns-clause-lists g c in rows_of_is (changes g at.After-set_previous at.After-put (holds g at.After-put) (read g at.After-put))
 
 pub returns-clause-freed : goal.returns-clause-freed
 returns-clause-freed g c =
     let at = goal.at.returns-clause-freed g c in
-    ap (holder c.args.node) (rows_of_is _ _ _ (changes g at.After-set_previous at.After-put (holds g at.After-put) (read g at.After-put)))
-    ∙ holder-remove (rows_in c.args.self.now) (apart_all _ _ _ c.requires.sound) c.args.node c.args.node ∙ cond-true _ _ _ (eq-eqb c.args.node c.args.node refl)
+    ap (holder c.args.node) (rows_of_is (changes g at.After-set_previous at.After-put (holds g at.After-put) (read g at.After-put)))
+    ∙ holder-remove (rows_in c.args.self.now) (apart_all c.requires.sound) c.args.node c.args.node ∙ cond-true _ _ _ (eq-eqb c.args.node c.args.node refl)
 
 pub returns-clause-others : goal.returns-clause-others
 returns-clause-others g c k other =
     let at = goal.at.returns-clause-others g c in
-    ap (holder k) (rows_of_is _ _ _ (changes g at.After-set_previous at.After-put (holds g at.After-put) (read g at.After-put)))
-    ∙ holder-remove (rows_in c.args.self.now) (apart_all _ _ _ c.requires.sound) c.args.node k ∙ cond-false _ _ _ (ne_eqb c.args.node k (λ same. other (sym same)))
+    ap (holder k) (rows_of_is (changes g at.After-set_previous at.After-put (holds g at.After-put) (read g at.After-put)))
+    ∙ holder-remove (rows_in c.args.self.now) (apart_all c.requires.sound) c.args.node k ∙ cond-false _ _ _ (ne_eqb c.args.node k (λ same. other (sym same)))
