@@ -42,23 +42,23 @@ use Rattle.strm_mblk.proofs.Lists.{count_adds, drop_from}
 
 -- ==== a block that a call found gets other fields, also one that alone uses its data block
 
-some_of_ok : (o : Option Block) (x : Block) → ok_or o NoSuchBlock ≡ Ok x → o ≡ Some x
-some_of_ok None x is = absurd cc
-some_of_ok (Some b) x is = let same : b ≡ x = cc in ap (λ (c : Block). Some c) same
+some_of_ok : (o : Option Block) {x : Block} → ok_or o NoSuchBlock ≡ Ok x → o ≡ Some x
+some_of_ok None is = absurd cc
+some_of_ok (Some b) {x} is = let same : b ≡ x = cc in ap (λ (c : Block). Some c) same
 
-pub found_at : (a : Arena) (h k : ℕ) (x : Block) → block_found h k a ≡ Ok x → slice_get (message_at a h) k ≡ Some x
-found_at a h k x is = some_of_ok (slice_get (message_at a h) k) x is
+pub found_at : (a : Arena) (h k : ℕ) {x : Block} → block_found h k a ≡ Ok x → slice_get (message_at a h) k ≡ Some x
+found_at a h k {x} is = some_of_ok (slice_get (message_at a h) k) is
 
-pub suits_found : (a : Arena) (h k : ℕ) (x : Block) → slice_get (message_at a h) k ≡ Some x → (f : Fields) → f.data_number ≡ x.data_number → f.offset + f.len ≤ capacity_of a.store f.data_number → f.band < 2 ^ 8
+pub suits_found : (a : Arena) (h k : ℕ) {x : Block} → slice_get (message_at a h) k ≡ Some x → (f : Fields) → f.data_number ≡ x.data_number → f.offset + f.len ≤ capacity_of a.store f.data_number → f.band < 2 ^ 8
     → Suits a x.number f
-suits_found a h k x found f same room banded = record { head = h; place = k; block = x; found = found; number = refl; same = same; room = room; banded = banded }
+suits_found a h k {x} found f same room banded = record { head = h; place = k; block = x; found = found; number = refl; same = same; room = room; banded = banded }
 
-module _ (a : Arena) (h k : ℕ) (x : Block) (own : own_block h k a ≡ Ok x) where
+module _ (a : Arena) (h k : ℕ) {x : Block} (own : own_block h k a ≡ Ok x) where
   pub found_own : slice_get (message_at a h) k ≡ Some x
-  found_own = (own_is a h k x own).found
+  found_own = (own_is a h k own).found
 
   -- also once bytes are in its data block
-  module _ (at : ℕ) (bytes : List ℕ) (b : Arena) (is : b ≡ with_bytes x.data_number at bytes a) where
+  module _ (at : ℕ) (bytes : List ℕ) {b : Arena} (is : b ≡ with_bytes x.data_number at bytes a) where
     pub found_written : slice_get (message_at b h) k ≡ Some x
     found_written = ap (λ c. slice_get (message_at c h) k) is ∙ found_own
 
@@ -76,10 +76,10 @@ module _ (a : Arena) (h k : ℕ) (x : Block) (own : own_block h k a ≡ Ok x) wh
 
 -- ==== a block of a held message gets other fields
 
-module _ (id : ℕ) (s : CountedStore) (fields : List Fields) (v : ChainLists) (filled : IsFilled s fields v (arena_of id s.store fields v)) (a : Arena) (is : arena_of id s.store fields v ≡ a)
+module _ {id : ℕ} {s : CountedStore} {fields : List Fields} {v : ChainLists} (filled : IsFilled s fields v (arena_of id s.store fields v)) {a : Arena} (is : arena_of id s.store fields v ≡ a)
     (n h k : ℕ) (b : Block) (found : slice_get (message_at a h) k ≡ Some b) (number : b.number ≡ n) where
   is_at : IsAt s fields v a h k n (nodes_at v h)
-  is_at = subst (λ m. IsAt s fields v a h k m (nodes_at v h)) number (block_given id s fields v filled a is h k b found)
+  is_at = subst (λ m. IsAt s fields v a h k m (nodes_at v h)) number (block_given id s fields v filled a is h k found)
 
   pub number_there : n < length fields
   number_there = is_at.there
@@ -91,12 +91,12 @@ module _ (id : ℕ) (s : CountedStore) (fields : List Fields) (v : ChainLists) (
   module _ (x : Fields) where
     pub fields_show : arena_of id s.store (set fields n x) v ≡ with_block h k (block_of n x) a
     fields_show =
-        written_shows id s fields v filled h k n (nodes_at v h) is_at.held is_at.at s.store x
+        written_shows id s fields v filled h k is_at.held is_at.at s.store x
         ∙ (λ i. with_message h (set (sym is_at.message i) k (block_of n (get_or-set_same fields n x no_fields is_at.there i))) (is i))
 
     pub fields_filled : x.data_number ≡ b.data_number → IsPlaced s.store x → IsFilled s (set fields n x) v (arena_of id s.store (set fields n x) v)
     fields_filled same placed =
-        rewrite_filled id s fields v filled h k n (nodes_at v h) is_at.held is_at.at s x filled.kept refl (record { many = refl; room = λ d. refl }) placed
+        rewrite_filled id s fields v filled h k is_at.held is_at.at filled.kept refl (record { many = refl; room = λ d. refl }) placed
         (same ∙ ap (λ (c : Block). c.data_number) (sym block_is))
 
     -- its data block is there
@@ -119,8 +119,8 @@ pub size_parts : (m : Message) (k : ℕ) → size_of m ≡ size_of (take k m) + 
 size_parts m k = sym (ap size_of (take-append-drop k m)) ∙ sum_by-append (λ (c : Block). c.len) (take k m) (drop k m)
 
 -- and those from a block on are it and those after it
-pub size_next : (m : Message) (k : ℕ) (b : Block) → slice_get m k ≡ Some b → size_of (drop k m) ≡ b.len + size_of (drop (k + 1) m)
-size_next m k b is = omega (arith, ap size_of (drop_from m k b is), sum_by-append (λ (c : Block). c.len) (b ∷ []) (drop (k + 1) m))
+pub size_next : (m : Message) (k : ℕ) {b : Block} → slice_get m k ≡ Some b → size_of (drop k m) ≡ b.len + size_of (drop (k + 1) m)
+size_next m k {b} is = omega (arith, ap size_of (drop_from m k b is), sum_by-append (λ (c : Block). c.len) (b ∷ []) (drop (k + 1) m))
 
 -- ==== bytes are written over those of a message, block by block
 
@@ -132,7 +132,7 @@ pub and_false : (b : Bool) → (b && false) ≡ false
 and_false true = refl
 and_false false = refl
 
-module _ (m : Message) (k : ℕ) (b : Block) (is : slice_get m k ≡ Some b) where
+module _ (m : Message) (k : ℕ) {b : Block} (is : slice_get m k ≡ Some b) where
   -- the bytes from block k on are those in it, and those behind it
   pub touches_next : (a : Arena) (skip left : ℕ) → touches_shared a skip left (drop k m)
       ≡ ((nat_lt 0 (bytes_within skip left b) && nat_lt 1 (references_to a b.data_number)) || touches_shared a (skip - b.len) (left - bytes_within skip left b) (drop (k + 1) m))
@@ -183,10 +183,10 @@ overwritten_past bytes s at b m past =
     (λ i. store_overwritten (at - b.len) (drop (none i) bytes) m (with_bytes_written b.data_number (b.offset + min at b.len) (take (none i) bytes) s))
     ∙ ap (store_overwritten (at - b.len) bytes m) (unwritten s b.data_number (b.offset + min at b.len))
 
-module _ (m : Message) (k : ℕ) (b : Block) (is : slice_get m k ≡ Some b) (skip at : ℕ) (before : size_of (take k m) + skip ≡ at) (bytes : List ℕ) (inside : skip + length bytes ≤ b.len) where
+module _ (m : Message) (k : ℕ) {b : Block} (is : slice_get m k ≡ Some b) (skip : ℕ) {at : ℕ} (before : size_of (take k m) + skip ≡ at) (bytes : List ℕ) (inside : skip + length bytes ≤ b.len) where
   -- the message has them
   pub one_long : at + length bytes ≤ size_of m
-  one_long = omega (arith, inside, before, size_parts m k, size_next m k b is)
+  one_long = omega (arith, inside, before, size_parts m k, size_next m k is)
 
   all : bytes_within skip (length bytes) b ≡ length bytes
   all = omega (arith, inside)
@@ -198,7 +198,7 @@ module _ (m : Message) (k : ℕ) (b : Block) (is : slice_get m k ≡ Some b) (sk
       let behind = drop (k + 1) m in
       let none : length bytes - length bytes ≡ 0 = omega arith in
       from_block (λ p bs. touches_shared a p (length bytes) bs) (λ c. Unit {0}) (λ p c bs fit past. touches_past a (length bytes) p c bs past) m (λ j c found. tt) k skip at before
-      ∙ touches_next m k b is a skip (length bytes)
+      ∙ touches_next m k is a skip (length bytes)
       ∙ ap (λ n. (nat_lt 0 n && many) || touches_shared a (skip - b.len) (length bytes - n) behind) all
       ∙ ap (λ n. (nat_lt 0 (length bytes) && many) || touches_shared a (skip - b.len) n behind) none
       ∙ ap (λ t. (nat_lt 0 (length bytes) && many) || t) (touches_nothing a (skip - b.len) behind)
@@ -210,7 +210,7 @@ module _ (m : Message) (k : ℕ) (b : Block) (is : slice_get m k ≡ Some b) (sk
       let behind = drop (k + 1) m in
       let short : min skip b.len ≡ skip = omega (arith, inside) in
       from_block (λ p bs. store_overwritten p bytes bs s) (λ c. Unit {0}) (λ p c bs fit past. overwritten_past bytes s p c bs past) m (λ j c found. tt) k skip at before
-      ∙ overwritten_next m k b is s skip bytes
+      ∙ overwritten_next m k is s skip bytes
       ∙ (λ i. store_overwritten (skip - b.len) (drop (all i) bytes) behind (with_bytes_written b.data_number (b.offset + short i) (take (all i) bytes) s))
       ∙ (λ i. store_overwritten (skip - b.len) (drop_all (length bytes) bytes (omega arith) i) behind (with_bytes_written b.data_number (b.offset + skip) (take-length bytes i) s))
       ∙ overwritten_nothing (skip - b.len) behind (with_bytes_written b.data_number (b.offset + skip) bytes s)
@@ -233,9 +233,9 @@ used_behind d b bs r (inl unused) = inl (omega (arith, unused, (count_adds (uses
 used_behind d b bs r (inr many) = inr many
 
 -- and of the first
-used_here : (d : ℕ) (b : Block) (bs : List Block) (r : ℕ) → b.data_number ≡ d → (count_by (uses_data d) (b ∷ bs) ≡ 0) ⊎ (1 < r) → 1 < r
-used_here d b bs r same (inl unused) = absurd (omega (arith, unused, naming_at (b ∷ bs) 0 b refl, ap (λ e. count_by (uses_data e) (b ∷ bs)) same))
-used_here d b bs r same (inr many) = many
+used_here : {d : ℕ} (b : Block) (bs : List Block) (r : ℕ) → b.data_number ≡ d → (count_by (uses_data d) (b ∷ bs) ≡ 0) ⊎ (1 < r) → 1 < r
+used_here b bs r same (inl unused) = absurd (omega (arith, unused, naming_at (b ∷ bs) 0 b refl, ap (λ e. count_by (uses_data e) (b ∷ bs)) same))
+used_here b bs r same (inr many) = many
 
 -- a data block stays that no block of the message uses, or that has other references
 other_stays : (a : Arena) (d at : ℕ) (bytes : List ℕ) (m : Message) (s : DataStore) → touches_shared a at (length bytes) m ≡ false → (count_by (uses_data d) m ≡ 0) ⊎ (1 < references_to a d)
@@ -252,13 +252,13 @@ other_stays a d at bytes (b ∷ bs) s none why =
         → data_block_at (with_bytes_written b.data_number (b.offset + min at b.len) (take n bytes) s) d ≡ data_block_at s d
     here n few (inr other) = get_or-set_other s.blocks b.data_number d _ no_data_block (λ same. other (sym same))
     here n few (inl same) =
-        let nothing = none_here n (references_to a b.data_number) few (subst (λ e. 1 < references_to a e) (sym same) (used_here d b bs _ same why)) in
+        let nothing = none_here n (references_to a b.data_number) few (subst (λ e. 1 < references_to a e) (sym same) (used_here b bs _ same why)) in
         subst (λ e. data_block_at (with_bytes_written e (b.offset + min at b.len) (take n bytes) s) d ≡ data_block_at s d) (sym same)
         (ap (λ k. data_block_at (with_bytes_written d (b.offset + min at b.len) (take k bytes) s) d) nothing ∙ ap (λ x. data_block_at x d) (unwritten s d (b.offset + min at b.len)))
 
 -- what a call leaves that changes only the message held at h, if a data block stays that no block of this message uses, or that another
 -- message uses too
-module _ (a : Arena) (h : ℕ) (m : Message) (is : held_at a h ≡ Some m) (new : Arena) (others : LeavesOthers (h ∷ []) a new) (shelves : new.shelves ≡ a.shelves)
+module _ (a : Arena) (h : ℕ) {m : Message} (is : held_at a h ≡ Some m) (new : Arena) (others : LeavesOthers (h ∷ []) a new) (shelves : new.shelves ≡ a.shelves)
     (stays : (d : ℕ) → (count_by (uses_data d) m ≡ 0) ⊎ (1 < references_to a d) → data_block_at new.store d ≡ data_block_at a.store d) where
   stays_beside : (d n : ℕ) → 0 < n → n + count_by (uses_data d) m ≤ references_to a d → data_block_at new.store d ≡ data_block_at a.store d
   stays_beside d n some within =
@@ -266,60 +266,60 @@ module _ (a : Arena) (h : ℕ) (m : Message) (is : held_at a h ≡ Some m) (new 
 
   leaves_beside : Leaves (h ∷ []) a new
   leaves_beside =
-      leaves_data a new (h ∷ []) others shelves
-      (λ d some. stays_beside d (count_by (uses_data d) (shelved_blocks a)) some (omega (arith, out_of_held a h m (uses_data d) is, shelved_named (without_held h a) d)))
+      leaves_data others shelves
+      (λ d some. stays_beside d (count_by (uses_data d) (shelved_blocks a)) some (omega (arith, out_of_held a h (uses_data d) is, shelved_named (without_held h a) d)))
       (λ g d other some.
       stays_beside d (count_by (uses_data d) (message_at a g)) some
       (omega (
         arith,
-        out_of_held a h m (uses_data d) is,
+        out_of_held a h (uses_data d) is,
         held_named (without_held h a) g d,
         ap (λ o. count_by (uses_data d) (blocks_of o)) (get_or-set_other a.held h g None None (other_head g h [] other)),
       )))
 
 -- what a call leaves that writes over bytes of the message held at h
-pub leaves_overwritten : (a : Arena) (h : ℕ) (m : Message) → held_at a h ≡ Some m → (at : ℕ) (bytes : List ℕ) → touches_shared a at (length bytes) m ≡ false → Leaves (h ∷ []) a (record a { store = store_overwritten at bytes m a.store })
-leaves_overwritten a h m is at bytes none =
-    leaves_beside a h m is (record a { store = store_overwritten at bytes m a.store }) (record { id = refl; size = refl; held = λ g other. refl }) refl (λ d. other_stays a d at bytes m a.store none)
+pub leaves_overwritten : (a : Arena) (h : ℕ) {m : Message} → held_at a h ≡ Some m → (at : ℕ) (bytes : List ℕ) → touches_shared a at (length bytes) m ≡ false → Leaves (h ∷ []) a (record a { store = store_overwritten at bytes m a.store })
+leaves_overwritten a h {m} is at bytes none =
+    leaves_beside a h is (record a { store = store_overwritten at bytes m a.store }) (record { id = refl; size = refl; held = λ g other. refl }) refl (λ d. other_stays a d at bytes m a.store none)
 
 -- the message of a token is overwritten, which has these bytes, none of them in a data block that another block uses
-pub alters_overwritten : (a b : Arena) (t : TokenValue) → has a t ≡ true → (at : ℕ) (bytes : List ℕ) → nat_lt (size_of (message_at a t.head)) (at + length bytes) ≡ false
+pub alters_overwritten : (a : Arena) {b : Arena} (t : TokenValue) → has a t ≡ true → (at : ℕ) (bytes : List ℕ) → nat_lt (size_of (message_at a t.head)) (at + length bytes) ≡ false
     → touches_shared a at (length bytes) (message_at a t.head) ≡ false → b ≡ record a { store = store_overwritten at bytes (message_at a t.head) a.store }
     → Alters itself t t (overwrite t.head at bytes a) a b (Ok tt)
-alters_overwritten a b t had at bytes few none now =
+alters_overwritten a {b} t had at bytes few none now =
     let message = had_message a t had in
     let held : held_at a t.head ≡ Some (message_at a t.head) = message.1.held ∙ ap Some (sym (ap blocks_of message.1.held)) in
     alters_to a b t (overwrite t.head at bytes a) tt
     (cond-false _ _ _ few ∙ cond-false _ _ _ none ∙ ap (λ (x : Arena). Ok (tt, x)) (sym now))
     (subst (λ x. has x t ≡ true) (sym now) had)
-    (subst (Leaves (t.head ∷ []) a) (sym now) (leaves_overwritten a t.head (message_at a t.head) held at bytes none))
+    (subst (Leaves (t.head ∷ []) a) (sym now) (leaves_overwritten a t.head held at bytes none))
 
 -- ==== the first blocks of a message get shapes, one after the other
 
 -- an item of a list is this shape
-pub shape_at : {X : Type 0} (f : X → Shape) (xs : List X) (k : ℕ) (x : X) (s : Shape) → k < length xs → x ≡ get_or xs k x → s ≡ f x → slice_get (map f xs) k ≡ Some s
-shape_at f xs k x s within is of = slice_get-map f xs k ∙ ap (option_map f) (slice_get-get_or xs k x within ∙ ap Some (sym is)) ∙ ap Some (sym of)
+pub shape_at : {X : Type 0} (f : X → Shape) (xs : List X) (k : ℕ) {x : X} {s : Shape} → k < length xs → x ≡ get_or xs k x → s ≡ f x → slice_get (map f xs) k ≡ Some s
+shape_at f xs k {x} within is of = slice_get-map f xs k ∙ ap (option_map f) (slice_get-get_or xs k x within ∙ ap Some (sym is)) ∙ ap Some (sym of)
 
 -- one step of a walk
-module _ (xs : List Shape) (k : ℕ) (x : Shape) (is : slice_get xs k ≡ Some x) where
-  pub fits_next : (a : Arena) (m : Message) (b : Block) → slice_get m k ≡ Some b
+module _ (xs : List Shape) (k : ℕ) {x : Shape} (is : slice_get xs k ≡ Some x) where
+  pub fits_next : (a : Arena) (m : Message) {b : Block} → slice_get m k ≡ Some b
       → shapes_fit a (drop k xs) (drop k m) ≡ and_then (λ u. shapes_fit a (drop (k + 1) xs) (drop (k + 1) m)) (shape_fits a x b)
-  fits_next a m b at = λ i. shapes_fit a (drop_from xs k x is i) (drop_from m k b at i)
+  fits_next a m {b} at = λ i. shapes_fit a (drop_from xs k x is i) (drop_from m k b at i)
 
-  pub shaped_next : (ns : List ℕ) (n : ℕ) (fields : List Fields) → slice_get ns k ≡ Some n
+  pub shaped_next : (ns : List ℕ) {n : ℕ} (fields : List Fields) → slice_get ns k ≡ Some n
       → with_shapes (drop k xs) (drop k ns) fields ≡ with_shapes (drop (k + 1) xs) (drop (k + 1) ns) (set fields n (fields_shaped x (fields_at fields n)))
-  shaped_next ns n fields at = λ i. with_shapes (drop_from xs k x is i) (drop_from ns k n at i) fields
+  shaped_next ns {n} fields at = λ i. with_shapes (drop_from xs k x is i) (drop_from ns k n at i) fields
 
-  pub retyped_next : (m : Message) (b : Block) (s : DataStore) → slice_get m k ≡ Some b
+  pub retyped_next : (m : Message) {b : Block} (s : DataStore) → slice_get m k ≡ Some b
       → store_retyped (drop k xs) (drop k m) s ≡ store_retyped (drop (k + 1) xs) (drop (k + 1) m) (with_kind b.data_number x.kind s)
-  retyped_next m b s at = λ i. store_retyped (drop_from xs k x is i) (drop_from m k b at i) s
+  retyped_next m {b} s at = λ i. store_retyped (drop_from xs k x is i) (drop_from m k b at i) s
 
 -- ---- one block
 
 -- the test for another type, as the code makes it
-pub kind_changes : (k j : MsgType) (is : Bool) → is ≡ not (sameb the_type k j) → is ≡ not (same_kind k j)
+pub kind_changes : (k j : MsgType) {is : Bool} → is ≡ not (sameb the_type k j) → is ≡ not (same_kind k j)
 unfolding same_kind
-kind_changes k j is same = same
+kind_changes k j same = same
 
 -- a shape that fits is within the data block
 fit_room : (a : Arena) (x : Shape) (b : Block) → shape_fits a x b ≡ Ok tt → x.at + x.len ≤ capacity_of a.store b.data_number
@@ -423,8 +423,8 @@ shaped_within a (x ∷ xs) (n ∷ ns) fields once fits old j within =
     one room i inside = grind (arith, common_steps, get_or-set_same, get_or-set_other, room, old)
 
 -- a type that is given again
-retyped_same : (s : DataStore) (d : ℕ) (kind : MsgType) → (data_block_at s d).kind ≡ kind → data_block_at (with_kind d kind s) d ≡ data_block_at s d
-retyped_same s d kind is =
+retyped_same : (s : DataStore) (d : ℕ) {kind : MsgType} → (data_block_at s d).kind ≡ kind → data_block_at (with_kind d kind s) d ≡ data_block_at s d
+retyped_same s d {kind} is =
     elim (cases_lt d (length s.blocks)) [
       | inl there ↦ get_or-set_same s.blocks d _ no_data_block there ∙ (λ i. record (data_block_at s d) { kind = sym is i })
       | inr past ↦ ap (λ xs. get_or xs d no_data_block) (set_past s.blocks d _ past)
@@ -442,10 +442,10 @@ retyped_stays a d (x ∷ xs) (b ∷ bs) s fits why same =
     here : shape_fits a x b ≡ Ok tt → (b.data_number ≡ d) ⊎ (b.data_number ≡ d → ⊥) → data_block_at (with_kind b.data_number x.kind s) d ≡ data_block_at a.store d
     here fit (inr other) = get_or-set_other s.blocks b.data_number d _ no_data_block (λ one. other (sym one)) ∙ same
     here fit (inl one) =
-        let many : 1 < references_to a b.data_number = subst (λ e. 1 < references_to a e) (sym one) (used_here d b bs _ one why) in
+        let many : 1 < references_to a b.data_number = subst (λ e. 1 < references_to a e) (sym one) (used_here b bs _ one why) in
         let kind : kind_of a.store b ≡ x.kind = same_kind-one _ _ (fit_type a x b fit many) in
         subst (λ e. data_block_at (with_kind e x.kind s) d ≡ data_block_at a.store d) (sym one)
-        (retyped_same s d x.kind (ap (λ (c : DataBlock). c.kind) same ∙ ap (λ e. (data_block_at a.store e).kind) (sym one) ∙ kind) ∙ same)
+        (retyped_same s d (ap (λ (c : DataBlock). c.kind) same ∙ ap (λ e. (data_block_at a.store e).kind) (sym one) ∙ kind) ∙ same)
 
 -- the arena after the first blocks of the message held at h got these shapes
 abbrev pub with_shaped : ℕ → List Shape → Arena → Arena
@@ -461,7 +461,7 @@ module _ (a : Arena) (t : TokenValue) (had : has a t ≡ true) (xs : List Shape)
 
   pub shaped_leaves : Leaves (t.head ∷ []) a (with_shaped t.head xs a)
   shaped_leaves =
-      leaves_beside a t.head (message_at a t.head) its_held (with_shaped t.head xs a) (others_one a (with_shaped t.head xs a) t.head (Some (blocks_shaped xs (message_at a t.head))) refl refl) refl
+      leaves_beside a t.head its_held (with_shaped t.head xs a) (others_one a (with_shaped t.head xs a) t.head (Some (blocks_shaped xs (message_at a t.head))) refl refl) refl
       (λ d why. retyped_stays a d xs (message_at a t.head) a.store fits why refl)
 
   pub shaped_had : has (with_shaped t.head xs a) t ≡ true
@@ -479,7 +479,7 @@ module _ (id : ℕ) (s : CountedStore) (fields : List Fields) (v : ChainLists) (
   shaped = with_shapes xs nodes fields
 
   nodes_held : held_in v.held t.head ≡ Some nodes
-  nodes_held = token_held id s fields v a a_is t t refl had
+  nodes_held = token_held s fields v a_is t t refl had
 
   message_is : message_at a t.head ≡ message_of fields nodes
   message_is = ap (λ x. message_at x t.head) (sym a_is) ∙ message_at-seen id s.store fields v t.head
@@ -490,10 +490,10 @@ module _ (id : ℕ) (s : CountedStore) (fields : List Fields) (v : ChainLists) (
   module _ (u : CountedStore) (u_is : u ≡ record s { store = store_retyped xs (message_of fields nodes) s.store }) where
     pub shaped_shows : arena_of id u.store shaped v ≡ with_shaped t.head xs a
     shaped_shows =
-        message_shows id s fields v filled t.head nodes nodes_held u.store shaped change.apart
+        message_shows filled t.head nodes_held u.store shaped change.apart
         ∙ (λ i. record (arena_of id s.store fields v) {
           store = (u_is i).store;
-          held = set (arena_of id s.store fields v).held t.head (Some (nodes_shaped xs nodes fields (once_within id s fields v filled t.head nodes nodes_held) (within_room id s fields v filled t.head nodes nodes_held) i));
+          held = set (arena_of id s.store fields v).held t.head (Some (nodes_shaped xs nodes fields (once_within filled t.head nodes_held) (within_room filled t.head nodes_held) i));
         })
         ∙ (λ i. record (arena_of id s.store fields v) {
           store = store_retyped xs (sym (message_at-seen id s.store fields v t.head) i) s.store;
@@ -509,7 +509,7 @@ module _ (id : ℕ) (s : CountedStore) (fields : List Fields) (v : ChainLists) (
       placed n within =
           let inside : n < length fields = omega (arith, within, change.many) in
           let room =
-          shaped_within a xs nodes fields (once_within id s fields v filled t.head nodes nodes_held) (ap (shapes_fit a xs) (sym message_is) ∙ fits)
+          shaped_within a xs nodes fields (once_within filled t.head nodes_held) (ap (shapes_fit a xs) (sym message_is) ∙ fits)
           (λ j there. subst (λ (x : Arena). (fields_at fields j).offset + (fields_at fields j).len ≤ capacity_of x.store (fields_at fields j).data_number) a_is (filled.placed j there).within) n inside in
           record {
             there = omega (arith, (filled.placed n inside).there, change.named n, rooms.many);
@@ -525,4 +525,4 @@ module _ (id : ℕ) (s : CountedStore) (fields : List Fields) (v : ChainLists) (
           }
 
       pub shaped_filled : IsFilled u shaped v (arena_of id u.store shaped v)
-      shaped_filled = message_filled id s fields v filled t.head nodes nodes_held u shaped change kept (ap (λ (w : CountedStore). w.counts) u_is) placed
+      shaped_filled = message_filled filled t.head nodes_held u change kept (ap (λ (w : CountedStore). w.counts) u_is) placed

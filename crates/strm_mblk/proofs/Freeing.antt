@@ -24,8 +24,8 @@ use Rattle.std.proofs.lemmas.Grind.{common_steps}
 -- ==== names that blocks taken out of all messages had are dropped, one after the other
 
 -- the data block that a block of a list uses
-pub named-get : (fields : List Fields) (ns : List ℕ) (i n : ℕ) → slice_get ns i ≡ Some n → slice_get (data_used_by fields ns) i ≡ Some (fields_at fields n).data_number
-named-get fields ns i n is = slice_get-map (λ k. (fields_at fields k).data_number) ns i ∙ ap (option_map (λ k. (fields_at fields k).data_number)) is
+pub named-get : (fields : List Fields) (ns : List ℕ) (i : ℕ) {n : ℕ} → slice_get ns i ≡ Some n → slice_get (data_used_by fields ns) i ≡ Some (fields_at fields n).data_number
+named-get fields ns i is = slice_get-map (λ k. (fields_at fields k).data_number) ns i ∙ ap (option_map (λ k. (fields_at fields k).data_number)) is
 
 -- a data block that has a name has a count
 pub counted_there : (s : CountedStore) (d : ℕ) → 0 < count_of s d → d < length s.counts
@@ -60,7 +60,7 @@ pub record IsDropping (ds : List ℕ) (i : ℕ) (old s : CountedStore) : Type 0 
 pub start_dropping : (ds : List ℕ) (s : CountedStore) → ((d : ℕ) → times d ds ≤ count_of s d) → IsDropping ds 0 s s
 start_dropping ds s named = record { after = refl; named = named; many = refl }
 
-module _ (ds : List ℕ) (i : ℕ) (old s : CountedStore) (dropping : IsDropping ds i old s) (d : ℕ) (is : slice_get ds i ≡ Some d) where
+module _ {ds : List ℕ} {i : ℕ} {old s : CountedStore} (dropping : IsDropping ds i old s) {d : ℕ} (is : slice_get ds i ≡ Some d) where
   -- the next data block has a name
   pub next_used : 0 < count_of s d
   next_used = omega (arith, dropping.named d, ap (times d) (drop_from ds i d is), times-cons d d (drop (i + 1) ds), ap one_if (eq-eqb d d refl))
@@ -79,8 +79,8 @@ pub naming-named : (fields : List Fields) (d : ℕ) (ns : List ℕ) → count_by
 naming-named fields d ns = grind (arith, common_steps, count_by-map)
 
 -- none is left after one of two where one was all
-pub last_one : (x y : ℕ) → y ≡ suc x → (x == 0) ≡ (y == 1)
-last_one x y is = grind (arith, common_steps, eq-eqb, ne_eqb)
+pub last_one : (x : ℕ) {y : ℕ} → y ≡ suc x → (x == 0) ≡ (y == 1)
+last_one x is = grind (arith, common_steps, eq-eqb, ne_eqb)
 
 -- an element joins the front of a list after the elements that follow it
 pub reverse_onto : {X : Type 0} (n : X) (ns free : List X) → reverse ns ++ (n ∷ free) ≡ reverse (n ∷ ns) ++ free
@@ -162,7 +162,7 @@ module _ (id : ℕ) (s : CountedStore) (fields : List Fields) (v : ChainLists) (
           parts d,
         )
 
-    module _ (t : CountedStore) (w : ChainLists) (t_is : t ≡ with_references_dropped (data_used_by fields out) s) (kept : IsKept t) (w_is : w ≡ record v { free = reverse out ++ v.free; held = set v.held h o }) (parted : IsLawful w) where
+    module _ {t : CountedStore} {w : ChainLists} (t_is : t ≡ with_references_dropped (data_used_by fields out) s) (kept : IsKept t) (w_is : w ≡ record v { free = reverse out ++ v.free; held = set v.held h o }) (parted : IsLawful w) where
       shows : arena_of id t.store fields w ≡ record left { store = t.store; free = reverse out ++ v.free }
       shows = grind (arith, common_steps, map-set)
 
@@ -176,7 +176,7 @@ module _ (id : ℕ) (s : CountedStore) (fields : List Fields) (v : ChainLists) (
           parted = parted;
           few = omega (arith, filled.few, many);
           listed = omega (arith, filled.listed, many);
-          placed = λ n within. placed-over s.store t.store (fields_at fields n) rooms (filled.placed n within);
+          placed = λ n within. placed-over rooms (filled.placed n within);
           counts = λ d.
               ap (λ (c : CountedStore). count_of c d) t_is ∙ counts_left id fields left.held old.shelves out s loose d
               ∙ ap (λ a. references_to a d) (sym shows);
@@ -203,4 +203,4 @@ module _ (id : ℕ) (s : CountedStore) (fields : List Fields) (v : ChainLists) (
       → IsFreed old (freemsg h old) t fields w id
   frees t w t_is kept w_is parted =
       subst (λ m. IsFreed old (with_blocks_freed m (without_held h old)) t fields w id) (sym (message_at-seen id s.store fields v h))
-      (frees_some None (nodes_at v h) none_stay t w t_is kept w_is parted)
+      (frees_some None (nodes_at v h) none_stay t_is kept w_is parted)

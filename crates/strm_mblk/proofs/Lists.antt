@@ -56,9 +56,9 @@ times_at n (x ∷ ns) zero is = omega (arith, times_here n x ns (same_Some x n i
 times_at n (x ∷ ns) (suc k) is = omega (arith, times-cons n x ns, times_at n ns k is)
 
 -- a list that begins with h has it at place 0
-pub at_first : (ns : List ℕ) (h : ℕ) → first ns ≡ Some h → slice_get ns 0 ≡ Some h
-at_first [] h is = absurd (none-some h is)
-at_first (n ∷ ns) h is = is
+pub at_first : (ns : List ℕ) {h : ℕ} → first ns ≡ Some h → slice_get ns 0 ≡ Some h
+at_first [] {h} is = absurd (none-some h is)
+at_first (n ∷ ns) is = is
 
 -- and it has one
 pub nonempty : {h : ℕ} (xs : List ℕ) → first xs ≡ Some h → 0 < length xs
@@ -66,9 +66,9 @@ nonempty {h} [] is = absurd (none-some h is)
 nonempty (x ∷ xs) is = omega arith
 
 -- a list is its first number and the others
-pub first_rest : (xs : List ℕ) (n : ℕ) → first xs ≡ Some n → xs ≡ n ∷ drop 1 xs
-first_rest [] n is = absurd (none-some n is)
-first_rest (x ∷ xs) n is = ap (λ y. y ∷ xs) (same_Some x n is)
+pub first_rest : (xs : List ℕ) {n : ℕ} → first xs ≡ Some n → xs ≡ n ∷ drop 1 xs
+first_rest [] {n} is = absurd (none-some n is)
+first_rest (x ∷ xs) {n} is = ap (λ y. y ∷ xs) (same_Some x n is)
 
 -- the first numbers of a list, place by place
 pub slice_get-take : {X : Type 0} (n i : ℕ) (xs : List X) → i < n → slice_get (take n xs) i ≡ slice_get xs i
@@ -113,8 +113,8 @@ count_same p (x ∷ xs) ys same =
     omega (arith, (count_adds p).both (x ∷ []) xs, count_same p xs (less x ys) rest, count_less p x ys here, count_one p x)
 
 -- a number that is there is below n, so what is read in its place is
-pub below : (o : Option ℕ) (d k n : ℕ) → o ≡ Some k → IfSome o (λ x. x < n) → unwrap_or o d < n
-below o d k n is some = subst (λ (p : Option ℕ). IfSome p (λ x. x < n) → unwrap_or p d < n) (sym is) (λ low. low) some
+pub below : {o : Option ℕ} (d : ℕ) {k : ℕ} (n : ℕ) → o ≡ Some k → IfSome o (λ x. x < n) → unwrap_or o d < n
+below d n is some = subst (λ (p : Option ℕ). IfSome p (λ x. x < n) → unwrap_or p d < n) (sym is) (λ low. low) some
 
 -- ==== parts of a list, and a part put instead of another
 
@@ -165,9 +165,9 @@ got_behind (x ∷ xs) zero d = let same : d ≡ 0 + d = omega arith in ap (slice
 got_behind (x ∷ xs) (suc n) d = let next : suc (n + d) ≡ suc n + d = omega arith in got_behind xs n d ∙ ap (slice_get (x ∷ xs)) next
 
 -- a list of one item
-pub one_item : {X : Type 0} (xs : List X) (x : X) → slice_get xs 0 ≡ Some x → length xs ≡ 1 → xs ≡ x ∷ []
-one_item [] x is long = absurd (omega (arith, long))
-one_item (y ∷ ys) x is long = ap (λ zs. y ∷ zs) (nil_from_length ys (omega (arith, long))) ∙ ap (λ z. z ∷ []) (same_Some y x is)
+pub one_item : {X : Type 0} (xs : List X) {x : X} → slice_get xs 0 ≡ Some x → length xs ≡ 1 → xs ≡ x ∷ []
+one_item [] is long = absurd (omega (arith, long))
+one_item (y ∷ ys) {x} is long = ap (λ zs. y ∷ zs) (nil_from_length ys (omega (arith, long))) ∙ ap (λ z. z ∷ []) (same_Some y x is)
 
 -- ==== lists laid over the front of another, as far as there is room for them; and laid there piece by piece
 
@@ -186,12 +186,12 @@ overlaid-append (p ∷ ps) qs [] = drop-nil (length ((p ∷ ps) ++ qs)) ∙ sym 
 overlaid-append (p ∷ ps) qs (x ∷ xs) = ap (λ ys. p ∷ ys) (overlaid-append ps qs xs)
 
 -- the first n of one list are laid there
-pub overlaid_more : {X : Type 0} (ps qs xs : List X) (n : ℕ) → n ≡ min (length xs) (length ps) → take n ps ++ overlaid qs (drop n xs) ≡ overlaid (ps ++ qs) xs
-overlaid_more ps qs xs n is = grind (arith, common_steps, min_comm, take_min, drop_min, overlaid-append)
+pub overlaid_more : {X : Type 0} (ps qs xs : List X) {n : ℕ} → n ≡ min (length xs) (length ps) → take n ps ++ overlaid qs (drop n xs) ≡ overlaid (ps ++ qs) xs
+overlaid_more ps qs xs is = grind (arith, common_steps, min_comm, take_min, drop_min, overlaid-append)
 
 -- and the first n of one list alone
-pub overlaid_min : {X : Type 0} (ps xs : List X) (n : ℕ) → n ≡ min (length xs) (length ps) → take n ps ++ drop n xs ≡ overlaid ps xs
-overlaid_min ps xs n is = grind (arith, common_steps, overlaid-nil, overlaid_more, append-nil)
+pub overlaid_min : {X : Type 0} (ps xs : List X) {n : ℕ} → n ≡ min (length xs) (length ps) → take n ps ++ drop n xs ≡ overlaid ps xs
+overlaid_min ps xs is = grind (arith, common_steps, overlaid-nil, overlaid_more, append-nil)
 
 -- the first `done` of a list, which was `old`, are laid there, and what `rest` lays over the others is what `all` lays
 -- over what it was
@@ -207,9 +207,9 @@ laid_start all xs =
     record { within = omega arith; list = refl; count = omega (arith, ap (λ n. min n (length all)) same) }
 
 -- a piece of the rest is laid there
-pub laid_on : {X : Type 0} (all ps rest old now new : List X) (done n : ℕ) → IsLaid all (ps ++ rest) old now done → n ≡ min (length (drop done now)) (length ps) → new ≡ take n ps ++ drop n (drop done now)
+pub laid_on : {X : Type 0} {all : List X} (ps rest : List X) {old now new : List X} {done n : ℕ} → IsLaid all (ps ++ rest) old now done → n ≡ min (length (drop done now)) (length ps) → new ≡ take n ps ++ drop n (drop done now)
     → IsLaid all rest old (take done now ++ new) (done + n)
-laid_on all ps rest old now new done n laid count is =
+laid_on ps rest {now} {new} {done} {n} laid count is =
     let xs = drop done now in
     let front = take done now in
     let long : length front ≡ done = length-take-le done now laid.within in
@@ -223,18 +223,18 @@ laid_on all ps rest old now new done n laid count is =
           ∙ (λ i. (front ++ take n (is i)) ++ overlaid rest (drop n (is i)))
           ∙ (λ i. (front ++ take_at (take n ps) (drop n xs) n few i) ++ overlaid rest (drop_at (take n ps) (drop n xs) n few i))
           ∙ append_assoc front (take n ps) (overlaid rest (drop n xs))
-          ∙ ap (λ ys. front ++ ys) (overlaid_more ps rest xs n count)
+          ∙ ap (λ ys. front ++ ys) (overlaid_more ps rest xs count)
           ∙ laid.list;
       count = omega (arith, count, length-append front new, many, long, laid.count, length-append ps rest, length-drop done now);
     }
 
 -- all is laid there
-pub laid_all : {X : Type 0} (all rest old now : List X) (done : ℕ) → rest ≡ [] → IsLaid all rest old now done → (done ≡ min (length old) (length all)) × (now ≡ take done all ++ drop done old)
-laid_all all rest old now done none laid = grind (arith, common_steps, take-append-drop, overlaid-nil, overlaid_min)
+pub laid_all : {X : Type 0} {all rest old now : List X} {done : ℕ} → rest ≡ [] → IsLaid all rest old now done → (done ≡ min (length old) (length all)) × (now ≡ take done all ++ drop done old)
+laid_all none laid = grind (arith, common_steps, take-append-drop, overlaid-nil, overlaid_min)
 
 -- where there is no more room, nothing more is laid there
-pub laid_full : {X : Type 0} (all rest old now : List X) (done : ℕ) → done ≡ length now → IsLaid all rest old now done → IsLaid all [] old now done
-laid_full all rest old now done full laid =
+pub laid_full : {X : Type 0} {all rest old now : List X} {done : ℕ} → done ≡ length now → IsLaid all rest old now done → IsLaid all [] old now done
+laid_full {rest} {now} {done} full laid =
     let past : drop done now ≡ [] = drop_all done now (omega (arith, full)) in
     let nothing : overlaid rest [] ≡ [] = drop-nil (length rest) in
     record {

@@ -29,18 +29,18 @@ use Rattle.std.proofs.lemmas.Grind.{common_steps}
 -- ==== the bytes of a held message, block by block
 
 -- a block has as many bytes as it says
-pub length-bytes_of_block : (s : DataStore) (n : ℕ) (f : Fields) → IsPlaced s f → length (bytes_of_block s (block_of n f)) ≡ f.len
-length-bytes_of_block s n f placed = length-part f.len f.offset (data_block_at s f.data_number).bytes placed.within
+pub length-bytes_of_block : {s : DataStore} (n : ℕ) {f : Fields} → IsPlaced s f → length (bytes_of_block s (block_of n f)) ≡ f.len
+length-bytes_of_block {s} n {f} placed = length-part f.len f.offset (data_block_at s f.data_number).bytes placed.within
 
 -- the bytes from a block on, without the first ones, are the rest of its bytes and those of the blocks after it
-pub bytes_from : (s : DataStore) (m : Message) (k n skip : ℕ) (f : Fields) → slice_get m k ≡ Some (block_of n f) → IsPlaced s f
+pub bytes_from : {s : DataStore} (m : Message) (k n skip : ℕ) {f : Fields} → slice_get m k ≡ Some (block_of n f) → IsPlaced s f
     → drop skip (bytes_of s (drop k m)) ≡ drop skip (bytes_of_block s (block_of n f)) ++ drop (skip - f.len) (bytes_of s (drop (k + 1) m))
-bytes_from s m k n skip f is placed =
+bytes_from {s} m k n skip {f} is placed =
     let own = bytes_of_block s (block_of n f) in
     let behind = bytes_of s (drop (k + 1) m) in
     ap (λ bs. drop skip (bytes_of s bs)) (drop_from m k (block_of n f) is)
     ∙ drop-append skip own behind
-    ∙ ap (λ l. drop skip own ++ drop (skip - l) behind) (length-bytes_of_block s n f placed)
+    ∙ ap (λ l. drop skip own ++ drop (skip - l) behind) (length-bytes_of_block n placed)
 
 -- so a message has the number of bytes that its blocks say
 pub length-bytes_of : (s : DataStore) (m : Message) → ((k : ℕ) (b : Block) → slice_get m k ≡ Some b → length (bytes_of_block s b) ≡ b.len) → length (bytes_of s m) ≡ size_of m
@@ -73,7 +73,7 @@ module _ (s : DataStore) (fields : List Fields) (placed : (n : ℕ) → n < leng
       here : (n : ℕ) → length (bytes_of_block s (block_at fields n)) ≡ (fields_at fields n).len
       here n =
           elim (cases_lt n (length fields)) [
-            | inl within ↦ length-bytes_of_block s n (fields_at fields n) (placed n within)
+            | inl within ↦ length-bytes_of_block n (placed n within)
             | inr past ↦ let none = get_or_past fields n no_fields past in ap (λ (f : Fields). length (bytes_of_block s (block_of n f))) none ∙ sym (ap (λ (f : Fields). f.len) none)
           ]
 
@@ -81,9 +81,9 @@ module _ (s : DataStore) (fields : List Fields) (placed : (n : ℕ) → n < leng
   sized = length-bytes_of s (message_of fields ns) sized_block
 
 -- the bytes from a place on are those from the block on that has the place
-pub bytes_from_start : (s : DataStore) (fields : List Fields) → ((n : ℕ) → n < length fields → IsPlaced s (fields_at fields n)) → (ns : List ℕ) (k skip at : ℕ) → size_of (take k (message_of fields ns)) + skip ≡ at
+pub bytes_from_start : (s : DataStore) (fields : List Fields) → ((n : ℕ) → n < length fields → IsPlaced s (fields_at fields n)) → (ns : List ℕ) (k skip : ℕ) {at : ℕ} → size_of (take k (message_of fields ns)) + skip ≡ at
     → drop at (bytes_of s (message_of fields ns)) ≡ drop skip (bytes_of s (drop k (message_of fields ns)))
-bytes_from_start s fields placed ns k skip at before =
+bytes_from_start s fields placed ns k skip {at} before =
     from_block (λ p bs. drop p (bytes_of s bs)) (λ b. length (bytes_of_block s b) ≡ b.len) past (message_of fields ns) (sized_block s fields placed ns) k skip at before
   where
     past : (p : ℕ) (b : Block) (bs : Message) → length (bytes_of_block s b) ≡ b.len → b.len ≤ p → drop p (bytes_of s (b ∷ bs)) ≡ drop (p - b.len) (bytes_of s bs)
@@ -92,30 +92,30 @@ bytes_from_start s fields placed ns k skip at before =
         drop-append p own (bytes_of s bs) ∙ ap (λ xs. xs ++ drop (p - length own) (bytes_of s bs)) (drop_all p own (omega (arith, passed, long))) ∙ ap (λ l. drop (p - l) (bytes_of s bs)) long
 
 -- once the bytes of a message from a place on are laid there, they are read
-pub read_all : (s : DataStore) (m : Message) → length (bytes_of s m) ≡ size_of m → (at done : ℕ) (rest old now : List ℕ) → rest ≡ [] → IsLaid (drop at (bytes_of s m)) rest old now done → IsRead s m at old now done
-read_all s m many at done rest old now none laid = grind (arith, common_steps, laid_all, length-drop)
+pub read_all : (s : DataStore) (m : Message) → length (bytes_of s m) ≡ size_of m → (at : ℕ) {done : ℕ} {rest old now : List ℕ} → rest ≡ [] → IsLaid (drop at (bytes_of s m)) rest old now done → IsRead s m at old now done
+read_all s m many at none laid = grind (arith, common_steps, laid_all, length-drop)
 
 -- once those of its only block are, too
-pub read_one : (s : DataStore) (b : Block) (at count : ℕ) (old now : List ℕ) → count ≡ min (length old) (b.len - at) → now ≡ take count (drop at (bytes_of_block s b)) ++ drop count old → IsRead s (b ∷ []) at old now count
-read_one s b at count old now counted is =
+pub read_one : (s : DataStore) (b : Block) (at : ℕ) {count : ℕ} (old : List ℕ) {now : List ℕ} → count ≡ min (length old) (b.len - at) → now ≡ take count (drop at (bytes_of_block s b)) ++ drop count old → IsRead s (b ∷ []) at old now count
+read_one s b at {count} old counted is =
     let size : b.len ≡ size_of (b ∷ []) = omega arith in
     record {
       count = counted ∙ ap (λ n. min (length old) (n - at)) size;
       bytes = is ∙ ap (λ bs. take count (drop at bs) ++ drop count old) (sym (append-nil (bytes_of_block s b)));
     }
 
-module _ (id : ℕ) (s : CountedStore) (fields : List Fields) (v : ChainLists) (filled : IsFilled s fields v (arena_of id s.store fields v)) (a : Arena) (is : arena_of id s.store fields v ≡ a) (t : TokenValue) (had : has a t ≡ true) where
+module _ {id : ℕ} {s : CountedStore} {fields : List Fields} {v : ChainLists} (filled : IsFilled s fields v (arena_of id s.store fields v)) {a : Arena} (is : arena_of id s.store fields v ≡ a) (t : TokenValue) (had : has a t ≡ true) where
   -- each block of a held message has as many bytes as it says
   bytes_each : (k : ℕ) (b : Block) → slice_get (message_at a t.head) k ≡ Some b → length (bytes_of_block a.store b) ≡ b.len
   bytes_each k b at =
       elim (slice_get (nodes_at v t.head) k) as (λ o. slice_get (nodes_at v t.head) k ≡ o → length (bytes_of_block a.store b) ≡ b.len) [
         | None ↦ λ none. absurd (none-some b (sym (block_none id s fields v filled a is t.head k none) ∙ at))
         | Some n ↦ λ some.
-            let here = block_some id s fields v filled a is t.head k t refl had n some in
+            let here = block_some id s fields v filled a is t.head k t refl had some in
             let same : block_at fields n ≡ b = same_Some (block_at fields n) b (sym here.block ∙ at) in
             ap (λ c. length (bytes_of_block a.store c)) (sym same)
             ∙ ap (λ (x : Arena). length (bytes_of_block x.store (block_at fields n))) (sym is)
-            ∙ length-bytes_of_block s.store n (fields_at fields n) here.placed
+            ∙ length-bytes_of_block n here.placed
             ∙ ap (λ (c : Block). c.len) same
       ] refl
 
@@ -130,8 +130,8 @@ module _ (id : ℕ) (s : CountedStore) (fields : List Fields) (v : ChainLists) (
 -- ==== the lengths of a held message's blocks, summed up one by one
 
 -- the sum from a place on is that of the block there, and that of the blocks after it
-pub sum_from : {X : Type 0} (f : X → ℕ) (xs : List X) (k : ℕ) (x : X) → slice_get xs k ≡ Some x → sum_by f (drop k xs) ≡ f x + sum_by f (drop (k + 1) xs)
-sum_from f xs k x is = omega (arith, ap (sum_by f) (drop_from xs k x is), sum_by-append f (x ∷ []) (drop (k + 1) xs))
+pub sum_from : {X : Type 0} (f : X → ℕ) (xs : List X) (k : ℕ) {x : X} → slice_get xs k ≡ Some x → sum_by f (drop k xs) ≡ f x + sum_by f (drop (k + 1) xs)
+sum_from f xs k {x} is = omega (arith, ap (sum_by f) (drop_from xs k x is), sum_by-append f (x ∷ []) (drop (k + 1) xs))
 
 -- no more counts than there is
 pub counted_most : (data_alone : Bool) (s : DataStore) (m : Message) → sum_by (len_counted data_alone s) m ≤ size_of m
@@ -155,12 +155,12 @@ all_counted s (b ∷ m) =
     one false = refl
 
 -- the most bytes that a held message has
-pub message_small : (id : ℕ) (s : CountedStore) (fields : List Fields) (v : ChainLists) → IsFilled s fields v (arena_of id s.store fields v) → (t : TokenValue) → has (arena_of id s.store fields v) t ≡ true
+pub message_small : {id : ℕ} {s : CountedStore} {fields : List Fields} {v : ChainLists} → IsFilled s fields v (arena_of id s.store fields v) → (t : TokenValue) → has (arena_of id s.store fields v) t ≡ true
     → size_of (message_at (arena_of id s.store fields v) t.head) ≤ most_message_blocks * most_data_block_bytes
-message_small id s fields v filled t is =
+message_small {id} {s} {fields} {v} filled t is =
     let a = arena_of id s.store fields v in
     let had = had_message a t is in
-    let nodes = held_nodes id s.store fields v t.head had.0 had.1.held in
+    let nodes = held_nodes id s.store fields v t.head had.1.held in
     omega (
       arith,
       flat_map-set_adds length_adds blocks_of a.held t.head None None (held_within a t.head had.0 had.1.held),
@@ -169,17 +169,17 @@ message_small id s fields v filled t is =
       ap size_of nodes.1.message,
       ap length nodes.1.message,
       length-map nodes.0 (block_at fields),
-      size_most fields nodes.0 (len_most id s fields v filled),
-      all_there id s fields v filled,
+      size_most fields nodes.0 (len_most filled),
+      all_there filled,
       filled.few,
       filled.listed,
     )
 
 -- and so they are counted in 32 bits
-pub nodes_small : (id : ℕ) (s : CountedStore) (fields : List Fields) (v : ChainLists) → IsFilled s fields v (arena_of id s.store fields v) → (a : Arena) → arena_of id s.store fields v ≡ a → (t : TokenValue) → has a t ≡ true
+pub nodes_small : {id : ℕ} {s : CountedStore} {fields : List Fields} {v : ChainLists} → IsFilled s fields v (arena_of id s.store fields v) → {a : Arena} → arena_of id s.store fields v ≡ a → (t : TokenValue) → has a t ≡ true
     → size_of (message_of fields (nodes_at v t.head)) < 2 ^ 32
-nodes_small id s fields v filled a is t had = grind (arith, common_steps, message_small, message_at-seen)
+nodes_small filled is t had = grind (arith, common_steps, message_small, message_at-seen)
 
 -- the lengths of a message can be summed up along its chain
-pub summable : (id : ℕ) (s : CountedStore) (fields : List Fields) (v : ChainLists) → IsFilled s fields v (arena_of id s.store fields v) → (h : ℕ) (ns : List ℕ) → chain_of v h ≡ ns → slice_get ns 0 ≡ Some h → h < length v.held → size_of (message_of fields ns) < 2 ^ 32 → IsSummable v fields s.store h
-summable id s fields v filled h ns is begins there small = grind (arith, common_steps)
+pub summable : {id : ℕ} {s : CountedStore} {fields : List Fields} {v : ChainLists} → IsFilled s fields v (arena_of id s.store fields v) → {h : ℕ} {ns : List ℕ} → chain_of v h ≡ ns → slice_get ns 0 ≡ Some h → h < length v.held → size_of (message_of fields ns) < 2 ^ 32 → IsSummable v fields s.store h
+summable filled is begins there small = grind (arith, common_steps)

@@ -149,7 +149,7 @@ on_shelf h (x ∷ xs) some there once =
 
 -- ---- a held message goes on a shelf
 
-module _ (id : ℕ) (s : CountedStore) (fields : List Fields) (v : ChainLists) (filled : IsFilled s fields v (arena_of id s.store fields v)) (h : ℕ) (m : Message) (held : held_at (arena_of id s.store fields v) h ≡ Some m) where
+module _ {id : ℕ} {s : CountedStore} {fields : List Fields} {v : ChainLists} (filled : IsFilled s fields v (arena_of id s.store fields v)) (h : ℕ) {m : Message} (held : held_at (arena_of id s.store fields v) h ≡ Some m) where
   abbrev old : Arena
   old = arena_of id s.store fields v
 
@@ -158,7 +158,7 @@ module _ (id : ℕ) (s : CountedStore) (fields : List Fields) (v : ChainLists) (
   shelving_room =
       omega (
         arith,
-        all_there id s fields v filled,
+        all_there filled,
         filled.listed,
         filled.few,
         flat_map-set_adds length_adds blocks_of old.held h None None (held_within old h m held),
@@ -166,7 +166,7 @@ module _ (id : ℕ) (s : CountedStore) (fields : List Fields) (v : ChainLists) (
         length-map (nodes_at v h) (block_at fields),
       )
 
-  module _ (q : ℕ) (before : Option ℕ) (w : ChainLists) (inside : q < length old.shelves)
+  module _ (q : ℕ) (before : Option ℕ) {w : ChainLists} (inside : q < length old.shelves)
       (w_is : w ≡ record v { held = set v.held h None; shelves = set v.shelves q (put_before_head head_node before (nodes_at v h) (shelf_in v.shelves q)) }) (parted : IsLawful w) where
     pub shelve_shows : arena_of id s.store fields w ≡ shelve q before h old
     shelve_shows =
@@ -179,7 +179,7 @@ module _ (id : ℕ) (s : CountedStore) (fields : List Fields) (v : ChainLists) (
 
     pub shelve_filled : IsFilled s fields w (arena_of id s.store fields w)
     shelve_filled =
-        moved_filled id s fields v w filled (ap (λ (l : ChainLists). l.free) w_is) (ap (λ (l : ChainLists). length l.held) w_is ∙ length-set v.held h None) parted
+        moved_filled filled (ap (λ (l : ChainLists). l.free) w_is) (ap (λ (l : ChainLists). length l.held) w_is ∙ length-set v.held h None) parted
 
     pub shelve_queued : length (shelved_blocks (arena_of id s.store fields w)) ≡ length (shelved_blocks old) + length (nodes_at v h)
     shelve_queued =
@@ -204,7 +204,7 @@ pub record IsUnshelved (a : Arena) (s : CountedStore) (fields : List Fields) (w 
   pub unheld : held_at a h ≡ None
   pub after : arena_of id s.store fields w ≡ unshelve q h a
 
-module _ (id : ℕ) (s : CountedStore) (fields : List Fields) (v : ChainLists) (filled : IsFilled s fields v (arena_of id s.store fields v)) (q h : ℕ)
+module _ {id : ℕ} {s : CountedStore} {fields : List Fields} {v : ChainLists} (filled : IsFilled s fields v (arena_of id s.store fields v)) (q h : ℕ)
     (inside : q < length (arena_of id s.store fields v).shelves) (there : has h (heads_at (arena_of id s.store fields v) q) ≡ true) where
   abbrev was : Arena
   was = arena_of id s.store fields v
@@ -216,8 +216,8 @@ module _ (id : ℕ) (s : CountedStore) (fields : List Fields) (v : ChainLists) (
   -- the message
   found : (m : Message) × IsOnShelf (shelf_at was q) h m
   found =
-      on_shelf h (shelf_at was q) ((law_parted id s fields v filled).chains.shelved q) there
-      (omega (arith, on_one (number_is h), once was s (counted id s fields v filled) h, blocks_in_adds (count_adds (number_is h)) was))
+      on_shelf h (shelf_at was q) ((law_parted filled).chains.shelved q) there
+      (omega (arith, on_one (number_is h), once (counted filled) h, blocks_in_adds (count_adds (number_is h)) was))
 
   -- its blocks are on the shelf
   leaves : {n : List Block → ℕ} → IsAdditive n → n (flat_map (λ x. x) (without_head head_of h (shelf_at was q))) + n found.0 ≡ n (flat_map (λ x. x) (shelf_at was q))
@@ -228,15 +228,15 @@ module _ (id : ℕ) (s : CountedStore) (fields : List Fields) (v : ChainLists) (
   shelved_there = omega (arith, head_counts found.0 h found.1.some found.1.begins, leaves (count_adds (number_is h)), on_one (number_is h))
 
   shelved_unheld : held_at was h ≡ None
-  shelved_unheld = not_held was s (counted id s fields v filled) h (omega (arith, shelved_there))
+  shelved_unheld = not_held (counted filled) h (omega (arith, shelved_there))
 
   shelved_within : h < length was.held
-  shelved_within = within was s (counted id s fields v filled) h (omega (arith, shelved_there, blocks_in_adds (count_adds (number_is h)) was))
+  shelved_within = within (counted filled) h (omega (arith, shelved_there, blocks_in_adds (count_adds (number_is h)) was))
 
   found_is : with_head head_of h (shelf_at was q) ≡ Some found.0
   found_is = ap (λ ms. slice_get ms 0) found.1.alone
 
-  module _ (w : ChainLists)
+  module _ {w : ChainLists}
       (w_is : w ≡ record v { held = set v.held h (with_head head_node h (shelf_in v.shelves q)); shelves = set v.shelves q (without_head head_node h (shelf_in v.shelves q)) }) (parted : IsLawful w) where
     abbrev now : Arena
     now = arena_of id s.store fields w
@@ -271,7 +271,7 @@ module _ (id : ℕ) (s : CountedStore) (fields : List Fields) (v : ChainLists) (
     pub unshelves : IsUnshelved was s fields w id q h
     unshelves = record {
       message = found.0;
-      filled = moved_filled id s fields v w filled (ap (λ (l : ChainLists). l.free) w_is) (ap (λ (l : ChainLists). length l.held) w_is ∙ length-set v.held h _) parted;
+      filled = moved_filled filled (ap (λ (l : ChainLists). l.free) w_is) (ap (λ (l : ChainLists). length l.held) w_is ∙ length-set v.held h _) parted;
       held = unshelve_held;
       many = unshelve_len;
       queued = unshelve_queued;
@@ -291,9 +291,9 @@ record IsInRow (ms : List (List ℕ)) (h : ℕ) : Type 0 where
   begins : slice_get nodes 0 ≡ Some h
 
 -- a list that isn't empty begins with its head
-begins_with_head : (ns : List ℕ) (h : ℕ) → 0 < length ns → head_node ns ≡ h → slice_get ns 0 ≡ Some h
-begins_with_head [] h some is = absurd (omega arith)
-begins_with_head (n ∷ ns) h some is = ap Some is
+begins_with_head : (ns : List ℕ) {h : ℕ} → 0 < length ns → head_node ns ≡ h → slice_get ns 0 ≡ Some h
+begins_with_head [] some is = absurd (omega arith)
+begins_with_head (n ∷ ns) some is = ap Some is
 
 in_row : (h : ℕ) (ms : List (List ℕ)) → All (λ m. 0 < length m) ms → has h (map head_node ms) ≡ true → IsInRow ms h
 in_row h [] some there = absurd (false≢true there)
@@ -306,7 +306,7 @@ in_row h (x ∷ xs) some there =
             others = filter (λ m. head_node m == h) xs;
             picked = cond-true _ _ _ (eq-eqb (head_node x) h same);
             at = refl;
-            begins = begins_with_head x h (some 0 [] (omega arith)) same;
+            begins = begins_with_head x (some 0 [] (omega arith)) same;
           }
       | inr other ↦
           let later : has h (map head_node xs) ≡ true = elim (has_cases (head_node x) h (map head_node xs) there) [ inl here ↦ absurd (other here) | inr rest ↦ rest ] in
@@ -344,8 +344,8 @@ record IsOnSome (shelves : List (List (List ℕ))) (h : ℕ) : Type 0 where
   begins : slice_get nodes 0 ≡ Some h
 
 -- one that is found past the first shelf, where that has none
-on_rest : (h : ℕ) (ms : List (List ℕ)) (shelves : List (List (List ℕ))) → has h (map head_node ms) ≡ false → IsOnSome shelves h → IsOnSome (ms ∷ shelves) h
-on_rest h ms shelves none found = record {
+on_rest : {h : ℕ} (ms : List (List ℕ)) {shelves : List (List (List ℕ))} → has h (map head_node ms) ≡ false → IsOnSome shelves h → IsOnSome (ms ∷ shelves) h
+on_rest {h} ms {shelves} none found = record {
   nodes = found.nodes;
   shelf = suc found.shelf;
   place = found.place;
@@ -373,7 +373,7 @@ on_some h (ms ∷ shelves) q some there = elim (has h (map head_node ms)) as (λ
   | false ↦ λ none.
       elim q as (λ p. has h (map head_node (shelf_in (ms ∷ shelves) p)) ≡ true → IsOnSome (ms ∷ shelves) h) [
         | zero ↦ λ here. absurd (false≢true (sym none ∙ here))
-        | suc p ↦ λ later. on_rest h ms shelves none (on_some h shelves p (λ s. some (suc s)) later)
+        | suc p ↦ λ later. on_rest ms none (on_some h shelves p (λ s. some (suc s)) later)
       ] there
 ] refl
 
@@ -409,7 +409,7 @@ module _ (id : ℕ) (s : CountedStore) (fields : List Fields) (v : ChainLists) (
       let message : shelved_message a h ≡ message_of fields is.nodes =
       ap (λ ms. blocks_of (with_head head_of h ms)) (rows-seen fields v.shelves)
       ∙ ap blocks_of (sym (with-seen fields h (flat_map (λ ms. ms) v.shelves)) ∙ ap (option_map (message_of fields)) is.first) in
-      let there : h < length fields = omega (arith, shelved_within id s fields v filled shelf.0 h on.0 on.1, length-map v.held (option_map (message_of fields)), filled.listed) in
+      let there : h < length fields = omega (arith, shelved_within filled shelf.0 h on.0 on.1, length-map v.held (option_map (message_of fields)), filled.listed) in
       record {
         nodes = is.nodes;
         shelf = is.shelf;
@@ -422,8 +422,8 @@ module _ (id : ℕ) (s : CountedStore) (fields : List Fields) (v : ChainLists) (
         placed = filled.placed h there;
       }
 
-  pub is_head : (a : Arena) → arena_of id s.store fields v ≡ a → (h : ℕ) → is_some (shelf_of a h) ≡ true → IsHead s fields v a h
-  is_head a is h some = subst (λ b. IsHead s fields v b h) is (heads_there h (ap (λ b. is_some (shelf_of b h)) is ∙ some))
+  pub is_head : {a : Arena} → arena_of id s.store fields v ≡ a → (h : ℕ) → is_some (shelf_of a h) ≡ true → IsHead s fields v a h
+  is_head is h some = subst (λ b. IsHead s fields v b h) is (heads_there h (ap (λ b. is_some (shelf_of b h)) is ∙ some))
 
 -- a message of a shelf is among all of it
 among_row : (ms : List (List ℕ)) (k : ℕ) → length (get_or ms k []) ≤ length (flat_map (λ m. m) ms)
@@ -437,9 +437,9 @@ among_rows [] q k = omega arith
 among_rows (ms ∷ shelves) zero k = omega (arith, among_row ms k, length-append (flat_map (λ m. m) ms) (blocks_on shelves))
 among_rows (ms ∷ shelves) (suc q) k = omega (arith, among_rows shelves q k, length-append (flat_map (λ m. m) ms) (blocks_on shelves))
 
-module _ (id : ℕ) (s : CountedStore) (fields : List Fields) (v : ChainLists) (filled : IsFilled s fields v (arena_of id s.store fields v)) (a : Arena) (is : arena_of id s.store fields v ≡ a) (h : ℕ) (some : is_some (shelf_of a h) ≡ true) where
+module _ (id : ℕ) (s : CountedStore) (fields : List Fields) {v : ChainLists} (filled : IsFilled s fields v (arena_of id s.store fields v)) {a : Arena} (is : arena_of id s.store fields v ≡ a) (h : ℕ) (some : is_some (shelf_of a h) ≡ true) where
   head : IsHead s fields v a h
-  head = is_head id s fields v filled a is h some
+  head = is_head id s fields v filled is h some
 
   -- no message on a shelf has more blocks than all
   few_blocks : length (shelved_message a h) ≤ length (shelved_blocks a)
@@ -463,9 +463,9 @@ module _ (id : ℕ) (s : CountedStore) (fields : List Fields) (v : ChainLists) (
     ap length head.message,
     length-map head.nodes (block_at fields),
     ap size_of head.message,
-    size_most fields head.nodes (len_most id s fields v filled),
+    size_most fields head.nodes (len_most filled),
     ap (λ x. length (shelved_blocks x)) is,
-    all_there id s fields v filled,
+    all_there filled,
     filled.few,
     filled.listed,
   )

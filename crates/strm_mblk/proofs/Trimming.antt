@@ -127,9 +127,9 @@ pub record IsMeasured (from_tail : Bool) (s : DataStore) (fields : List Fields) 
   pub sums : size_of (message_of fields (take (length ns - r.blocks) ns)) + r.size + size_of (message_of fields (drop i ns)) ≡ size_of (message_of fields ns)
 
 module _ (from_tail : Bool) (s : DataStore) (fields : List Fields) where
-  first_size : (ns : List ℕ) (h : ℕ) → slice_get ns 0 ≡ Some h → measured from_tail s (kind_of s (block_at fields h)) 0 (message_of fields ns) ≡ size_of (run_of s (from_end from_tail (message_of fields ns)))
-  first_size [] h begun = absurd (none-some h begun)
-  first_size (n ∷ ns) h begun =
+  first_size : (ns : List ℕ) {h : ℕ} → slice_get ns 0 ≡ Some h → measured from_tail s (kind_of s (block_at fields h)) 0 (message_of fields ns) ≡ size_of (run_of s (from_end from_tail (message_of fields ns)))
+  first_size [] {h} begun = absurd (none-some h begun)
+  first_size (n ∷ ns) {h} begun =
       ap (λ k. measured from_tail s (kind_of s (block_at fields k)) 0 (message_of fields (n ∷ ns))) (sym (same_Some n h begun)) ∙ measured_all from_tail s (block_at fields n) (message_of fields ns)
 
   -- the bytes of both parts of a message
@@ -144,14 +144,14 @@ module _ (from_tail : Bool) (s : DataStore) (fields : List Fields) where
 
   module _ (ns : List ℕ) where
     -- the first block begins a run, of which nothing has been measured
-    pub first_measured : (h : ℕ) → slice_get ns 0 ≡ Some h → IsMeasured from_tail s fields ns 0 (record { first = h; blocks = length ns; size = 0; kind = kind_of s (block_at fields h) })
-    first_measured h begun = grind (arith, common_steps, first_size)
+    pub first_measured : {h : ℕ} → slice_get ns 0 ≡ Some h → IsMeasured from_tail s fields ns 0 (record { first = h; blocks = length ns; size = 0; kind = kind_of s (block_at fields h) })
+    first_measured begun = grind (arith, common_steps, first_size)
 
     -- no block comes next
-    pub all_measured : (i : ℕ) (r : Run) → IsMeasured from_tail s fields ns i r → drop i ns ≡ [] → IsRun from_tail s fields ns r
-    all_measured i r at none = grind (arith, common_steps)
+    pub all_measured : {i : ℕ} {r : Run} → IsMeasured from_tail s fields ns i r → drop i ns ≡ [] → IsRun from_tail s fields ns r
+    all_measured at none = grind (arith, common_steps)
 
-    module _ (i n : ℕ) (r : Run) (at : IsMeasured from_tail s fields ns i r) (here : slice_get ns i ≡ Some n) where
+    module _ (i : ℕ) {n : ℕ} {r : Run} (at : IsMeasured from_tail s fields ns i r) (here : slice_get ns i ≡ Some n) where
       abbrev b : Block
       b = block_at fields n
 
@@ -219,14 +219,14 @@ cut_ahead (suc i) n [] fields = refl
 cut_ahead (suc i) n (k ∷ ks) fields = grind (arith, common_steps, (cut_ahead i n ks fields), size_front, set-get_or)
 
 -- the next block is cut, and those after it are left
-pub cut_next : (from_tail : Bool) (n : ℕ) (ks : List ℕ) (i k : ℕ) (fields : List Fields) → slice_get ks i ≡ Some k
+pub cut_next : (from_tail : Bool) (n : ℕ) (ks : List ℕ) (i : ℕ) {k : ℕ} (fields : List Fields) → slice_get ks i ≡ Some k
     → with_bytes_cut from_tail (n - (fields_at fields k).len) (drop (i + 1) ks) (set fields k (fields_cut from_tail n (fields_at fields k))) ≡ with_bytes_cut from_tail n (drop i ks) fields
-cut_next from_tail n ks i k fields is = ap (λ js. with_bytes_cut from_tail n js fields) (sym (drop_from ks i k is))
+cut_next from_tail n ks i {k} fields is = ap (λ js. with_bytes_cut from_tail n js fields) (sym (drop_from ks i k is))
 
 -- places that are small stay so
-pub cut_small : (from_tail : Bool) (n k : ℕ) (fields : List Fields) → ((j : ℕ) → j < length fields → (fields_at fields j).offset + (fields_at fields j).len < 2 ^ 32) → (x : Fields) → x ≡ fields_cut from_tail n (fields_at fields k)
+pub cut_small : (from_tail : Bool) (n k : ℕ) (fields : List Fields) → ((j : ℕ) → j < length fields → (fields_at fields j).offset + (fields_at fields j).len < 2 ^ 32) → {x : Fields} → x ≡ fields_cut from_tail n (fields_at fields k)
     → (j : ℕ) → j < length (set fields k x) → (fields_at (set fields k x) j).offset + (fields_at (set fields k x) j).len < 2 ^ 32
-cut_small from_tail n k fields small x is j within = grind (arith, common_steps, cut_least, length-set)
+cut_small from_tail n k fields small is j within = grind (arith, common_steps, cut_least, length-set)
 
 -- ---- all of a message
 
@@ -322,16 +322,16 @@ cut_is (pos n) s m = grind (arith, common_steps, cut_along, le-ltb)
 cut_is (negsuc n) s m = ap (λ bs. if nat_lt (size_of (run_of s (from_end true m))) (unsigned_abs (negsuc n)) then Err Short else Ok bs) (cut_back-keeps (unsigned_abs (negsuc n)) m)
 
 -- cut from the run on, a message is cut where it is from its first block on
-cut_run : (from_tail : Bool) (s : DataStore) (fields : List Fields) (ns : List ℕ) (r : Run) → IsRun from_tail s fields ns r → (n : ℕ) → n ≤ r.size
+cut_run : (from_tail : Bool) {s : DataStore} {fields : List Fields} {ns : List ℕ} {r : Run} → IsRun from_tail s fields ns r → (n : ℕ) → n ≤ r.size
     → with_bytes_cut from_tail (ahead from_tail n r.size) (drop (length ns - r.blocks) ns) fields ≡ with_bytes_cut from_tail (ahead from_tail n (size_of (message_of fields ns))) ns fields
-cut_run false s fields ns r run n enough = ap (λ i. with_bytes_cut false n (drop i ns) fields) (let e : length ns - r.blocks ≡ 0 = omega (arith, run.leading refl) in e)
-cut_run true s fields ns r run n enough =
+cut_run false {fields} {ns} {r} run n enough = ap (λ i. with_bytes_cut false n (drop i ns) fields) (let e : length ns - r.blocks ≡ 0 = omega (arith, run.leading refl) in e)
+cut_run true {fields} {ns} {r} run n enough =
     let all : size_of (message_of fields (take (length ns - r.blocks) ns)) + (r.size - n) ≡ size_of (message_of fields ns) - n = omega (arith, run.trailing refl) in
     sym (cut_ahead (length ns - r.blocks) (r.size - n) ns fields) ∙ ap (λ k. with_bytes_cut true k ns fields) all
 
 -- places lie in a data block, and so they are small
-pub ends_small : (id : ℕ) (s : CountedStore) (fields : List Fields) (v : ChainLists) → IsFilled s fields v (arena_of id s.store fields v) → (n : ℕ) → n < length fields → (fields_at fields n).offset + (fields_at fields n).len < 2 ^ 32
-ends_small id s fields v filled n within = grind (arith, common_steps, capacity_range)
+pub ends_small : {id : ℕ} {s : CountedStore} {fields : List Fields} {v : ChainLists} → IsFilled s fields v (arena_of id s.store fields v) → (n : ℕ) → n < length fields → (fields_at fields n).offset + (fields_at fields n).len < 2 ^ 32
+ends_small filled n within = grind (arith, common_steps, capacity_range)
 
 -- what is there once the bytes are cut: `a` is what was there
 pub record IsAdjusted (a : Arena) (s : CountedStore) (fields : List Fields) (v : ChainLists) (id : ℕ) (z : ℤ) (t : TokenValue) : Type 0 where
@@ -351,7 +351,7 @@ module _ (id : ℕ) (s : CountedStore) (fields : List Fields) (v : ChainLists) (
   had = had_message old t has
 
   of_message : (ns : List ℕ) × AreHeld fields v t.head had.0 ns
-  of_message = held_nodes id s.store fields v t.head had.0 had.1.held
+  of_message = held_nodes id s.store fields v t.head had.1.held
 
   held : held_in v.held t.head ≡ Some nodes
   held = of_message.1.held ∙ ap Some (sym (ap blocks_of of_message.1.held))
@@ -364,19 +364,19 @@ module _ (id : ℕ) (s : CountedStore) (fields : List Fields) (v : ChainLists) (
     change = grind (arith, common_steps, length-cut, cut_named, cut_apart)
 
     shows : arena_of id s.store now v ≡ record old { held = set old.held t.head (Some (message_of now nodes)) }
-    shows = message_shows id s fields v filled t.head nodes held s.store now change.apart
+    shows = message_shows filled t.head held s.store now change.apart
 
     done : unsigned_abs z ≤ size_of (run_of s.store (from_end (is_negative z) (message_of fields nodes))) → adjmsg t.head z old ≡ Ok (tt, arena_of id s.store now v)
     done enough =
         let with_message : Message → Arena = λ m. record old { held = set old.held t.head (Some m) } in
         ap (λ m. answer_map (λ x. (tt, with_message x)) (message_cut z s.store m)) (message_at-seen id s.store fields v t.head)
         ∙ ap (answer_map (λ x. (tt, with_message x))) (cut_is z s.store (message_of fields nodes) ∙ cond-false _ _ _ (le-ltb _ (unsigned_abs z) enough))
-        ∙ ap (λ m. Ok (tt, with_message m)) (sym (nodes_cut (is_negative z) nodes _ fields (once_within id s fields v filled t.head nodes held) (within_room id s fields v filled t.head nodes held)))
+        ∙ ap (λ m. Ok (tt, with_message m)) (sym (nodes_cut (is_negative z) nodes _ fields (once_within filled t.head held) (within_room filled t.head held)))
         ∙ ap (λ (a : Arena). Ok (tt, a)) (sym shows)
 
     adjusts : unsigned_abs z ≤ size_of (run_of s.store (from_end (is_negative z) (message_of fields nodes))) → IsAdjusted old s now v id z t
     adjusts enough = record {
-      filled = message_filled id s fields v filled t.head nodes held s now change filled.kept refl (cut_placed (is_negative z) s.store nodes (ahead (is_negative z) (unsigned_abs z) (size_of (message_of fields nodes))) fields filled.placed);
+      filled = message_filled filled t.head held s change filled.kept refl (cut_placed (is_negative z) s.store nodes (ahead (is_negative z) (unsigned_abs z) (size_of (message_of fields nodes))) fields filled.placed);
       done = done enough;
       shelved = ap shelved_blocks shows;
       had =
@@ -386,6 +386,6 @@ module _ (id : ℕ) (s : CountedStore) (fields : List Fields) (v : ChainLists) (
     }
 
     -- it was cut from the run on
-    pub run_adjusts : (r : Run) → IsRun (is_negative z) s.store fields nodes r → unsigned_abs z ≤ r.size
+    pub run_adjusts : {r : Run} → IsRun (is_negative z) s.store fields nodes r → unsigned_abs z ≤ r.size
         → IsAdjusted old s (with_bytes_cut (is_negative z) (ahead (is_negative z) (unsigned_abs z) r.size) (drop (length nodes - r.blocks) nodes) fields) v id z t
-    run_adjusts r run enough = subst (λ fs. IsAdjusted old s fs v id z t) (sym (cut_run (is_negative z) s.store fields nodes r run (unsigned_abs z) enough)) (adjusts (omega (arith, run.size)))
+    run_adjusts {r} run enough = subst (λ fs. IsAdjusted old s fs v id z t) (sym (cut_run (is_negative z) run (unsigned_abs z) enough)) (adjusts (omega (arith, run.size)))

@@ -16,28 +16,28 @@ use Rattle.strm_mblk.proofs.arena.Counts.{held_within, had_again, had_is, had_me
 use Rattle.std.proofs.lemmas.Grind.{common_steps}
 
 -- a call that answers a refusal was refused
-pub refused_is : {V X : Type 0} (call : Given V X) (why : Refusal) → answer_of call ≡ Err why → call ≡ Err why
-refused_is (Ok given) why is = absurd cc
-refused_is (Err other) why is = let same : other ≡ why = cc in ap (λ (x : Refusal). Err x) same
+pub refused_is : {V X : Type 0} (call : Given V X) {why : Refusal} → answer_of call ≡ Err why → call ≡ Err why
+refused_is (Ok given) is = absurd cc
+refused_is (Err other) {why} is = let same : other ≡ why = cc in ap (λ (x : Refusal). Err x) same
 
 module _ (a b : Arena) (source : Option TokenValue) (call : Given Arena ℕ) where
   -- a message was made
-  pub gives : (t : TokenValue) (h : ℕ) (m : Message) → call ≡ Ok (h, b) → t ≡ token_of b h → held_at b h ≡ Some m → held_at a h ≡ None → IfSome source (λ s. has b s ≡ true) → Making a call
+  pub gives : {t : TokenValue} (h : ℕ) {m : Message} → call ≡ Ok (h, b) → t ≡ token_of b h → held_at b h ≡ Some m → held_at a h ≡ None → IfSome source (λ s. has b s ≡ true) → Making a call
       → Gives itself source call a b (Ok t)
-  gives t h m is token held absent kept leaves = grind (arith, common_steps, leaves_given, token_had)
+  gives h is token held absent kept leaves = grind (arith, common_steps, leaves_given, token_had)
 
   -- none was
-  pub gives_none : (why : Refusal) → call ≡ Err why → b ≡ a → IfSome source (λ s. has a s ≡ true) → Gives itself source call a b (Err why)
-  gives_none why is same kept = grind (arith, common_steps, leaves_same)
+  pub gives_none : {why : Refusal} → call ≡ Err why → b ≡ a → IfSome source (λ s. has a s ≡ true) → Gives itself source call a b (Err why)
+  gives_none is same kept = grind (arith, common_steps, leaves_same)
 
 module _ {X : Type 0} (a b : Arena) (t : TokenValue) (call : Given Arena X) where
   -- a message was altered
-  pub alters : (x : X) (u : TokenValue) → call ≡ Ok (x, b) → u ≡ token_of b t.head → has b u ≡ true → Leaves (t.head ∷ []) a (value_after a call) → Alters itself t u call a b (Ok x)
-  alters x u is token had left = grind (arith, common_steps)
+  pub alters : (x : X) {u : TokenValue} → call ≡ Ok (x, b) → u ≡ token_of b t.head → has b u ≡ true → Leaves (t.head ∷ []) a (value_after a call) → Alters itself t u call a b (Ok x)
+  alters x is token had left = grind (arith, common_steps)
 
   -- it was, and has as many blocks as before
   pub alters_kept : (x : X) → call ≡ Ok (x, b) → has b t ≡ true → Leaves (t.head ∷ []) a (value_after a call) → Alters itself t t call a b (Ok x)
-  alters_kept x is had left = alters x t is (had_is b t had) had left
+  alters_kept x is had left = alters x is (had_is b t had) had left
 
   pub alters_to : (x : X) → call ≡ Ok (x, b) → has b t ≡ true → Leaves (t.head ∷ []) a b → Alters itself t t call a b (Ok x)
   alters_to x is had left = alters_kept x is had (subst (Leaves (t.head ∷ []) a) (sym (ap (value_after a) is)) left)
@@ -62,23 +62,23 @@ alters_fields a b t k c had call given now is =
     (alters_to a (with_block t.head k c a) t call given is (had_with_block a a.store t k c had) (leaves_fields a t.head k c))
 
 -- block k of the message that a token names alone uses its data block, which becomes another
-module _ (a b : Arena) (t : TokenValue) (k : ℕ) (x : Block) (own : own_block t.head k a ≡ Ok x) (had : has a t ≡ true) (s : DataStore) (same : (d : ℕ) → d ≢ x.data_number → data_block_at s d ≡ data_block_at a.store d)
+module _ (a b : Arena) (t : TokenValue) (k : ℕ) {x : Block} (own : own_block t.head k a ≡ Ok x) (had : has a t ≡ true) (s : DataStore) (same : (d : ℕ) → d ≢ x.data_number → data_block_at s d ≡ data_block_at a.store d)
     {X : Type 0} (call : Given Arena X) (given : X) where
   pub alters_store : b ≡ record a { store = s } → call ≡ Ok (given, record a { store = s }) → Alters itself t t call a b (Ok given)
   alters_store now is =
       subst (λ c. Alters itself t t call a c (Ok given)) (sym now)
-      (alters_to a (record a { store = s }) t call given is had (leaves_with_store a t.head k x own s same))
+      (alters_to a (record a { store = s }) t call given is had (leaves_with_store a t.head k own s same))
 
   -- and the block, too
   pub alters_block : (c : Block) → b ≡ with_block t.head k c (record a { store = s }) → call ≡ Ok (given, with_block t.head k c (record a { store = s })) → Alters itself t t call a b (Ok given)
   alters_block c now is =
       subst (λ d. Alters itself t t call a d (Ok given)) (sym now)
-      (alters_to a (with_block t.head k c (record a { store = s })) t call given is (had_with_block a s t k c had) (leaves_with_block a t.head k x own s same c))
+      (alters_to a (with_block t.head k c (record a { store = s })) t call given is (had_with_block a s t k c had) (leaves_with_block a t.head k own s same c))
 
 -- bytes are lent
-pub lends : {X R : Type 0} (a b : Arena) (t : TokenValue) (closure : List ℕ → R → List ℕ → Type 0) (lent : Result (List ℕ) Refusal) (call : R → List ℕ → Given Arena X) (bytes : List ℕ) (r : R) (result : Result X Refusal)
+pub lends : {X R : Type 0} (a b : Arena) (t : TokenValue) (closure : List ℕ → R → List ℕ → Type 0) {lent : Result (List ℕ) Refusal} (call : R → List ℕ → Given Arena X) {bytes : List ℕ} (r : R) (result : Result X Refusal)
     → lent ≡ Ok bytes → Edits closure bytes r (λ left. Alters itself t t (call r left) a b result) → Lends itself t closure lent call a b result
-lends {R} a b t closure lent call bytes r result is edits =
+lends {R} a b t closure call r result is edits =
     subst (λ (l : Result (List ℕ) Refusal). MatchResult l (λ bs. (x : R) × Edits closure bs x (λ left. Alters itself t t (call x left) a b result)) (λ why. Alters itself t t (Err why) a b result)) (sym is)
     (r, edits)
 

@@ -55,7 +55,7 @@ pub record IsCounted (a : Arena) (s : CountedStore) : Type 0 where
   pub heads : (h : ℕ) → IfSome (held_at a h) (λ m. (0 < length m) × (head_of m ≡ h))
   pub counts : (d : ℕ) → count_of s d ≡ references_to a d
 
-module _ (a : Arena) (s : CountedStore) (counted : IsCounted a s) where
+module _ {a : Arena} {s : CountedStore} (counted : IsCounted a s) where
   pub numbers_sum : (n : ℕ) → times n a.free + blocks_numbered a n ≡ (if ltb n (length a.held) then 1 else 0)
   numbers_sum n = sym (times-all n a) ∙ counted.numbers n
 
@@ -78,10 +78,10 @@ held_among a p h inside = omega (arith, flat_map-set_adds (count_adds p) blocks_
 pub held_within : (a : Arena) (h : ℕ) (m : Message) → held_at a h ≡ Some m → h < length a.held
 held_within a h m is = grind (arith, common_steps, get_or_past)
 
-module _ (a : Arena) (s : CountedStore) (counted : IsCounted a s) where
+module _ {a : Arena} {s : CountedStore} (counted : IsCounted a s) where
   -- a held message is found where its number would be
-  pub held_there : (h : ℕ) (m : Message) → held_at a h ≡ Some m → 0 < count_by (number_is h) (held_blocks a)
-  held_there h m is =
+  pub held_there : (h : ℕ) {m : Message} → held_at a h ≡ Some m → 0 < count_by (number_is h) (held_blocks a)
+  held_there h {m} is =
       let facts : (0 < length m) × (head_of m ≡ h) = subst (λ o. IfSome o (λ x. (0 < length x) × (head_of x ≡ h))) is (counted.heads h) in
       omega (arith, head_counts m h facts.0 facts.1, held_among a (number_is h) h (held_within a h m is), ap (λ o. count_by (number_is h) (blocks_of o)) is)
 
@@ -90,17 +90,17 @@ module _ (a : Arena) (s : CountedStore) (counted : IsCounted a s) where
   not_held n elsewhere =
       elim (held_at a n) as (λ o. held_at a n ≡ o → o ≡ None) [
         | None ↦ λ _. refl
-        | Some m ↦ λ is. absurd (omega (arith, held_there n m is, once a s counted n, blocks_in_adds (count_adds (number_is n)) a))
+        | Some m ↦ λ is. absurd (omega (arith, held_there n is, once counted n, blocks_in_adds (count_adds (number_is n)) a))
       ] refl
 
 -- what leaves the held messages
-pub out_of_held : (a : Arena) (h : ℕ) (m : Message) (p : Block → Bool) → held_at a h ≡ Some m → count_by p (blocks_in (without_held h a)) + count_by p m ≡ count_by p (blocks_in a)
-out_of_held a h m p is =
+pub out_of_held : (a : Arena) (h : ℕ) {m : Message} (p : Block → Bool) → held_at a h ≡ Some m → count_by p (blocks_in (without_held h a)) + count_by p m ≡ count_by p (blocks_in a)
+out_of_held a h {m} p is =
     omega (arith, held_moves (count_adds p) a h None (held_within a h m is), (count_adds p).none, ap (λ o. count_by p (blocks_of o)) is)
 
 -- free blocks, those of messages on shelves and those of held messages make the arena
-pub makes_arena : (a : Arena) (s : CountedStore) → IsCounted a s → length a.free + length (shelved_blocks a) + length (held_blocks a) ≡ length a.held
-makes_arena a s counted =
+pub makes_arena : {a : Arena} {s : CountedStore} → IsCounted a s → length a.free + length (shelved_blocks a) + length (held_blocks a) ≡ length a.held
+makes_arena {a} counted =
     omega (arith, as_many (length a.held) (a.free ++ numbers_of (blocks_in a)) counted.numbers, length-append a.free (numbers_of (blocks_in a)), length-map (blocks_in a) (λ b. b.number), length-append (shelved_blocks a) (held_blocks a))
 
 -- ==== tokens of held messages, and what a call leaves and answers
@@ -132,8 +132,8 @@ pub spent_had : (a : Arena) (t u : TokenValue) → u ≡ t → has a t ≡ true 
 spent_had a t u same had = ap (λ (x : TokenValue). freemsg x.head a) same ∙ ap (λ (b : Bool). if b then freemsg t.head a else a) (sym had)
 
 -- as many blocks as it says are all of its message
-pub all_taken : (a : Arena) (t : TokenValue) (n : ℕ) → has a t ≡ true → n ≡ t.blocks → take n (message_at a t.head) ≡ message_at a t.head
-all_taken a t n had all = grind (arith, common_steps, had_message, take_all)
+pub all_taken : (a : Arena) (t : TokenValue) {n : ℕ} → has a t ≡ true → n ≡ t.blocks → take n (message_at a t.head) ≡ message_at a t.head
+all_taken a t had all = grind (arith, common_steps, had_message, take_all)
 
 -- a token that is had is that of its message
 pub had_is : (a : Arena) (t : TokenValue) → has a t ≡ true → t ≡ token_of a t.head
@@ -155,12 +155,12 @@ module _ (a : Arena) (parted : IsParted a) (h : ℕ) where
   apart m = (head_in (drop 1 m), record a { held = chain_divided (λ (b : Block). b.number) h m a.held })
 
   -- a held message has a first block, which has its head
-  pub has_head : (m : Message) → held_at a h ≡ Some m → (0 < length m) × (head_of m ≡ h)
-  has_head m is = subst (λ o. IfSome o (λ x. (0 < length x) × (head_of x ≡ h))) is (parted.chains.heads h)
+  pub has_head : {m : Message} → held_at a h ≡ Some m → (0 < length m) × (head_of m ≡ h)
+  has_head is = subst (λ o. IfSome o (λ x. (0 < length x) × (head_of x ≡ h))) is (parted.chains.heads h)
 
   -- each block of a held message counts once in all
-  among : (m : Message) → held_at a h ≡ Some m → (n : ℕ) → count_by (number_is n) m ≤ blocks_numbered a n
-  among m is n =
+  among : {m : Message} → held_at a h ≡ Some m → (n : ℕ) → count_by (number_is n) m ≤ blocks_numbered a n
+  among {m} is n =
       omega (
         arith,
         held_among a (number_is n) h (held_within a h m is),
@@ -179,7 +179,7 @@ module _ (a : Arena) (parted : IsParted a) (h : ℕ) where
           arith,
           parted.chains.once c.number,
           times-all c.number a,
-          among (b ∷ c ∷ cs) is c.number,
+          among is c.number,
           counts_two c.number,
           ap one_if (eq-eqb c.number c.number refl),
         ))
@@ -192,10 +192,10 @@ module _ (a : Arena) (parted : IsParted a) (h : ℕ) where
           parted.chains.once c.number,
           one_most (nat_lt c.number (length a.held)),
           times-all c.number a,
-          among (b ∷ c ∷ cs) is c.number,
+          among is c.number,
           counts_two c.number,
           ap one_if (eq-eqb c.number c.number refl),
-          ap one_if (eq-eqb b.number c.number ((has_head (b ∷ c ∷ cs) is).1 ∙ same)),
+          ap one_if (eq-eqb b.number c.number ((has_head is).1 ∙ same)),
         ))
 
     -- the message at h is its first block alone
@@ -218,14 +218,14 @@ module _ (a : Arena) (parted : IsParted a) (h : ℕ) where
     pub rest : option_map (token_of (apart m).1) (apart m).0 ≡ option_map (token_of (freeb_from h a m).1) (freeb_from h a m).0
     pub had : IfSome (option_map (token_of (freeb_from h a m).1) (freeb_from h a m).0) (λ r. has (freeb_from h a m).1 r ≡ true)
 
-  spends : (x : Arena) (t : TokenValue) (m : Message) → t.head ≡ h → has x t ≡ true → held_at x h ≡ Some m → with_token_spent x t ≡ with_blocks_freed m (without_held h x)
-  spends x t m head had is = grind (arith, common_steps, spent_had)
+  spends : (x : Arena) (t : TokenValue) {m : Message} → t.head ≡ h → has x t ≡ true → held_at x h ≡ Some m → with_token_spent x t ≡ with_blocks_freed m (without_held h x)
+  spends x t head had is = grind (arith, common_steps, spent_had)
 
   one_freed : (m : Message) → held_at a h ≡ Some m → (t : TokenValue) → t.head ≡ h → has (apart m).1 t ≡ true → IsOneFreed t m
-  one_freed [] is t head had = absurd (omega (arith, (has_head [] is).0))
-  one_freed (b ∷ []) is t head had = record { after = spends a t (b ∷ []) head had is; rest = refl; had = tt }
+  one_freed [] is t head had = absurd (omega (arith, (has_head is).0))
+  one_freed (b ∷ []) is t head had = record { after = spends a t head had is; rest = refl; had = tt }
   one_freed (b ∷ c ∷ cs) is t head had = record {
-    after = spends (apart (b ∷ c ∷ cs)).1 t (b ∷ []) head had (first_apart b c cs is) ∙ ap (with_block_freed b []) (rest_alone b c cs is);
+    after = spends (apart (b ∷ c ∷ cs)).1 t head had (first_apart b c cs is) ∙ ap (with_block_freed b []) (rest_alone b c cs is);
     rest =
         let same : message_at (apart (b ∷ c ∷ cs)).1 c.number ≡ message_at (freeb_from h a (b ∷ c ∷ cs)).1 c.number =
         ap blocks_of (rest_apart b c cs is) ∙ sym (ap blocks_of (rest_there b c cs is)) in
@@ -234,14 +234,14 @@ module _ (a : Arena) (parted : IsParted a) (h : ℕ) where
   }
 
   -- the same for the message as the call finds it
-  pub frees_one : (m : Message) → held_at a h ≡ Some m → (t : TokenValue) → t.head ≡ h → has (unlinkb h a).1 t ≡ true → IsOneFreed t (message_at a h)
-  frees_one m is t head had =
+  pub frees_one : {m : Message} → held_at a h ≡ Some m → (t : TokenValue) → t.head ≡ h → has (unlinkb h a).1 t ≡ true → IsOneFreed t (message_at a h)
+  frees_one {m} is t head had =
       let same : m ≡ message_at a h = sym (ap blocks_of is) in
       subst (IsOneFreed t) same (one_freed m is t head (subst (λ x. has (apart x).1 t ≡ true) (sym same) had))
 
 -- ---- the first block is taken out of its message
 
-module _ (a : Arena) (parted : IsParted a) (h : ℕ) where
+module _ {a : Arena} (parted : IsParted a) (h : ℕ) where
   -- what rmvb makes of block 0 of the message at h, and gives
   abbrev out_first : Message → Given Arena (ℕ × Option ℕ)
   out_first m = rmvb_of h a (take 0 m ++ drop (0 + 1) m) (slice_get m 0)
@@ -250,10 +250,10 @@ module _ (a : Arena) (parted : IsParted a) (h : ℕ) where
   OutIsApart m = out_first m ≡ Ok ((h, head_in (drop 1 m)), record a { held = chain_divided (λ (b : Block). b.number) h m a.held })
 
   out_apart : (m : Message) → held_at a h ≡ Some m → OutIsApart m
-  out_apart [] is = absurd (omega (arith, (has_head a parted h [] is).0))
+  out_apart [] is = absurd (omega (arith, (has_head a parted h is).0))
   out_apart (b ∷ []) is = grind (arith, common_steps, set-set, set-get_or)
   out_apart (b ∷ c ∷ cs) is =
-      let same : b.number ≡ h = (has_head a parted h (b ∷ c ∷ cs) is).1 in
+      let same : b.number ≡ h = (has_head a parted h is).1 in
       let back : set (set (set a.held h None) c.number (Some (c ∷ cs))) h (Some (b ∷ [])) ≡ set (set a.held h (Some (b ∷ []))) c.number (Some (c ∷ cs)) =
       sym (set_apart (set a.held h None) h c.number (Some (b ∷ [])) (Some (c ∷ cs)) (second_other a parted h b c cs is))
       ∙ ap (λ held. set held c.number (Some (c ∷ cs))) (set-set a.held h None (Some (b ∷ []))) in
@@ -261,12 +261,12 @@ module _ (a : Arena) (parted : IsParted a) (h : ℕ) where
       ∙ ap (λ held. Ok ((h, Some c.number), record a { held = held })) back
 
   -- that is what unlinkb makes
-  pub rmvb_first : (m : Message) → held_at a h ≡ Some m → rmvb h 0 a ≡ Ok ((h, (unlinkb h a).0), (unlinkb h a).1)
-  rmvb_first m is = subst OutIsApart (sym (ap blocks_of is)) (out_apart m is)
+  pub rmvb_first : {m : Message} → held_at a h ≡ Some m → rmvb h 0 a ≡ Ok ((h, (unlinkb h a).0), (unlinkb h a).1)
+  rmvb_first {m} is = subst OutIsApart (sym (ap blocks_of is)) (out_apart m is)
 
 -- ---- the number of blocks that a token tells
 
-module _ (a : Arena) (parted : IsParted a) (t : TokenValue) (had : has a t ≡ true) where
+module _ {a : Arena} (parted : IsParted a) (t : TokenValue) (had : has a t ≡ true) where
   -- one at least
   pub some_blocks : 0 < t.blocks
   some_blocks = grind (arith, common_steps, had_message)

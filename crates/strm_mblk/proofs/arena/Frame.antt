@@ -89,14 +89,14 @@ pub leaves_same : (a : Arena) (heads : List ℕ) → Leaves heads a a
 leaves_same a heads = grind (arith, common_steps)
 
 -- what is held changes at one head more
-others_set : (a b c : Arena) (heads : List ℕ) → LeavesOthers heads a b → (g : ℕ) (o : Option Message) → ((h : ℕ) → has h heads ≡ false → h ≢ g) → c.id ≡ b.id → c.held ≡ set b.held g o → LeavesOthers heads a c
-others_set a b c heads left g o is_head id held = grind (arith, common_steps, length-set, get_or-set_other)
+others_set : {a b : Arena} (c : Arena) {heads : List ℕ} → LeavesOthers heads a b → (g : ℕ) (o : Option Message) → ((h : ℕ) → has h heads ≡ false → h ≢ g) → c.id ≡ b.id → c.held ≡ set b.held g o → LeavesOthers heads a c
+others_set c left g o is_head id held = grind (arith, common_steps, length-set, get_or-set_other)
 
 -- and at one alone
 pub others_one : (a b : Arena) (h : ℕ) (o : Option Message) → b.id ≡ a.id → b.held ≡ set a.held h o → LeavesOthers (h ∷ []) a b
-others_one a b h o = others_set a a b (h ∷ []) (leaves_same a (h ∷ [])).others h o (λ g other. other_head g h [] other)
+others_one a b h o = others_set b (leaves_same a (h ∷ [])).others h o (λ g other. other_head g h [] other)
 
-module _ (a b : Arena) (heads : List ℕ) (others : LeavesOthers heads a b) (shelves : b.shelves ≡ a.shelves) where
+module _ {a b : Arena} {heads : List ℕ} (others : LeavesOthers heads a b) (shelves : b.shelves ≡ a.shelves) where
   -- each data block stays that is named on a shelf, or in a message held at another head
   pub leaves_data : ((d : ℕ) → 0 < count_by (uses_data d) (shelved_blocks a) → data_block_at b.store d ≡ data_block_at a.store d)
       → ((h d : ℕ) → has h heads ≡ false → 0 < count_by (uses_data d) (message_at a h) → data_block_at b.store d ≡ data_block_at a.store d) → Leaves heads a b
@@ -107,13 +107,13 @@ module _ (a b : Arena) (heads : List ℕ) (others : LeavesOthers heads a b) (she
   leaves_named same = leaves_data (λ d some. same d (omega (arith, some, shelved_named a d))) (λ h d other some. same d (omega (arith, some, held_named a h d)))
 
   -- each but one stays, which a message alone uses that is held at one of the heads
-  module _ (g d : ℕ) (is_head : (h : ℕ) → has h heads ≡ false → h ≢ g) (m : Message) (is : held_at a g ≡ Some m) (once : references_to a d ≤ 1) (some : 0 < count_by (uses_data d) m) where
+  module _ (g d : ℕ) (is_head : (h : ℕ) → has h heads ≡ false → h ≢ g) {m : Message} (is : held_at a g ≡ Some m) (once : references_to a d ≤ 1) (some : 0 < count_by (uses_data d) m) where
     -- no other message uses it
     beside : (h : ℕ) → h ≢ g → count_by (uses_data d) (message_at a h) ≡ 0
     beside h other =
         omega (
           arith,
-          out_of_held a g m (uses_data d) is,
+          out_of_held a g (uses_data d) is,
           held_named (without_held g a) h d,
           ap (λ o. count_by (uses_data d) (blocks_of o)) (get_or-set_other a.held g h None None other),
         )
@@ -122,7 +122,7 @@ module _ (a b : Arena) (heads : List ℕ) (others : LeavesOthers heads a b) (she
     leaves_own same =
         leaves_data
         (λ e named. same e (λ one.
-        absurd (omega (arith, named, ap (λ i. count_by (uses_data i) (shelved_blocks a)) one, out_of_held a g m (uses_data d) is, shelved_named (without_held g a) d))))
+        absurd (omega (arith, named, ap (λ i. count_by (uses_data i) (shelved_blocks a)) one, out_of_held a g (uses_data d) is, shelved_named (without_held g a) d))))
         (λ h e other named. same e (λ one. absurd (omega (arith, named, ap (λ i. count_by (uses_data i) (message_at a h)) one, beside h (is_head h other)))))
 
 -- ---- data blocks that are taken, and altered
@@ -147,8 +147,8 @@ first_other d e [] none is same = cc
 first_other d e (x ∷ xs) none is same = grind (arith, common_steps, times_here)
 
 -- another is taken
-take_other : (size d e : ℕ) (s : DataStore) → IsTaken e s → take_data size s ≡ Ok d → e ≢ d
-take_other size d e s taken =
+take_other : (size : ℕ) {d : ℕ} (e : ℕ) (s : DataStore) → IsTaken e s → take_data size s ≡ Ok d → e ≢ d
+take_other size {d} e s taken =
     chosen (λ r. r ≡ Ok d → e ≢ d) (fits_a_class size s.classes) (ok_or (slice_get (fitting_blocks size s) 0) NoData) (Err TooLarge) (first_other d e (fitting_blocks size s) (none_fitting e size s.classes s.free taken))
     (λ large is. absurd (cc is))
 
@@ -184,7 +184,7 @@ copies_leave o (b ∷ bs) s e taken =
     let next = store_with_copy o b s d in
     answered (λ (g : List Block × DataStore). data_block_at g.1 e ≡ data_block_at s e) (λ g. (record b { data_number = d } ∷ g.0, g.1)) (blocks_copied o bs next) (λ g made.
     subst (λ r. IfOk r (λ (g : List Block × DataStore). data_block_at g.1 e ≡ data_block_at next e)) made (copies_leave o bs next e (taken_stays d e s taken))
-    ∙ filled_other d e b.offset (kind_of from b) (bytes_of_block from b) s (take_other (capacity_of from b.data_number) d e s taken is)))
+    ∙ filled_other d e b.offset (kind_of from b) (bytes_of_block from b) s (take_other (capacity_of from b.data_number) e s taken is)))
 
 -- ---- blocks that are freed
 
@@ -220,16 +220,16 @@ leaves_after a heads (Err why) left = leaves_same a heads
 abbrev pub Making : Arena → Given Arena ℕ → Type 0
 Making a r = IfOk r (λ g. Leaves (g.0 ∷ []) a g.1)
 
-pub leaves_given : (a b : Arena) (t : TokenValue) (n : ℕ) (r : Given Arena ℕ) → Making a r → r ≡ Ok (n, b) → t ≡ token_of b n → Leaves (t.head ∷ []) a b
-leaves_given a b t n r gives is token = subst (λ h. Leaves (h ∷ []) a b) (ap (λ (x : TokenValue). x.head) (sym token)) (subst (Making a) is gives)
+pub leaves_given : (a b : Arena) {t : TokenValue} (n : ℕ) {r : Given Arena ℕ} → Making a r → r ≡ Ok (n, b) → t ≡ token_of b n → Leaves (t.head ∷ []) a b
+leaves_given a b n gives is token = subst (λ h. Leaves (h ∷ []) a b) (ap (λ (x : TokenValue). x.head) (sym token)) (subst (Making a) is gives)
 
 module _ (a : Arena) where
   -- only what is held at some heads changes
-  leaves_held : (heads : List ℕ) (held : List (Option Message)) → LeavesOthers heads a (record a { held = held }) → Leaves heads a (record a { held = held })
-  leaves_held heads held others = leaves_named a (record a { held = held }) heads others refl (λ d some. refl)
+  leaves_held : {heads : List ℕ} (held : List (Option Message)) → LeavesOthers heads a (record a { held = held }) → Leaves heads a (record a { held = held })
+  leaves_held {heads} held others = leaves_named others refl (λ d some. refl)
 
   leaves_one : (h : ℕ) (o : Option Message) → Leaves (h ∷ []) a (record a { held = set a.held h o })
-  leaves_one h o = leaves_held (h ∷ []) (set a.held h o) (others_one a _ h o refl refl)
+  leaves_one h o = leaves_held (set a.held h o) (others_one a _ h o refl refl)
 
   -- at two, first to last
   others_two : (b : Arena) (h g : ℕ) (o p : Option Message) (heads : List ℕ) → ((k : ℕ) → has k heads ≡ false → k ≢ h) → ((k : ℕ) → has k heads ≡ false → k ≢ g) → b.id ≡ a.id → b.held ≡ set (set a.held h o) g p
@@ -260,7 +260,7 @@ module _ (a : Arena) where
   -- the message at h leaves, and these blocks are a message, if there are any
   rest_others : (heads : List ℕ) (h : ℕ) (x : Arena) (rest : Message) → ((k : ℕ) → has k heads ≡ false → has k (h ∷ head_given (option_map (token_of x) (head_in rest))) ≡ false)
       → LeavesOthers heads a (with_rest rest (without_held h a))
-  rest_others heads h x [] among = others_set a a (without_held h a) heads (leaves_same a heads).others h None (λ k other. other_head k h [] (among k other)) refl refl
+  rest_others heads h x [] among = others_set (without_held h a) (leaves_same a heads).others h None (λ k other. other_head k h [] (among k other)) refl refl
   rest_others heads h x (c ∷ cs) among = grind (arith, common_steps, others_two, other_head, other_heads)
 
   rest_shelves : (h : ℕ) (rest : Message) → (with_rest rest (without_held h a)).shelves ≡ a.shelves
@@ -280,8 +280,8 @@ module _ (a : Arena) where
             let others = head_given (option_map (token_of x) (head_in rest)) in
             let heads = h ∷ b.number ∷ others in
             let left = with_rest rest (without_held h a) in
-            leaves_named a (with_held (b ∷ []) left) heads
-            (others_set a left (with_held (b ∷ []) left) heads (rest_others heads h x rest (λ g other. without_second g h b.number others other)) b.number (Some (b ∷ []))
+            leaves_named
+            (others_set (with_held (b ∷ []) left) (rest_others heads h x rest (λ g other. without_second g h b.number others other)) b.number (Some (b ∷ []))
             (λ g other. other_head g b.number others (other_heads g h (b.number ∷ others) other)) refl refl)
             (rest_shelves h rest) (λ d some. ap (λ s. data_block_at s d) (rest_store h rest))
       ]
@@ -290,8 +290,8 @@ module _ (a : Arena) where
       rest = take k (message_at a h) ++ drop (k + 1) (message_at a h)
 
   -- blocks are freed, and only what is held at some heads changes beside them
-  leaves_freed : (heads : List ℕ) (old new : Arena) → AreFreed old new → Leaves heads a old → Leaves heads a new
-  leaves_freed heads old new freed left = record {
+  leaves_freed : (heads : List ℕ) {old new : Arena} → AreFreed old new → Leaves heads a old → Leaves heads a new
+  leaves_freed heads freed left = record {
     others = record {
       id = freed.id ∙ left.others.id;
       size = ap length freed.held ∙ left.others.size;
@@ -314,7 +314,7 @@ module _ (a : Arena) where
   pub leaves_spent : (t : TokenValue) → Leaves (t.head ∷ []) a (with_token_spent a t)
   leaves_spent t =
       chosen (Leaves (t.head ∷ []) a) (has_token a t) (freemsg t.head a) a
-      (leaves_freed (t.head ∷ []) (without_held t.head a) (freemsg t.head a) (blocks_free (message_at a t.head) (without_held t.head a)) (leaves_one t.head None))
+      (leaves_freed (t.head ∷ []) (blocks_free (message_at a t.head) (without_held t.head a)) (leaves_one t.head None))
       (λ none. leaves_same a (t.head ∷ []))
 
 -- nothing is held where a message was taken out
@@ -337,7 +337,7 @@ linkb_gone a h g other =
 
 -- ---- calls that take data blocks, or alter one
 
-module _ (a : Arena) (parted : IsParted a) where
+module _ {a : Arena} (parted : IsParted a) where
   -- what something uses is in use
   named_taken : (d : ℕ) → 0 < references_to a d → IsTaken d a.store
   named_taken d some c =
@@ -360,13 +360,13 @@ module _ (a : Arena) (parted : IsParted a) where
             | Err why ↦ λ is. tt
             | Ok d ↦ λ is.
                 let b = with_held (new_block n d ∷ []) (record (with_free_left ns a) { store = with_data_taken d a.store }) in
-                leaves_named a b (n ∷ []) (others_one a b n _ refl refl) refl (λ e some. get_or-set_other a.store.blocks d e _ no_data_block (take_other size d e a.store (named_taken e some) is))
+                leaves_named (others_one a b n _ refl refl) refl (λ e some. get_or-set_other a.store.blocks d e _ no_data_block (take_other size e a.store (named_taken e some) is))
           ] refl
 
   -- a message of new blocks over a store in which all data blocks in use are the same
   under_leaves : (bs : List Block) (s : DataStore) → ((d : ℕ) → 0 < references_to a d → data_block_at s d ≡ data_block_at a.store d) → Leaves ((held_under bs s a).0 ∷ []) a (held_under bs s a).1
   under_leaves bs s same =
-      leaves_named a (held_under bs s a).1 ((held_under bs s a).0 ∷ []) (others_one a (held_under bs s a).1 (held_under bs s a).0 _ refl refl) refl same
+      leaves_named (others_one a (held_under bs s a).1 (held_under bs s a).0 _ refl refl) refl same
 
   pub leaves_duplicated : (bs : List Block) → Making a (message_duplicated bs a)
   leaves_duplicated bs = grind (arith, common_steps, chosen, under_leaves)
@@ -391,10 +391,10 @@ module _ (a : Arena) (parted : IsParted a) where
             store = store_with_front n (b ∷ bs) a.store d;
             held = set a.held h (Some (record b { data_number = d; offset = 0; len = n } ∷ blocks_left_over (n - b.len) bs));
           } in
-          leaves_freed a (h ∷ []) (with_reference_dropped b.data_number out new) (with_front_pulled h n (b ∷ bs) a d) (blocks_free out (with_reference_dropped b.data_number out new))
-          (leaves_freed a (h ∷ []) new (with_reference_dropped b.data_number out new) (name_drops b.data_number out new)
-          (leaves_named a new (h ∷ []) (others_one a new h _ refl refl) refl
-          (λ e some. filled_other d e 0 (kind_of a.store b) (take n (bytes_of a.store (b ∷ bs))) a.store (take_other n d e a.store (named_taken e some) is))))
+          leaves_freed a (h ∷ []) (blocks_free out (with_reference_dropped b.data_number out new))
+          (leaves_freed a (h ∷ []) (name_drops b.data_number out new)
+          (leaves_named (others_one a new h _ refl refl) refl
+          (λ e some. filled_other d e 0 (kind_of a.store b) (take n (bytes_of a.store (b ∷ bs))) a.store (take_other n e a.store (named_taken e some) is))))
 
       pulls : (n : ℕ) (m : Message) → Leaving {X = Unit {0}} (h ∷ []) a (pull h n m a)
       pulls n [] = tt
@@ -419,8 +419,8 @@ pub record IsOwn (a : Arena) (h k : ℕ) (b : Block) : Type 0 where
   pub found : slice_get (message_at a h) k ≡ Some b
   pub alone : references_to a b.data_number ≤ 1
 
-pub own_is : (a : Arena) (h k : ℕ) (b : Block) → own_block h k a ≡ Ok b → IsOwn a h k b
-own_is a h k b is = of_place (slice_get (message_at a h) k) refl is
+pub own_is : (a : Arena) (h k : ℕ) {b : Block} → own_block h k a ≡ Ok b → IsOwn a h k b
+own_is a h k {b} is = of_place (slice_get (message_at a h) k) refl is
   where
     of_choice : (c : Block) (shared : Bool) → slice_get (message_at a h) k ≡ Some c → nat_lt 1 (references_to a c.data_number) ≡ shared → (if shared then Err Shared else Ok c) ≡ Ok b → IsOwn a h k b
     of_choice c true found many is = absurd cc
@@ -432,20 +432,20 @@ own_is a h k b is = of_place (slice_get (message_at a h) k) refl is
     of_place None none is = absurd cc
     of_place (Some c) some is = of_choice c (nat_lt 1 (references_to a c.data_number)) some refl is
 
-module _ (a : Arena) (h k : ℕ) (b : Block) (own : own_block h k a ≡ Ok b) where
+module _ (a : Arena) (h k : ℕ) {b : Block} (own : own_block h k a ≡ Ok b) where
   held : held_at a h ≡ Some (message_at a h)
   held = of_message (held_at a h) refl
     where
       of_message : (o : Option Message) → held_at a h ≡ o → o ≡ Some (blocks_of o)
-      of_message None none = absurd (none-some b (sym (ap (λ o. slice_get (blocks_of o) k) none) ∙ (own_is a h k b own).found))
+      of_message None none = absurd (none-some b (sym (ap (λ o. slice_get (blocks_of o) k) none) ∙ (own_is a h k own).found))
       of_message (Some m) some = refl
 
   module _ (s : DataStore) (same : (d : ℕ) → d ≢ b.data_number → data_block_at s d ≡ data_block_at a.store d) where
     -- what it leaves if its data block alone becomes another
     leaves_alone : (new : Arena) → new.store ≡ s → LeavesOthers (h ∷ []) a new → new.shelves ≡ a.shelves → Leaves (h ∷ []) a new
     leaves_alone new store others shelves =
-        leaves_own a new (h ∷ []) others shelves h b.data_number (λ g other. other_head g h [] other) (message_at a h) held (own_is a h k b own).alone
-        (naming_at (message_at a h) k b (own_is a h k b own).found) (λ d other. ap (λ x. data_block_at x d) store ∙ same d other)
+        leaves_own others shelves h b.data_number (λ g other. other_head g h [] other) held (own_is a h k own).alone
+        (naming_at (message_at a h) k b (own_is a h k own).found) (λ d other. ap (λ x. data_block_at x d) store ∙ same d other)
 
     pub leaves_with_store : Leaves (h ∷ []) a (record a { store = s })
     leaves_with_store = leaves_alone (record a { store = s }) refl (record { id = refl; size = refl; held = λ g other. refl }) refl

@@ -52,8 +52,8 @@ shelf_count (ms ∷ shelves) zero n = omega (arith, (count_adds (number_is n)).b
 shelf_count (ms ∷ shelves) (suc s) n = grind (arith, common_steps, (shelf_count shelves s n), count_adds, number_is)
 
 -- and no number heads more messages of a shelf than it has blocks
-head_once : (a : Arena) → IsParted a → (s n : ℕ) → times n (heads_at a s) ≤ (if nat_lt n (length a.held) then 1 else 0)
-head_once a parted s n =
+head_once : {a : Arena} → IsParted a → (s n : ℕ) → times n (heads_at a s) ≤ (if nat_lt n (length a.held) then 1 else 0)
+head_once {a} parted s n =
     omega (
       arith,
       heads_count (shelf_at a s) n (parted.chains.shelved s),
@@ -64,12 +64,12 @@ head_once a parted s n =
     )
 
 pub heads_apart : (a : Arena) → IsParted a → (s : ℕ) → IsApart (heads_at a s)
-heads_apart a parted s = once_apart (heads_at a s) (λ n. omega (arith, head_once a parted s n, one_most (nat_lt n (length a.held))))
+heads_apart a parted s = once_apart (heads_at a s) (λ n. omega (arith, head_once parted s n, one_most (nat_lt n (length a.held))))
 
 -- a head on a shelf is the number of a block
 pub heads_room : (a : Arena) → IsParted a → (s n : ℕ) → has n (heads_at a s) ≡ true → n < length a.held
 heads_room a parted s n there =
     elim (cases_lt n (length a.held)) [
       | inl within ↦ within
-      | inr past ↦ absurd (omega (arith, times_has n (heads_at a s) there, head_once a parted s n, ap {B = ℕ} (λ (b : Bool). if b then 1 else 0) (le-ltb n (length a.held) past)))
+      | inr past ↦ absurd (omega (arith, times_has n (heads_at a s) there, head_once parted s n, ap {B = ℕ} (λ (b : Bool). if b then 1 else 0) (le-ltb n (length a.held) past)))
     ]

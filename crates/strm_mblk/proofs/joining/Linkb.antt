@@ -21,7 +21,7 @@ use Rattle.std.proofs.lemmas.Grind.{common_steps}
 
 -- ---- only held messages change
 
-module _ (id : ℕ) (s : CountedStore) (fields : List Fields) (v w : ChainLists) (filled : IsFilled s fields v (arena_of id s.store fields v))
+module _ {id : ℕ} {s : CountedStore} {fields : List Fields} {v w : ChainLists} (filled : IsFilled s fields v (arena_of id s.store fields v))
     (free : w.free ≡ v.free) (many : length w.held ≡ length v.held) (parted : IsLawful w) where
   -- the messages have the same numbers
   same_nodes : (n : ℕ) → times n (nodes_in w) ≡ times n (nodes_in v)
@@ -61,7 +61,7 @@ pub record IsJoined (a : Arena) (s : CountedStore) (fields : List Fields) (w : C
   pub shelved : shelved_blocks (arena_of id s.store fields w) ≡ shelved_blocks a
   pub after : arena_of id s.store fields w ≡ linkb h g a
 
-module _ (id : ℕ) (s : CountedStore) (fields : List Fields) (v w : ChainLists) (filled : IsFilled s fields v (arena_of id s.store fields v)) (h g : ℕ) (other : h ≢ g)
+module _ (id : ℕ) (s : CountedStore) (fields : List Fields) {v w : ChainLists} (filled : IsFilled s fields v (arena_of id s.store fields v)) (h g : ℕ) (other : h ≢ g)
     (w_is : w ≡ record v { held = chains_joined h g v.held }) (parted : IsLawful w) where
   abbrev old : Arena
   old = arena_of id s.store fields v
@@ -77,7 +77,7 @@ module _ (id : ℕ) (s : CountedStore) (fields : List Fields) (v w : ChainLists)
 
   pub joins : IsJoined old s fields w id h g
   joins = record {
-    filled = moved_filled id s fields v w filled (ap (λ (l : ChainLists). l.free) w_is) many parted;
+    filled = moved_filled filled (ap (λ (l : ChainLists). l.free) w_is) many parted;
     shelved = ap shelved_blocks shows;
     after = shows ∙ ap (λ (b : Bool). if b then old else record old { held = chains_joined h g old.held }) (sym (ne_eqb h g other));
   }

@@ -19,10 +19,10 @@ use Rattle.strm_mblk.proofs.layout.StoredArena.{held_at-seen, message_at-seen}
 use Rattle.std.proofs.lemmas.Grind.{common_steps}
 
 -- a list with two numbers or more
-two_rest : (ns : List ℕ) (h g : ℕ) → first ns ≡ Some h → slice_get ns 1 ≡ Some g → ns ≡ h ∷ g ∷ drop 2 ns
-two_rest [] h g begins at = absurd (none-some h begins)
-two_rest (x ∷ []) h g begins at = absurd (none-some g at)
-two_rest (x ∷ y ∷ ns) h g begins at = λ i. same_Some x h begins i ∷ same_Some y g at i ∷ ns
+two_rest : (ns : List ℕ) {h g : ℕ} → first ns ≡ Some h → slice_get ns 1 ≡ Some g → ns ≡ h ∷ g ∷ drop 2 ns
+two_rest [] {h} begins at = absurd (none-some h begins)
+two_rest (x ∷ []) {g} begins at = absurd (none-some g at)
+two_rest (x ∷ y ∷ ns) {h} {g} begins at = λ i. same_Some x h begins i ∷ same_Some y g at i ∷ ns
 
 -- a is what was there; the other lists are what is there once the blocks after the first of the message at h are one at g
 pub record IsDivided (a : Arena) (s : CountedStore) (fields : List Fields) (w : ChainLists) (id h g : ℕ) : Type 0 where
@@ -34,7 +34,7 @@ pub record IsDivided (a : Arena) (s : CountedStore) (fields : List Fields) (w : 
   pub absent : held_at a g ≡ None
   pub given : (unlinkb h a).0 ≡ Some g
 
-module _ (id : ℕ) (s : CountedStore) (fields : List Fields) (v w : ChainLists) (filled : IsFilled s fields v (arena_of id s.store fields v)) (h g : ℕ)
+module _ {id : ℕ} {s : CountedStore} {fields : List Fields} {v w : ChainLists} (filled : IsFilled s fields v (arena_of id s.store fields v)) (h : ℕ) {g : ℕ}
     (held : held_in v.held h ≡ Some (nodes_at v h)) (at : slice_get (nodes_at v h) 1 ≡ Some g)
     (w_is : w ≡ record v { held = chain_divided (λ n. n) h (nodes_at v h) v.held }) (parted : IsLawful w) where
   abbrev old : Arena
@@ -44,10 +44,10 @@ module _ (id : ℕ) (s : CountedStore) (fields : List Fields) (v w : ChainLists)
   others = drop 2 (nodes_at v h)
 
   nodes_are : nodes_at v h ≡ h ∷ g ∷ others
-  nodes_are = two_rest (nodes_at v h) h g (begins_with v filled.parted h (nodes_at v h) held) at
+  nodes_are = two_rest (nodes_at v h) (begins_with filled.parted h held) at
 
   other : g ≢ h
-  other = not_head v filled.parted h 1 g (nodes_at v h) held at 0 refl
+  other = not_head filled.parted h 1 held at 0 refl
 
   lists_are : w ≡ record v { held = set (set v.held h (Some (h ∷ []))) g (Some (g ∷ others)) }
   lists_are = w_is ∙ ap (λ ns. record v { held = chain_divided (λ n. n) h ns v.held }) nodes_are
@@ -63,7 +63,7 @@ module _ (id : ℕ) (s : CountedStore) (fields : List Fields) (v w : ChainLists)
   many = ap (λ (l : ChainLists). length l.held) lists_are ∙ length-set (set v.held h _) g _ ∙ length-set v.held h _
 
   head_inside : h < length old.held
-  head_inside = omega (arith, held_room v h (nodes_at v h) held, length-map v.held (option_map (message_of fields)))
+  head_inside = omega (arith, held_room v h held, length-map v.held (option_map (message_of fields)))
 
   rest_inside : g < length (set old.held h (Some (block_at fields h ∷ [])))
   rest_inside = grind (arith, common_steps, block_room, length-map, length-set)
@@ -73,7 +73,7 @@ module _ (id : ℕ) (s : CountedStore) (fields : List Fields) (v w : ChainLists)
 
   pub divides : IsDivided old s fields w id h g
   divides = record {
-    filled = moved_filled id s fields v w filled (ap (λ (l : ChainLists). l.free) lists_are) many parted;
+    filled = moved_filled filled (ap (λ (l : ChainLists). l.free) lists_are) many parted;
     shelved = ap shelved_blocks shows;
     after =
         shows
@@ -84,10 +84,10 @@ module _ (id : ℕ) (s : CountedStore) (fields : List Fields) (v w : ChainLists)
         ∙ get_or-set_other (set old.held h (Some (block_at fields h ∷ []))) g h _ None (λ same. other (sym same))
         ∙ get_or-set_same old.held h (Some (block_at fields h ∷ [])) None head_inside;
     rest = rest_held ∙ ap Some (sym (ap blocks_of rest_held));
-    absent = held_at-seen id s.store fields v g ∙ ap (option_map (message_of fields)) (not_begun v filled.parted h 1 g (nodes_at v h) held at other);
+    absent = held_at-seen id s.store fields v g ∙ ap (option_map (message_of fields)) (not_begun filled.parted h 1 held at other);
     given = ap (λ m. head_in (drop 1 m)) (message_at-seen id s.store fields v h ∙ ap (message_of fields) nodes_are);
   }
 
 -- the token of a held message of n blocks
-pub token_is : (a b : Arena) (t u : TokenValue) (n : ℕ) → t.pool ≡ a.id → b.id ≡ a.id → u ≡ record t { blocks = n } → length (message_at b t.head) ≡ n → u ≡ token_of b t.head
-token_is a b t u n pool id is many = grind (arith, common_steps, many)
+pub token_is : (a b : Arena) (t : TokenValue) {u : TokenValue} {n : ℕ} → t.pool ≡ a.id → b.id ≡ a.id → u ≡ record t { blocks = n } → length (message_at b t.head) ≡ n → u ≡ token_of b t.head
+token_is a b t pool id is many = grind (arith, common_steps, many)

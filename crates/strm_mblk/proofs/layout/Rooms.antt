@@ -47,22 +47,22 @@ pub rooms-both : {s t u : DataStore} → HasRooms s t → HasRooms t u → HasRo
 rooms-both first second = record { many = second.many ∙ first.many; room = λ k. second.room k ∙ first.room k }
 
 -- places stay in their capacity
-pub placed-over : (s t : DataStore) (f : Fields) → HasRooms s t → IsPlaced s f → IsPlaced t f
-placed-over s t f rooms placed = grind (arith, common_steps)
+pub placed-over : {s t : DataStore} {f : Fields} → HasRooms s t → IsPlaced s f → IsPlaced t f
+placed-over rooms placed = grind (arith, common_steps)
 
 -- the places of all message blocks, of which one says something else
-pub placed-set : (s t : DataStore) (fields : List Fields) (n : ℕ) (x : Fields) → HasRooms s t → IsPlaced t x
+pub placed-set : (s : DataStore) {t : DataStore} (fields : List Fields) (n : ℕ) {x : Fields} → HasRooms s t → IsPlaced t x
     → ((k : ℕ) → k < length fields → IsPlaced s (fields_at fields k)) → (k : ℕ) → k < length (set fields n x) → IsPlaced t (fields_at (set fields n x) k)
-placed-set s t fields n x rooms new old k within = grind (arith, common_steps, get_or-set_same, length-set, get_or-set_other, placed-over)
+placed-set s fields n rooms new old k within = grind (arith, common_steps, get_or-set_same, length-set, get_or-set_other, placed-over)
 
 -- the counts once one of them is another
 pub count_of-set : (s : CountedStore) (store : DataStore) (d n k : ℕ) → d < length s.counts → count_of (record { store = store; counts = set s.counts d n }) k ≡ cond (eqb d k) n (count_of s k)
 count_of-set s store d n k inside = grind (arith, common_steps, eqb_tells, get_or-set_same, get_or-set_other)
 
 -- data blocks say something else, and as many message blocks name each of them
-pub filled-over : (id : ℕ) (s t : CountedStore) (fields : List Fields) (v : ChainLists) → IsFilled s fields v (arena_of id s.store fields v) → IsKept t → t.counts ≡ s.counts → HasRooms s.store t.store
+pub filled-over : {id : ℕ} {s t : CountedStore} {fields : List Fields} {v : ChainLists} → IsFilled s fields v (arena_of id s.store fields v) → IsKept t → t.counts ≡ s.counts → HasRooms s.store t.store
     → IsFilled t fields v (arena_of id t.store fields v)
-filled-over id s t fields v filled kept counts rooms = grind (arith, common_steps, placed-over)
+filled-over filled kept counts rooms = grind (arith, common_steps, placed-over)
 
 -- ==== data blocks that keep their bytes
 
@@ -89,10 +89,10 @@ module _ (s t : DataStore) (same : HaveBytes s t) where
 
 -- ==== the fewest free blocks: what is sound once they are reset
 
-pub reset_filled : (id : ℕ) (s : CountedStore) (fields : List Fields) (v : ChainLists) → IsFilled s fields v (arena_of id s.store fields v)
-    → (t : CountedStore) (w : ChainLists) → t ≡ record s { store = with_data_reset s.store } → IsKept t → w ≡ record v { least = length v.free } → IsLawful w
+pub reset_filled : {id : ℕ} {s : CountedStore} {fields : List Fields} {v : ChainLists} → IsFilled s fields v (arena_of id s.store fields v)
+    → {t : CountedStore} {w : ChainLists} → t ≡ record s { store = with_data_reset s.store } → IsKept t → w ≡ record v { least = length v.free } → IsLawful w
     → IsFilled t fields w (arena_of id t.store fields w)
-reset_filled id s fields v filled t w t_is kept w_is parted =
+reset_filled {id} {s} {fields} {v} filled {t} {w} t_is kept w_is parted =
     let reset : CountedStore = record s { store = with_data_reset s.store } in
     let lists : ChainLists = record v { least = length v.free } in
     let now : IsFilled reset fields lists (arena_of id reset.store fields lists) =
@@ -114,7 +114,7 @@ some_total : (cs : List ClassSpec) → IsTrue (are_lawful cs) → 0 < total_of c
 some_total [] lawful = absurd (false≢true lawful)
 some_total (c ∷ cs) lawful = grind (arith, common_steps, and_parts, ltb-true, sum_by-append)
 
-module _ (id mblks shelves : ℕ) (classes : List ClassSpec) (s : CountedStore) (fields : List Fields) (v : ChainLists) (s_is : s ≡ opening_counted classes) (fields_are : fields ≡ replicate mblks no_fields) (v_is : v ≡ opening_chains mblks shelves) where
+module _ (id mblks shelves : ℕ) (classes : List ClassSpec) {s : CountedStore} {fields : List Fields} {v : ChainLists} (s_is : s ≡ opening_counted classes) (fields_are : fields ≡ replicate mblks no_fields) (v_is : v ≡ opening_chains mblks shelves) where
   pub opening_shows : arena_of id s.store fields v ≡ opening_arena id mblks classes shelves
   opening_shows = grind (arith, common_steps, map-replicate)
 

@@ -138,7 +138,7 @@ head-seen fields None h is = tt
 head-seen fields (Some []) h is = absurd (omega (arith, is.0))
 head-seen fields (Some (n ∷ ns)) h is = (omega arith, is.1)
 
-module _ (id : ℕ) (s : CountedStore) (fields : List Fields) (v : ChainLists) (filled : IsFilled s fields v (arena_of id s.store fields v)) where
+module _ {id : ℕ} {s : CountedStore} {fields : List Fields} {v : ChainLists} (filled : IsFilled s fields v (arena_of id s.store fields v)) where
   -- each number is in one place, each held message is at its head, and counts are references
   pub counted : IsCounted (arena_of id s.store fields v) s
   counted = record {
@@ -168,7 +168,7 @@ module _ (id : ℕ) (s : CountedStore) (fields : List Fields) (v : ChainLists) (
   }
 
   pub law_whole : length (arena_of id s.store fields v).free + length (shelved_blocks (arena_of id s.store fields v)) + length (held_blocks (arena_of id s.store fields v)) ≡ length (arena_of id s.store fields v).held
-  law_whole = makes_arena (arena_of id s.store fields v) s counted
+  law_whole = makes_arena counted
 
   -- the blocks on shelves, and those of held messages
   pub all_there : length v.free + length (shelved_blocks (arena_of id s.store fields v)) + length (held_blocks (arena_of id s.store fields v)) ≡ length fields
@@ -206,8 +206,8 @@ module _ (id : ℕ) (s : CountedStore) (fields : List Fields) (v : ChainLists) (
   law_few = omega (arith, filled.few, length-map v.held (option_map (message_of fields)))
 
 -- a message block has no more bytes than the largest data block has room for
-pub len_most : (id : ℕ) (s : CountedStore) (fields : List Fields) (v : ChainLists) → IsFilled s fields v (arena_of id s.store fields v) → (n : ℕ) → (fields_at fields n).len ≤ most_data_block_bytes
-len_most id s fields v filled n = grind (arith, common_steps, capacity_range, get_or_past)
+pub len_most : {id : ℕ} {s : CountedStore} {fields : List Fields} {v : ChainLists} → IsFilled s fields v (arena_of id s.store fields v) → (n : ℕ) → (fields_at fields n).len ≤ most_data_block_bytes
+len_most filled n = grind (arith, common_steps, capacity_range, get_or_past)
 
 -- so a message has no more than that for each of its blocks
 pub size_most : (fields : List Fields) (ns : List ℕ) → ((n : ℕ) → (fields_at fields n).len ≤ most_data_block_bytes) → size_of (message_of fields ns) ≤ length ns * most_data_block_bytes
@@ -215,16 +215,16 @@ size_most fields [] few = omega arith
 size_most fields (n ∷ ns) few = omega (arith, sum_by-append (λ (c : Block). c.len) (block_at fields n ∷ []) (message_of fields ns), few n, size_most fields ns few)
 
 -- message blocks as they lie in memory are parted
-pub parted_inside : (i : Inside) → IsSound i → (a : Arena) → arena_in i ≡ a → IsParted a
-parted_inside i whole a is = subst IsParted is (law_parted i.id i.data i.chains.loads i.chains.lists whole.filled)
+pub parted_inside : {i : Inside} → IsSound i → {a : Arena} → arena_in i ≡ a → IsParted a
+parted_inside {i} whole is = subst IsParted is (law_parted whole.filled)
 
 -- they still are, where no block comes on a shelf or leaves one
-pub still_whole : (i j : Inside) (a : Arena) → IsSound i → arena_in i ≡ a → j.queued ≡ i.queued → IsFilled j.data j.chains.loads j.chains.lists (arena_in j) → shelved_blocks (arena_in j) ≡ shelved_blocks a → IsSound j
-still_whole i j a whole is queued filled shelved = record { filled = filled; queued = queued ∙ whole.queued ∙ ap (λ x. length (shelved_blocks x)) is ∙ ap length (sym shelved) }
+pub still_whole : {i : Inside} (j : Inside) {a : Arena} → IsSound i → arena_in i ≡ a → j.queued ≡ i.queued → IsFilled j.data j.chains.loads j.chains.lists (arena_in j) → shelved_blocks (arena_in j) ≡ shelved_blocks a → IsSound j
+still_whole j whole is queued filled shelved = record { filled = filled; queued = queued ∙ whole.queued ∙ ap (λ x. length (shelved_blocks x)) is ∙ ap length (sym shelved) }
 
 -- message blocks store what they stored
-pub reloaded : (id : ℕ) (s : CountedStore) (v : ChainLists) {old new : List Fields} → new ≡ old → IsFilled s old v (arena_of id s.store old v) → IsFilled s new v (arena_of id s.store new v)
-reloaded id s v same filled = subst (λ fields. IsFilled s fields v (arena_of id s.store fields v)) (sym same) filled
+pub reloaded : {id : ℕ} {s : CountedStore} {v : ChainLists} {old new : List Fields} → new ≡ old → IsFilled s old v (arena_of id s.store old v) → IsFilled s new v (arena_of id s.store new v)
+reloaded {id} {s} {v} same filled = subst (λ fields. IsFilled s fields v (arena_of id s.store fields v)) (sym same) filled
 
-pub reviewed : (id : ℕ) (s : DataStore) (v : ChainLists) {old new : List Fields} {a : Arena} → new ≡ old → arena_of id s old v ≡ a → arena_of id s new v ≡ a
-reviewed id s v same is = ap (λ fields. arena_of id s fields v) same ∙ is
+pub reviewed : {id : ℕ} (s : DataStore) (v : ChainLists) {old new : List Fields} {a : Arena} → new ≡ old → arena_of id s old v ≡ a → arena_of id s new v ≡ a
+reviewed {id} s v same is = ap (λ fields. arena_of id s fields v) same ∙ is

@@ -50,7 +50,7 @@ placed-fields s [] bs fields new old k within = old k within
 placed-fields s (n ∷ ns) [] fields new old k within = old k within
 placed-fields s (n ∷ ns) (b ∷ bs) fields new old k within =
     placed-fields s ns bs (set fields n (fields_of b)) (λ i d inside. new (suc i) d (omega (arith, inside)))
-    (placed-set s s fields n (fields_of b) (record { many = refl; room = λ j. refl }) (new 0 b (omega arith)) old) k (omega (arith, within, length-set fields n (fields_of b)))
+    (placed-set s fields n (record { many = refl; room = λ j. refl }) (new 0 b (omega arith)) old) k (omega (arith, within, length-set fields n (fields_of b)))
 
 -- they are these blocks under their own numbers
 message-fields : (ns : List ℕ) (bs : List Block) (fields : List Fields) → length ns ≡ length bs → ((k : ℕ) → times k ns ≤ 1) → ((k : ℕ) → 0 < times k ns → k < length fields)
@@ -75,10 +75,10 @@ renumbered_names d (n ∷ ns) [] many = absurd (omega (arith, many))
 renumbered_names d (n ∷ ns) (b ∷ bs) many = grind (arith, common_steps, (renumbered_names d ns bs), count_adds, count_one)
 
 -- the first has the first number
-renumbered_head : (ns : List ℕ) (bs : List Block) (h : ℕ) → first ns ≡ Some h → 0 < length bs → head_of (blocks_renumbered (take (length bs) ns) bs) ≡ h
-renumbered_head [] bs h begun some = absurd (none-some h begun)
-renumbered_head (n ∷ ns) [] h begun some = absurd (omega (arith, some))
-renumbered_head (n ∷ ns) (b ∷ bs) h begun some = same_Some n h begun
+renumbered_head : (ns : List ℕ) (bs : List Block) {h : ℕ} → first ns ≡ Some h → 0 < length bs → head_of (blocks_renumbered (take (length bs) ns) bs) ≡ h
+renumbered_head [] bs {h} begun some = absurd (none-some h begun)
+renumbered_head (n ∷ ns) [] begun some = absurd (omega (arith, some))
+renumbered_head (n ∷ ns) (b ∷ bs) {h} begun some = same_Some n h begun
 
 -- ---- what is there once the first free numbers are a message of these blocks, held at h, and `a` was there before
 
@@ -95,17 +95,17 @@ module _ (id : ℕ) (s : CountedStore) (fields : List Fields) (v : ChainLists) (
   old = arena_of id s.store fields v
 
   h_free : 0 < times h v.free
-  h_free = omega (arith, ap (times h) (first_rest v.free h begun), times_here h h (drop 1 v.free) refl)
+  h_free = omega (arith, ap (times h) (first_rest v.free begun), times_here h h (drop 1 v.free) refl)
 
   room : h < length v.held
-  room = free_room v filled.parted h h_free
+  room = free_room filled.parted h h_free
 
   -- the first free block is one of all
   pub begin_room : h < length fields
   begin_room = omega (arith, room, filled.listed)
 
   unheld : held_at old h ≡ None
-  unheld = held_at-seen id s.store fields v h ∙ ap (option_map (message_of fields)) (free_unheld v filled.parted h h_free)
+  unheld = held_at-seen id s.store fields v h ∙ ap (option_map (message_of fields)) (free_unheld filled.parted h h_free)
 
   module _ (bs : List Block) (some : 0 < length bs) (enough : length bs ≤ length v.free) where
     abbrev ns : List ℕ
@@ -116,7 +116,7 @@ module _ (id : ℕ) (s : CountedStore) (fields : List Fields) (v : ChainLists) (
     parts k = ap (times k) (sym (take-append-drop (length bs) v.free)) ∙ times-append k ns (drop (length bs) v.free)
 
     within : (k : ℕ) → 0 < times k ns → k < length fields
-    within k inside = omega (arith, filled.listed, free_room v filled.parted k (omega (arith, parts k, inside)))
+    within k inside = omega (arith, filled.listed, free_room filled.parted k (omega (arith, parts k, inside)))
 
     many : length ns ≡ length bs
     many = length-take-le (length bs) v.free enough
@@ -128,23 +128,23 @@ module _ (id : ℕ) (s : CountedStore) (fields : List Fields) (v : ChainLists) (
     m = blocks_renumbered ns bs
 
     message_is : message_of now ns ≡ m
-    message_is = message-fields ns bs fields many (λ k. omega (arith, parts k, one_of_all v filled.parted k)) within
+    message_is = message-fields ns bs fields many (λ k. omega (arith, parts k, one_of_all filled.parted k)) within
 
     head_is : head_of m ≡ h
-    head_is = renumbered_head v.free bs h begun some
+    head_is = renumbered_head v.free bs begun some
 
-    module _ (t : CountedStore) (w : ChainLists) (kept : IsKept t) (w_is : w ≡ with_begun v h (length bs)) (parted : IsLawful w)
+    module _ {t : CountedStore} {w : ChainLists} (kept : IsKept t) (w_is : w ≡ with_begun v h (length bs)) (parted : IsLawful w)
         (rooms : HasRooms s.store t.store) (placed : All (λ b. IsPlaced t.store (fields_of b)) bs) (named : (k : ℕ) → count_of t k ≡ count_of s k + count_by (uses_data k) bs) where
       held_is : map (option_map (message_of now)) w.held ≡ set old.held h (Some m)
       held_is =
           ap (λ (l : ChainLists). map (option_map (message_of now)) l.held) w_is
           ∙ map-set (option_map (message_of now)) v.held h (Some ns)
-          ∙ (λ i. set (held-alike fields now v.held (alike_others ns (map fields_of bs) fields (blocks_held v.held) (λ k. omega (arith, parts k, one_of_all v filled.parted k))) i) h (Some (message_is i)))
+          ∙ (λ i. set (held-alike fields now v.held (alike_others ns (map fields_of bs) fields (blocks_held v.held) (λ k. omega (arith, parts k, one_of_all filled.parted k))) i) h (Some (message_is i)))
 
       shelves_is : map (map (message_of now)) w.shelves ≡ old.shelves
       shelves_is =
           ap (λ (l : ChainLists). map (map (message_of now)) l.shelves) w_is
-          ∙ shelves-alike fields now v.shelves (alike_others ns (map fields_of bs) fields (blocks_on v.shelves) (λ k. omega (arith, parts k, one_of_all v filled.parted k)))
+          ∙ shelves-alike fields now v.shelves (alike_others ns (map fields_of bs) fields (blocks_on v.shelves) (λ k. omega (arith, parts k, one_of_all filled.parted k)))
 
       abbrev rest : Arena
       rest = record (with_free_left (drop (length bs) v.free) old) { store = t.store }
@@ -174,7 +174,7 @@ module _ (id : ℕ) (s : CountedStore) (fields : List Fields) (v : ChainLists) (
           few = omega (arith, filled.few, held_many);
           listed = omega (arith, length-with_fields ns (map fields_of bs) fields, filled.listed, held_many);
           placed = λ k inside.
-              placed-fields t.store ns bs fields placed (λ j there. placed-over s.store t.store (fields_at fields j) rooms (filled.placed j there)) k
+              placed-fields t.store ns bs fields placed (λ j there. placed-over rooms (filled.placed j there)) k
               (omega (arith, inside, length-with_fields ns (map fields_of bs) fields));
           counts = λ k. named k ∙ omega (arith, filled.counts k, names_are k, ap (λ a. references_to a k) arena_is);
         };
@@ -190,20 +190,20 @@ module _ (id : ℕ) (s : CountedStore) (fields : List Fields) (v : ChainLists) (
 -- ==== `allocb`: a free message block over a data block just taken is held
 
 -- what the model gives if a block of each kind is free
-allocb_done : (a : Arena) (size n d : ℕ) (ns : List ℕ) → fits_a_class size a.store.classes ≡ true → a.free ≡ n ∷ ns → take_data size a.store ≡ Ok d
+allocb_done : (a : Arena) (size n : ℕ) {d : ℕ} (ns : List ℕ) → fits_a_class size a.store.classes ≡ true → a.free ≡ n ∷ ns → take_data size a.store ≡ Ok d
     → allocb size a ≡ Ok (n, with_held (new_block n d ∷ []) (record (with_free_left ns a) { store = with_data_taken d a.store }))
-allocb_done a size n d ns fits is some = grind (arith, common_steps)
+allocb_done a size n ns fits is some = grind (arith, common_steps)
 
 -- a size takes a data block only where some class is as large
-pub taken_fits : (size d : ℕ) (s : DataStore) → take_data size s ≡ Ok d → fits_a_class size s.classes ≡ true
-taken_fits size d s some = grind (arith, common_steps)
+pub taken_fits : (size : ℕ) {d : ℕ} (s : DataStore) → take_data size s ≡ Ok d → fits_a_class size s.classes ≡ true
+taken_fits size s some = grind (arith, common_steps)
 
 -- what is there once a message of one block n over d was allocated
 pub record IsAllocated (a : Arena) (t : CountedStore) (fields : List Fields) (w : ChainLists) (id size n d : ℕ) : Type 0 where
   pub begun : IsBegunAll a t fields w id n (new_block n d ∷ [])
   pub done : allocb size a ≡ Ok (n, arena_of id t.store fields w)
 
-module _ (id : ℕ) (s : CountedStore) (fields : List Fields) (v : ChainLists) (filled : IsFilled s fields v (arena_of id s.store fields v)) (n : ℕ) (begun : first v.free ≡ Some n)
+module _ (id : ℕ) (s : CountedStore) (fields : List Fields) (v : ChainLists) (filled : IsFilled s fields v (arena_of id s.store fields v)) {n : ℕ} (begun : first v.free ≡ Some n)
     (d : ℕ) (t : CountedStore) (w : ChainLists) (x : Fields) (fresh : IsUnused s d) (kept : IsKept t) (t_is : t ≡ after_take s (Ok d)) (w_is : w ≡ with_begun v n 1) (parted : IsLawful w)
     (x_is : x ≡ record { data_number = d; offset = 0; len = 0; band = 0 }) where
   rooms : HasRooms s.store t.store
@@ -217,7 +217,7 @@ module _ (id : ℕ) (s : CountedStore) (fields : List Fields) (v : ChainLists) (
   placed (suc i) other within = absurd (omega (arith, within))
 
   free_is : v.free ≡ n ∷ drop 1 v.free
-  free_is = first_rest v.free n begun
+  free_is = first_rest v.free begun
 
   said : with_fields (take 1 v.free) (fields_of (new_block n d) ∷ []) fields ≡ set fields n x
   said = ap (λ ns. with_fields (take 1 ns) (fields_of (new_block n d) ∷ []) fields) free_is ∙ ap (set fields n) (sym x_is)
@@ -225,7 +225,7 @@ module _ (id : ℕ) (s : CountedStore) (fields : List Fields) (v : ChainLists) (
   begins_new : IsBegunAll (arena_of id s.store fields v) t (set fields n x) w id n (new_block n d ∷ [])
   begins_new =
       subst (λ fs. IsBegunAll (arena_of id s.store fields v) t fs w id n (new_block n d ∷ [])) said
-      (begins_all id s fields v filled n begun (new_block n d ∷ []) (omega arith) (omega (arith, ap length free_is)) t w kept w_is parted rooms placed named)
+      (begins_all id s fields v filled n begun (new_block n d ∷ []) (omega arith) (omega (arith, ap length free_is)) kept w_is parted rooms placed named)
 
   pub allocates : (size : ℕ) → fits_a_class size s.store.classes ≡ true → take_data size s.store ≡ Ok d → IsAllocated (arena_of id s.store fields v) t (set fields n x) w id size n d
   allocates size fits some = grind (arith, common_steps, begins_new, allocb_done, free_is)

@@ -58,7 +58,7 @@ pub record IsCopying (o : Option DataStore) (bs : List Block) (ns : List ℕ) (i
 pub none_copied : (o : Option DataStore) (bs : List Block) (ns : List ℕ) (fields : List Fields) (s : CountedStore) → IsCopying o bs ns 0 fields fields s s
 none_copied o bs ns fields s = grind (arith, common_steps, in_front_none)
 
-module _ (o : Option DataStore) (bs : List Block) (ns : List ℕ) (i : ℕ) (old new : List Fields) (s t : CountedStore) (copying : IsCopying o bs ns i old new s t) where
+module _ {o : Option DataStore} {bs : List Block} {ns : List ℕ} {i : ℕ} {old new : List Fields} {s t : CountedStore} (copying : IsCopying o bs ns i old new s t) where
   -- a number that is none of the copies' says what it said
   pub source_stays : (n : ℕ) → times n ns ≡ 0 → fields_at new n ≡ fields_at old n
   source_stays n none = grind (arith, common_steps, with_fields_other, times_part)
@@ -89,16 +89,16 @@ module _ (o : Option DataStore) (bs : List Block) (ns : List ℕ) (i : ℕ) (old
       pub next_copied : IsCopying o bs ns (i + 1) old (set new n (fields_of copy)) s (with_copy o b t d)
       next_copied = record {
         made = copying.made ++ copy ∷ [];
-        answer = answer_more o bs i s.store t.store copying.made copying.answer b next d taken;
+        answer = answer_more o bs i s.store t.store copying.made copying.answer b next taken;
         fields =
             ap (λ fs. set fs n (fields_of copy)) copying.fields
             ∙ sym (with_fields_more (take i ns) (map fields_of copying.made) old n (fields_of copy) many_before)
-            ∙ (λ j. with_fields (sym (take_next ns i n at) j) (sym (map-append fields_of copying.made (copy ∷ [])) j) old);
+            ∙ (λ j. with_fields (sym (take_next ns i at) j) (sym (map-append fields_of copying.made (copy ∷ [])) j) old);
         many = omega (arith, length-append copying.made (copy ∷ []), copying.many);
         named = λ k. omega (arith, named_more k, copying.named k, (count_adds (uses_data k)).both copying.made (copy ∷ []), count_one (uses_data k) copy);
         placed =
             All-push (λ x. IsPlaced (store_with_copy o b t.store d) (fields_of x)) copying.made copy
-            (λ k e below. placed-over t.store (store_with_copy o b t.store d) (fields_of (get_or copying.made k e)) rooms_more (copying.placed k e below)) placed_copy;
+            (λ k e below. placed-over rooms_more (copying.placed k e below)) placed_copy;
         rooms = rooms-both copying.rooms rooms_more;
       }
 
@@ -111,7 +111,7 @@ pub record IsMade (o : Option DataStore) (bs : List Block) (a : Arena) (t : Coun
   pub done : message_copied o bs a ≡ Ok (h, arena_of id t.store fields w)
 
 -- copies of `count` blocks were made, in the first free message blocks
-module _ (o : Option DataStore) (bs : List Block) (count : ℕ) (many : length bs ≡ count) (id : ℕ) (s : CountedStore) (fields : List Fields) (v : ChainLists) (filled : IsFilled s fields v (arena_of id s.store fields v))
+module _ (o : Option DataStore) (bs : List Block) {count : ℕ} (many : length bs ≡ count) {id : ℕ} {s : CountedStore} {fields : List Fields} {v : ChainLists} (filled : IsFilled s fields v (arena_of id s.store fields v))
     (some : 0 < count) (free : count ≤ length v.free) (h : ℕ) (begun : first v.free ≡ Some h) (w : ChainLists) (w_is : w ≡ with_begun v h count) (into_is : nodes_at w h ≡ take count v.free) (parted : IsLawful w)
     (t : CountedStore) (new : List Fields) (kept : IsKept t) (are : AreCopied o bs (nodes_at w h) fields new s t) where
   abbrev before : Arena
@@ -126,7 +126,7 @@ module _ (o : Option DataStore) (bs : List Block) (count : ℕ) (many : length b
   all_begun : IsBegunAll before t new w id h are.made
   all_begun =
       subst (λ fs. IsBegunAll before t fs w id h are.made) (sym new_is)
-      (begins_all id s fields v filled h begun are.made (omega (arith, some, made_many)) (omega (arith, free, made_many)) t w kept (w_is ∙ ap (with_begun v h) (sym made_many)) parted
+      (begins_all id s fields v filled h begun are.made (omega (arith, some, made_many)) (omega (arith, free, made_many)) kept (w_is ∙ ap (with_begun v h) (sym made_many)) parted
       (record { many = are.blocks; room = are.rooms }) are.placed are.named)
 
   pub is_made : IsMade o bs before t new w id h
@@ -151,7 +151,7 @@ module _ (id : ℕ) (s : CountedStore) (fields : List Fields) (v : ChainLists) (
   old = arena_of id s.store fields v
 
   both : IsBeside v w token.head h count
-  both = beside id s fields v filled token had count some most free h begun w w_is
+  both = beside id s fields v filled token had count some most free begun w_is
 
   abbrev bs : List Block
   bs = take count (message_of fields (nodes_at v token.head))
@@ -161,7 +161,7 @@ module _ (id : ℕ) (s : CountedStore) (fields : List Fields) (v : ChainLists) (
 
   made : IsMade None bs old t new w id h
   made =
-      is_made None bs count blocks_many id s fields v filled some free h begun w w_is both.into.is parted t new kept
+      is_made None bs blocks_many filled some free h begun w w_is both.into.is parted t new kept
       (subst (λ ns. AreCopied None (take count (message_of fields ns)) (nodes_at w h) fields new s t) both.from_is are_now)
 
   pub copied_all : IsCopied old t new w id h count token

@@ -40,8 +40,8 @@ pub record IsTold (s : DataStore) (c : ℕ) (info : ClassInfo) : Type 0 where
   pub free : info.free ≡ length (free_of s c)
 
 module _ (s : CountedStore) (kept : IsKept s) (c : ℕ) where
-  pub told : (info : ClassInfo) → slice_get (class_infos s.store) c ≡ Some info → IsTold s.store c info
-  told info is =
+  pub told : {info : ClassInfo} → slice_get (class_infos s.store) c ≡ Some info → IsTold s.store c info
+  told {info} is =
       let there : c < length s.store.classes = omega (arith, slice_get_within (class_infos s.store) c info is, length-class_infos s kept) in
       let both = zip s.store.classes s.store.free in
       let in_lists : c < length s.store.free = omega (arith, there, kept.lists) in
@@ -62,8 +62,8 @@ module _ (s : CountedStore) (kept : IsKept s) (c : ℕ) where
       ]
 
 -- the classes that there are not have none free
-pub free_past : (s : CountedStore) → IsKept s → (c : ℕ) → length s.store.classes ≤ c → length (free_of s.store c) ≡ 0
-free_past s kept c past = ap length (get_or_past s.store.free c [] (omega (arith, past, kept.lists)))
+pub free_past : {s : CountedStore} → IsKept s → (c : ℕ) → length s.store.classes ≤ c → length (free_of s.store c) ≡ 0
+free_past {s} kept c past = ap length (get_or_past s.store.free c [] (omega (arith, past, kept.lists)))
 
 -- ---- the search
 
@@ -80,8 +80,8 @@ module _ (size : ℕ) (s : DataStore) (lists : length s.free ≡ length s.classe
       ∙ ap (fitting_from size s) next
 
   -- the first class that serves gives its first free data block
-  pub takes_left : (c : ℕ) → IsLeft size s.classes left c → ((k : ℕ) → k < c → IsLeft size s.classes left k → ⊥) → IsTakenFrom size s c
-  takes_left c is first = grind (arith, common_steps, IsTakenFrom-found, searched)
+  pub takes_left : {c : ℕ} → IsLeft size s.classes left c → ((k : ℕ) → k < c → IsLeft size s.classes left k → ⊥) → IsTakenFrom size s c
+  takes_left is first = grind (arith, common_steps, IsTakenFrom-found, searched)
 
   -- if no class serves, nothing is taken
   pub takes_none : fits_a_class size s.classes ≡ true → ((k : ℕ) → IsLeft size s.classes left k → ⊥) → take_data size s ≡ Err NoData
@@ -123,16 +123,16 @@ in_front_more made b (Err why) = refl
 -- ---- the blocks that are copied
 
 -- the next of the blocks, and those after it
-pub next_block : (fields : List Fields) (ns : List ℕ) (count i n : ℕ) → i < count → slice_get ns i ≡ Some n
+pub next_block : (fields : List Fields) (ns : List ℕ) (count i : ℕ) {n : ℕ} → i < count → slice_get ns i ≡ Some n
     → drop i (take count (message_of fields ns)) ≡ block_at fields n ∷ drop (i + 1) (take count (message_of fields ns))
-next_block fields ns count i n below is =
+next_block fields ns count i {n} below is =
     drop_from (take count (message_of fields ns)) i (block_at fields n)
     (slice_get-take count i (message_of fields ns) below ∙ slice_get-map (block_at fields) ns i ∙ ap (option_map (block_at fields)) is)
 
 -- each of them is one that there is
-pub block_there : (fields : List Fields) (v : ChainLists) → IsLawful v → length fields ≡ length v.held → (h count k : ℕ) (b : Block) → slice_get (take count (message_of fields (nodes_at v h))) k ≡ Some b
+pub block_there : (fields : List Fields) {v : ChainLists} → IsLawful v → length fields ≡ length v.held → (h count k : ℕ) {b : Block} → slice_get (take count (message_of fields (nodes_at v h))) k ≡ Some b
     → (n : ℕ) × (n < length fields) × (block_at fields n ≡ b)
-block_there fields v parted listed h count k b at =
+block_there fields {v} parted listed h count k {b} at =
     let ns = nodes_at v h in
     let bs = take count (message_of fields ns) in
     let n = get_or ns k 0 in
@@ -160,9 +160,9 @@ module _ (o : Option DataStore) (bs : List Block) (i : ℕ) (s t : DataStore) (m
   pub answer_refused : {why : Refusal} → take_data (capacity_of (copied_from o t) b.data_number) t ≡ Err why → blocks_copied o bs s ≡ Err why
   answer_refused none = next_answer ∙ ap (λ r. answer_map (in_front made) (and_then goes_on r)) none
 
-  pub answer_more : (d : ℕ) → take_data (capacity_of (copied_from o t) b.data_number) t ≡ Ok d
+  pub answer_more : {d : ℕ} → take_data (capacity_of (copied_from o t) b.data_number) t ≡ Ok d
       → blocks_copied o bs s ≡ answer_map (in_front (made ++ record b { data_number = d } ∷ [])) (blocks_copied o (drop (i + 1) bs) (store_with_copy o b t d))
-  answer_more d taken = grind (arith, common_steps, next_answer, in_front_more)
+  answer_more taken = grind (arith, common_steps, next_answer, in_front_more)
 
   -- a data block can be taken where all can
   pub can_take : is_ok (blocks_copied o bs s) ≡ true → is_ok (take_data (capacity_of (copied_from o t) b.data_number) t) ≡ true
@@ -179,14 +179,14 @@ bytes_few : (s : DataStore) (b : Block) → length (bytes_of_block s b) ≤ b.le
 bytes_few s b = omega (arith, length-take b.len (drop b.offset (data_block_at s b.data_number).bytes))
 
 -- data blocks that are copied keep their capacity while those of the copies are taken
-pub copied_room : (o : Option DataStore) (s t : DataStore) → HasRooms s t → (d : ℕ) → capacity_of (copied_from o t) d ≡ capacity_of (copied_from o s) d
-copied_room None s t rooms d = rooms.room d
-copied_room (Some other) s t rooms d = refl
+pub copied_room : (o : Option DataStore) {s t : DataStore} → HasRooms s t → (d : ℕ) → capacity_of (copied_from o t) d ≡ capacity_of (copied_from o s) d
+copied_room None rooms d = rooms.room d
+copied_room (Some other) rooms d = refl
 
 -- and stay as many
-copied_many : (o : Option DataStore) (s t : DataStore) → HasRooms s t → length (copied_from o t).blocks ≡ length (copied_from o s).blocks
-copied_many None s t rooms = rooms.many
-copied_many (Some other) s t rooms = refl
+copied_many : (o : Option DataStore) {s t : DataStore} → HasRooms s t → length (copied_from o t).blocks ≡ length (copied_from o s).blocks
+copied_many None rooms = rooms.many
+copied_many (Some other) rooms = refl
 
 module _ (o : Option DataStore) (b : Block) (s : DataStore) (d : ℕ) (room : b.offset + b.len ≤ capacity_of s d) where
   -- the bytes that are copied
@@ -214,9 +214,9 @@ pub record HasCopy (o : Option DataStore) (b : Block) (s : CountedStore) (d c : 
   pub rooms : HasRooms s.store (store_with_copy o b s.store d)
   pub kept : IsKept (with_copy o b s d)
 
-pub has_copy : (o : Option DataStore) (b : Block) (s : CountedStore) (c : ℕ) → IsKept s → b.offset + b.len ≤ capacity_of (copied_from o s.store) b.data_number → IsTakenFrom (capacity_of (copied_from o s.store) b.data_number) s.store c
+pub has_copy : (o : Option DataStore) (b : Block) {s : CountedStore} {c : ℕ} → IsKept s → b.offset + b.len ≤ capacity_of (copied_from o s.store) b.data_number → IsTakenFrom (capacity_of (copied_from o s.store) b.data_number) s.store c
     → HasCopy o b s (get_or (free_of s.store c) 0 0) c
-has_copy o b s c kept within from =
+has_copy o b {s} {c} kept within from =
     let d = get_or (free_of s.store c) 0 0 in
     let size = capacity_of (copied_from o s.store) b.data_number in
     let first = first_unused s kept c from.some in
@@ -239,13 +239,13 @@ has_copy o b s c kept within from =
 -- ---- whether the data blocks suffice
 
 -- a data block's own class fits its capacity
-fits_own : (s : CountedStore) → IsKept s → (d : ℕ) → d < length s.store.blocks → fits_a_class (capacity_of s.store d) s.store.classes ≡ true
-fits_own s kept d there = grind (arith, common_steps, list_any_at, le-leb)
+fits_own : {s : CountedStore} → IsKept s → (d : ℕ) → d < length s.store.blocks → fits_a_class (capacity_of s.store d) s.store.classes ≡ true
+fits_own kept d there = grind (arith, common_steps, list_any_at, le-leb)
 
 -- so a class fits each block of a message in the same store
-pub fits_each : (s : CountedStore) → IsKept s → (bs : List Block) → ((k : ℕ) (b : Block) → slice_get bs k ≡ Some b → b.data_number < length s.store.blocks) → fits_classes s.store bs s.store ≡ true
-fits_each s kept [] there = refl
-fits_each s kept (b ∷ bs) there = λ i. fits_own s kept b.data_number (there 0 b refl) i && fits_each s kept bs (λ k x at. there (suc k) x at) i
+pub fits_each : {s : CountedStore} → IsKept s → (bs : List Block) → ((k : ℕ) (b : Block) → slice_get bs k ≡ Some b → b.data_number < length s.store.blocks) → fits_classes s.store bs s.store ≡ true
+fits_each kept [] there = refl
+fits_each {s} kept (b ∷ bs) there = λ i. fits_own kept b.data_number (there 0 b refl) i && fits_each kept bs (λ k x at. there (suc k) x at) i
 
 -- what would be left after copies of the blocks before i, which are `made`
 pub record IsAhead (o : Option DataStore) (bs : List Block) (i : ℕ) (s t : CountedStore) (left : List ℕ) : Type 0 where
@@ -257,9 +257,9 @@ pub record IsAhead (o : Option DataStore) (bs : List Block) (i : ℕ) (s t : Cou
   pub answer : blocks_copied o bs s.store ≡ answer_map (in_front made) (blocks_copied o (drop i bs) t.store)
 
 -- one of a class was taken
-left_less : (o : Option DataStore) (b : Block) (s : CountedStore) (d c : ℕ) (left : List ℕ) → IsKept s → HasCopy o b s d c → AreLeft left s.store → 0 < get_or left c 0
+left_less : {o : Option DataStore} {b : Block} {s : CountedStore} {d c : ℕ} (left : List ℕ) → IsKept s → HasCopy o b s d c → AreLeft left s.store → 0 < get_or left c 0
     → AreLeft (set left c (get_or left c 0 - 1)) (store_with_copy o b s.store d)
-left_less o b s d c left kept copy are some k =
+left_less {o} {b} {s} {d} {c} left kept copy are some k =
     let counted : c < length left = elim (cases_lt c (length left)) [ inl inside ↦ inside | inr past ↦ absurd (omega (arith, some, get_or_past left c 0 past)) ] in
     let listed : c < length s.store.free = omega (arith, copy.unused.classed, copy.class, kept.lists) in
     let lists : (store_with_copy o b s.store d).free ≡ set s.store.free c (drop 1 (free_of s.store c)) = ap (λ j. set s.store.free j (drop 1 (free_of s.store j))) copy.class in
@@ -280,34 +280,34 @@ module _ (o : Option DataStore) (bs : List Block) (i : ℕ) (s t : CountedStore)
 
   -- a class serves for the store as it would be where it does for the store as it is
   as_wide : ◌≡◌ {A = ℕ × List ClassSpec} (capacity_of (copied_from o t.store) b.data_number, t.store.classes) (asked, s.store.classes)
-  as_wide = λ i. (copied_room o s.store t.store ahead.rooms b.data_number i, ahead.classes i)
+  as_wide = λ i. (copied_room o ahead.rooms b.data_number i, ahead.classes i)
 
-  served : (k : ℕ) → IsLeft (capacity_of (copied_from o t.store) b.data_number) t.store.classes left k → IsLeft asked s.store.classes left k
-  served k = subst (λ (p : ℕ × List ClassSpec). IsLeft p.0 p.1 left k) as_wide
+  served : {k : ℕ} → IsLeft (capacity_of (copied_from o t.store) b.data_number) t.store.classes left k → IsLeft asked s.store.classes left k
+  served {k} = subst (λ (p : ℕ × List ClassSpec). IsLeft p.0 p.1 left k) as_wide
 
   -- none is left for the next block
   pub none_ahead : ((k : ℕ) → IsLeft asked s.store.classes left k → ⊥) → blocks_copied o bs s.store ≡ Err NoData
   none_ahead none =
       answer_refused o bs i s.store t.store ahead.made ahead.answer b next
       (takes_none (capacity_of (copied_from o t.store) b.data_number) t.store ahead.kept.lists left ahead.are (subst (λ (p : ℕ × List ClassSpec). fits_a_class p.0 p.1 ≡ true) (sym as_wide) wide)
-      (λ k is. none k (served k is)))
+      (λ k is. none k (served is)))
 
   -- the first class that serves loses one
   pub next_ahead : (c : ℕ) → IsLeft asked s.store.classes left c → ((k : ℕ) → k < c → IsLeft asked s.store.classes left k → ⊥)
       → (u : CountedStore) × IsAhead o bs (i + 1) s u (set left c (get_or left c 0 - 1))
   next_ahead c is first =
       let from =
-      takes_left (capacity_of (copied_from o t.store) b.data_number) t.store ahead.kept.lists left ahead.are c (subst (λ (p : ℕ × List ClassSpec). IsLeft p.0 p.1 left c) (sym as_wide) is) (λ k below other. first k below (served k other)) in
+      takes_left (capacity_of (copied_from o t.store) b.data_number) t.store ahead.kept.lists left ahead.are (subst (λ (p : ℕ × List ClassSpec). IsLeft p.0 p.1 left c) (sym as_wide) is) (λ k below other. first k below (served other)) in
       let d = get_or (free_of t.store c) 0 0 in
-      let copy = has_copy o b t c ahead.kept (omega (arith, inside.1, copied_room o s.store t.store ahead.rooms b.data_number)) from in (
+      let copy = has_copy o b ahead.kept (omega (arith, inside.1, copied_room o ahead.rooms b.data_number)) from in (
         with_copy o b t d,
         record {
           kept = copy.kept;
           rooms = rooms-both ahead.rooms copy.rooms;
           classes = ahead.classes;
-          are = left_less o b t d c left ahead.kept copy ahead.are is.some;
+          are = left_less left ahead.kept copy ahead.are is.some;
           made = ahead.made ++ record b { data_number = d } ∷ [];
-          answer = answer_more o bs i s.store t.store ahead.made ahead.answer b next d copy.taken;
+          answer = answer_more o bs i s.store t.store ahead.made ahead.answer b next copy.taken;
         },
       )
 
@@ -322,13 +322,13 @@ module _ (size : ℕ) (classes : List ClassSpec) (left : List ℕ) where
   is_left : (c : ℕ) → IsLeft size classes left c ⊎ (IsLeft size classes left c → ⊥)
   is_left c = grind (arith, common_steps)
 
-  first_from : (steps c last : ℕ) → c + steps ≡ last → IsLeft size classes left last → ((k : ℕ) → k < c → IsLeft size classes left k → ⊥) → (f : ℕ) × IsFirstLeft size classes left f
-  first_from zero c last at is none = (c, record { is = subst (IsLeft size classes left) (let e : last ≡ c = omega (arith, at) in e) is; first = none })
-  first_from (suc steps) c last at is none =
+  first_from : (steps c : ℕ) {last : ℕ} → c + steps ≡ last → IsLeft size classes left last → ((k : ℕ) → k < c → IsLeft size classes left k → ⊥) → (f : ℕ) × IsFirstLeft size classes left f
+  first_from zero c {last} at is none = (c, record { is = subst (IsLeft size classes left) (let e : last ≡ c = omega (arith, at) in e) is; first = none })
+  first_from (suc steps) c {last} at is none =
       elim (is_left c) [
         | inl here ↦ (c, record { is = here; first = none })
         | inr not ↦
-            first_from steps (suc c) last (omega (arith, at)) is
+            first_from steps (suc c) (omega (arith, at)) is
             (λ k below other. elim (cases_eq k c) [
               | inl same ↦ not (subst (IsLeft size classes left) same other)
               | inr before ↦ none k (omega (arith, below, before)) other
@@ -340,8 +340,8 @@ still_left : (left : List ℕ) (last c n : ℕ) → suc n ≤ get_or left last 0
 still_left left last c n many = grind (arith, common_steps, get_or_past, get_or-set_same, get_or-set_other)
 
 -- a size that fits a class fits the largest
-fits_largest : (size : ℕ) (s : CountedStore) → IsKept s → fits_a_class size s.store.classes ≡ true → size ≤ (class_spec_at s.store (length s.store.classes - 1)).size
-fits_largest size s kept fits =
+fits_largest : (size : ℕ) {s : CountedStore} → IsKept s → fits_a_class size s.store.classes ≡ true → size ≤ (class_spec_at s.store (length s.store.classes - 1)).size
+fits_largest size {s} kept fits =
     let classes = s.store.classes in
     let any = Any-from_list_any (λ (c : ClassSpec). nat_le size c.size) classes fits in
     omega (
@@ -352,31 +352,31 @@ fits_largest size s kept fits =
     )
 
 -- all can be made where the largest class has as many data blocks left
-pub enough_left : (o : Option DataStore) (bs : List Block) (s : CountedStore) (left : List ℕ) → IsKept s → AreLeft left s.store
+pub enough_left : (o : Option DataStore) (bs : List Block) {s : CountedStore} (left : List ℕ) → IsKept s → AreLeft left s.store
     → ((k : ℕ) (b : Block) → slice_get bs k ≡ Some b → IsInside (copied_from o s.store) b × (fits_a_class (capacity_of (copied_from o s.store) b.data_number) s.store.classes ≡ true))
     → length bs ≤ get_or left (length s.store.classes - 1) 0 → is_ok (blocks_copied o bs s.store) ≡ true
-enough_left o [] s left kept are inside many = refl
-enough_left o (b ∷ bs) s left kept are inside many =
+enough_left o [] left kept are inside many = refl
+enough_left o (b ∷ bs) {s} left kept are inside many =
     let classes = s.store.classes in
     let last = length classes - 1 in
     let size = capacity_of (copied_from o s.store) b.data_number in
     let here = inside 0 b refl in
     let widest : IsLeft size classes left last = record {
       there = omega (arith, lawful_some classes kept.lawful);
-      wide = fits_largest size s kept here.1;
+      wide = fits_largest size kept here.1;
       some = omega (arith, many);
     } in
-    let found = first_from size classes left last 0 last (omega arith) widest (λ k below. absurd (omega (arith, below))) in
+    let found = first_from size classes left last 0 (omega arith) widest (λ k below. absurd (omega (arith, below))) in
     let c = found.0 in
     let d = get_or (free_of s.store c) 0 0 in
-    let copy = has_copy o b s c kept here.0.1 (takes_left size s.store kept.lists left are c found.1.is found.1.first) in
+    let copy = has_copy o b kept here.0.1 (takes_left size s.store kept.lists left are found.1.is found.1.first) in
     ap (λ r. is_ok (and_then (λ e. answer_map (in_front (record b { data_number = e } ∷ [])) (blocks_copied o bs (store_with_copy o b s.store e))) r)) copy.taken
     ∙ is_ok-map (in_front (record b { data_number = d } ∷ [])) (blocks_copied o bs (store_with_copy o b s.store d))
-    ∙ enough_left o bs (with_copy o b s d) (set left c (get_or left c 0 - 1)) copy.kept (left_less o b s d c left kept copy are found.1.is.some)
+    ∙ enough_left o bs (set left c (get_or left c 0 - 1)) copy.kept (left_less left kept copy are found.1.is.some)
     (λ k x at.
     let was = inside (suc k) x at in
-    let room = copied_room o s.store (store_with_copy o b s.store d) copy.rooms x.data_number in (
-      (omega (arith, was.0.0, copied_many o s.store (store_with_copy o b s.store d) copy.rooms), omega (arith, was.0.1, room)),
+    let room = copied_room o copy.rooms x.data_number in (
+      (omega (arith, was.0.0, copied_many o copy.rooms), omega (arith, was.0.1, room)),
       ap (λ n. fits_a_class n classes) room ∙ was.1,
     ))
     (still_left left last c (length bs) (omega (arith, many)))

@@ -97,8 +97,8 @@ given_back (d ∷ ds) s used = grind (arith, common_steps, (given_back ds s (res
 -- ---- too many
 
 -- one of them would have more than most_references
-pub exceeds : (ds : List ℕ) (s : CountedStore) (i d : ℕ) → slice_get ds i ≡ Some d → most_references < count_of s d + times d ds → exceeds_counts ds s ≡ true
-exceeds ds s i d is many =
+pub exceeds : (ds : List ℕ) (s : CountedStore) (i : ℕ) {d : ℕ} → slice_get ds i ≡ Some d → most_references < count_of s d + times d ds → exceeds_counts ds s ≡ true
+exceeds ds s i {d} is many =
     list_any_at (λ k. nat_lt most_references (count_of s k + times k ds)) ds i d (slice_get_within ds i d is)
     (ap (λ k. nat_lt most_references (count_of s k + times k ds)) (get_or_from_slice_get ds i d d is) ∙ lt-ltb most_references (count_of s d + times d ds) many)
 
@@ -111,8 +111,8 @@ not_exceeds ds s used kept =
 -- ---- one step of the loop
 
 -- the first of a list, and one more
-pub take_next : (ns : List ℕ) (i n : ℕ) → slice_get ns i ≡ Some n → take (i + 1) ns ≡ take i ns ++ n ∷ []
-take_next ns i n is = take_more ns i n (slice_get_within ns i n is) ∙ ap (λ k. take i ns ++ k ∷ []) (get_or_from_slice_get ns i n n is)
+pub take_next : (ns : List ℕ) (i : ℕ) {n : ℕ} → slice_get ns i ≡ Some n → take (i + 1) ns ≡ take i ns ++ n ∷ []
+take_next ns i {n} is = take_more ns i n (slice_get_within ns i n is) ∙ ap (λ k. take i ns ++ k ∷ []) (get_or_from_slice_get ns i n n is)
 
 -- a part of a list has a number no more often
 pub times_part : (k i : ℕ) (ds : List ℕ) → times k (take i ds) ≤ times k ds
@@ -122,7 +122,7 @@ pub used_part : (i : ℕ) (ds : List ℕ) (s : CountedStore) → AreUsed ds s �
 used_part i ds s used k some = used k (omega (arith, some, times_part k i ds))
 
 -- the first i of all have a name more than they had
-module _ (all : List ℕ) (i : ℕ) (old s : CountedStore) (used : AreUsed all old) (s_is : s ≡ with_references_given (take i all) old) where
+module _ (all : List ℕ) (i : ℕ) (old : CountedStore) {s : CountedStore} (used : AreUsed all old) (s_is : s ≡ with_references_given (take i all) old) where
   counts_now : (k : ℕ) → count_of s k ≡ count_of old k + times k (take i all)
   counts_now k = ap (λ c. count_of c k) s_is ∙ counts_given (take i all) old (used_part i all old used) k
 
@@ -141,24 +141,24 @@ module _ (all : List ℕ) (i : ℕ) (old s : CountedStore) (used : AreUsed all o
   pub few_now : IsKept s → exceeds_counts (take i all) old ≡ false
   few_now kept = not_exceeds (take i all) old (used_part i all old used) (subst IsKept s_is kept)
 
-  module _ (d : ℕ) (is : slice_get all i ≡ Some d) where
+  module _ {d : ℕ} (is : slice_get all i ≡ Some d) where
     -- the next is in use
     pub next_used : 0 < count_of s d
     next_used = omega (arith, used d (times_at d all i is), counts_now d)
 
     -- and has a name more, too
     pub next_given : with_reference d s ≡ with_references_given (take (i + 1) all) old
-    next_given = ap (with_reference d) s_is ∙ sym (given_more (take i all) d old) ∙ ap (λ ds. with_references_given ds old) (sym (take_next all i d is))
+    next_given = ap (with_reference d) s_is ∙ sym (given_more (take i all) d old) ∙ ap (λ ds. with_references_given ds old) (sym (take_next all i is))
 
     -- unless it has all that it can have
     pub next_full : (n : ℕ) → i < n → count_of s d ≡ most_references → exceeds_counts (take n all) old ≡ true
     next_full n within full =
-        exceeds (take n all) old i d (slice_get-take n i all within ∙ is)
+        exceeds (take n all) old i (slice_get-take n i all within ∙ is)
         (omega (
           arith,
           full,
           counts_now d,
-          ap (times d) (take_next all i d is),
+          ap (times d) (take_next all i is),
           times-append d (take i all) (d ∷ []),
           times_here d d [] refl,
           ap (times d) (take-take (i + 1) n all (omega (arith, within))),
@@ -174,19 +174,19 @@ pub record IsInto (v w : ChainLists) (h count : ℕ) : Type 0 where
   pub many : length (nodes_at w h) ≡ count
   pub unheld : held_in v.held h ≡ None
 
-module _ (v : ChainLists) (parted : IsLawful v) (count : ℕ) (some : 0 < count) (free : count ≤ length v.free) (h : ℕ) (begun : first v.free ≡ Some h) (w : ChainLists) (w_is : w ≡ with_begun v h count) where
+module _ {v : ChainLists} (parted : IsLawful v) (count : ℕ) (some : 0 < count) (free : count ≤ length v.free) {h : ℕ} (begun : first v.free ≡ Some h) {w : ChainLists} (w_is : w ≡ with_begun v h count) where
   h_free : 0 < times h v.free
-  h_free = omega (arith, ap (times h) (first_rest v.free h begun), times_here h h (drop 1 v.free) refl)
+  h_free = omega (arith, ap (times h) (first_rest v.free begun), times_here h h (drop 1 v.free) refl)
 
   into_new : nodes_at w h ≡ take count v.free
-  into_new = ap (λ (l : ChainLists). nodes_at l h) w_is ∙ ap blocks_of (get_or-set_same v.held h (Some (take count v.free)) None (free_room v parted h h_free))
+  into_new = ap (λ (l : ChainLists). nodes_at l h) w_is ∙ ap blocks_of (get_or-set_same v.held h (Some (take count v.free)) None (free_room parted h h_free))
 
   pub into_is : IsInto v w h count
   into_is = record {
     is = into_new;
-    begun = ap (λ ns. slice_get ns 0) into_new ∙ slice_get-take count 0 v.free some ∙ at_first v.free h begun;
+    begun = ap (λ ns. slice_get ns 0) into_new ∙ slice_get-take count 0 v.free some ∙ at_first v.free begun;
     many = ap length into_new ∙ length-take-le count v.free free;
-    unheld = free_unheld v parted h h_free;
+    unheld = free_unheld parted h h_free;
   }
 
 -- and this message is beside the one held at g
@@ -199,12 +199,12 @@ pub record IsBeside (v w : ChainLists) (g h count : ℕ) : Type 0 where
   pub other : g ≢ h
 
 module _ (id : ℕ) (s : CountedStore) (fields : List Fields) (v : ChainLists) (filled : IsFilled s fields v (arena_of id s.store fields v)) (token : TokenValue) (had : has (arena_of id s.store fields v) token ≡ true)
-    (count : ℕ) (some : 0 < count) (enough : count ≤ token.blocks) (free : count ≤ length v.free) (h : ℕ) (begun : first v.free ≡ Some h) (w : ChainLists) (w_is : w ≡ with_begun v h count) where
+    (count : ℕ) (some : 0 < count) (enough : count ≤ token.blocks) (free : count ≤ length v.free) {h : ℕ} (begun : first v.free ≡ Some h) {w : ChainLists} (w_is : w ≡ with_begun v h count) where
   abbrev g : ℕ
   g = token.head
 
   new : IsInto v w h count
-  new = into_is v filled.parted count some free h begun w w_is
+  new = into_is filled.parted count some free begun w_is
 
   held_there : (held_in v.held g ≡ Some (nodes_at v g)) × (token.blocks ≡ length (nodes_at v g))
   held_there = token_nodes id s fields v token had
@@ -220,15 +220,15 @@ module _ (id : ℕ) (s : CountedStore) (fields : List Fields) (v : ChainLists) (
     into = new;
     enough = omega (arith, enough, held_there.1);
     from_is = from_same;
-    from = at_first (nodes_at v g) g (begins_with v filled.parted g (nodes_at v g) held_there.0);
+    from = at_first (nodes_at v g) (begins_with filled.parted g held_there.0);
     apart = λ n.
         omega (
           arith,
           ap (times n) from_same,
           ap (times n) new.is,
           times_part n count v.free,
-          one_of_all v filled.parted n,
-          held_parts v g n (nodes_at v g) held_there.0,
+          one_of_all filled.parted n,
+          held_parts v g n held_there.0,
         );
     other = other;
   }
@@ -241,9 +241,9 @@ pub record IsCopying (from to : List ℕ) (i : ℕ) (old now : List Fields) : Ty
   pub others : (k : ℕ) → times k to ≡ 0 → fields_at now k ≡ fields_at old k
   pub many : length now ≡ length old
 
-module _ (from to : List ℕ) (i : ℕ) (old now : List Fields) (copying : IsCopying from to i old now) where
-  pub next_copying : (r w : ℕ) → slice_get from i ≡ Some r → slice_get to i ≡ Some w → times r to ≡ 0 → IsCopying from to (i + 1) old (set now w (fields_at now r))
-  next_copying r w read written apart = record {
+module _ {from to : List ℕ} {i : ℕ} {old now : List Fields} (copying : IsCopying from to i old now) where
+  pub next_copying : {r w : ℕ} → slice_get from i ≡ Some r → slice_get to i ≡ Some w → times r to ≡ 0 → IsCopying from to (i + 1) old (set now w (fields_at now r))
+  next_copying {r} {w} read written apart = record {
     after =
         ap (λ x. with_fields (drop (i + 1) to) (map (fields_at old) (drop (i + 1) from)) (set now w x)) (copying.others r apart)
         ∙ (λ j. with_fields (sym (drop_from to i w written) j) (map (fields_at old) (sym (drop_from from i r read) j)) now)
@@ -324,7 +324,7 @@ module _ (id : ℕ) (s : CountedStore) (fields : List Fields) (v : ChainLists) (
     -- the first free blocks are a message, held at h
     module _ (h : ℕ) (begun : first v.free ≡ Some h) (w : ChainLists) (w_is : w ≡ with_begun v h n) (parted : IsLawful w) where
       both : IsBeside v w token.head h n
-      both = beside id s fields v filled token had n some most free h begun w w_is
+      both = beside id s fields v filled token had n some most free begun w_is
 
       module _ (t : CountedStore) (now : List Fields) (kept : IsKept t) (few : exceeds_counts ds s ≡ false) (t_is : t ≡ with_references_given ds s)
           (now_is : now ≡ with_fields (nodes_at w h) (map (fields_at fields) (take n (nodes_at w token.head))) fields) where
@@ -340,7 +340,7 @@ module _ (id : ℕ) (s : CountedStore) (fields : List Fields) (v : ChainLists) (
             (λ k d inside.
             let at : slice_get ns k ≡ Some (get_or (take n ns) k d) = sym (slice_get-take n k ns (omega (arith, inside, length-take-le n ns long))) ∙ slice_get-get_or (take n ns) k d inside in
             subst (λ (store : DataStore). IsPlaced store (fields_at fields (get_or (take n ns) k d))) (sym same_store)
-            (filled.placed (get_or (take n ns) k d) (node_room id s fields v filled token.head k (get_or (take n ns) k d) ns held at)))
+            (filled.placed (get_or (take n ns) k d) (node_room id s fields v filled token.head k held at)))
 
         counts : (k : ℕ) → count_of t k ≡ count_of s k + count_by (uses_data k) bs
         counts k = ap (λ c. count_of c k) t_is ∙ counts_given ds s (used_part n (data_used_by fields ns) s used) k ∙ ap (λ c. count_of s k + c) (sym (named k))
@@ -351,7 +351,7 @@ module _ (id : ℕ) (s : CountedStore) (fields : List Fields) (v : ChainLists) (
         all_begun : IsBegunAll old t now w id h bs
         all_begun =
             subst (λ fs. IsBegunAll old t fs w id h bs) fields_are
-            (begins_all id s fields v filled h begun bs (omega (arith, some, many)) (omega (arith, free, many)) t w kept (w_is ∙ ap (with_begun v h) (sym many)) parted rooms placed counts)
+            (begins_all id s fields v filled h begun bs (omega (arith, some, many)) (omega (arith, free, many)) kept (w_is ∙ ap (with_begun v h) (sym many)) parted rooms placed counts)
 
         pub duplicates : IsDuplicated old t now w id h (take n (message_at old token.head)) token
         duplicates = grind (arith, common_steps, bs_is, all_begun, cond-false, room, exceed_is, same_store, had_again, message, both, held)

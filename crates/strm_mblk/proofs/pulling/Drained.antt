@@ -92,14 +92,14 @@ module _ (id : ℕ) (s : CountedStore) (fields : List Fields) (v : ChainLists) (
   now = with_bytes_cut false left rest fields
 
   nodes_are : ns ≡ h ∷ drop 1 ns
-  nodes_are = first_rest ns h (begins_with v filled.parted h ns held)
+  nodes_are = first_rest ns (begins_with filled.parted h held)
 
   -- how often a number is there
   sums : (n : ℕ) → times n ns ≡ times n (take 1 ns) + (times n out + times n rest)
   sums n = ap (times n) (split_behind ns i) ∙ omega (arith, times-append n (take 1 ns) (out ++ rest), times-append n out rest)
 
   once : (n : ℕ) → times n ns ≤ 1
-  once = once_within id s fields v filled h ns held
+  once = once_within filled h held
 
   -- ---- bytes are lost
 
@@ -114,10 +114,10 @@ module _ (id : ℕ) (s : CountedStore) (fields : List Fields) (v : ChainLists) (
   }
 
   filled_now : IsFilled s now v (arena_of id s.store now v)
-  filled_now = message_filled id s fields v filled h ns held s now change filled.kept refl (cut_placed false s.store rest left fields filled.placed)
+  filled_now = message_filled filled h held s change filled.kept refl (cut_placed false s.store rest left fields filled.placed)
 
   shows_now : arena_of id s.store now v ≡ with_message h (message_of now ns) old
-  shows_now = message_shows id s fields v filled h ns held s.store now change.apart
+  shows_now = message_shows filled h held s.store now change.apart
 
   -- ---- of what the message has then
 
@@ -140,7 +140,7 @@ module _ (id : ℕ) (s : CountedStore) (fields : List Fields) (v : ChainLists) (
 
     rest_now : message_of now rest ≡ blocks_left_over count bs
     rest_now =
-        nodes_cut false rest left fields (λ n. omega (arith, once n, sums n)) (λ n some. within_room id s fields v filled h ns held n (omega (arith, some, sums n)))
+        nodes_cut false rest left fields (λ n. omega (arith, once n, sums n)) (λ n some. within_room filled h held n (omega (arith, some, sums n)))
         ∙ ap (blocks_cut_front left) rest_is
         ∙ (λ k. blocks_cut_front (count - size_of (bytes_used k)) (drop (used k) bs))
         ∙ sym (left_others count bs)
@@ -167,21 +167,21 @@ module _ (id : ℕ) (s : CountedStore) (fields : List Fields) (v : ChainLists) (
     drained_is : with_blocks_freed (message_of now out) (with_message h (message_of now (take 1 ns ++ rest)) (arena_of id s.store now v)) ≡ with_bytes_drained h count (message_at old h) old
     drained_is = grind (arith, common_steps, shows_now, set-set, out_now, message_now, message_at-seen, nodes_are)
 
-    frees_now : (t : CountedStore) (w : ChainLists) → t ≡ with_references_dropped (take i (data_used_by fields (drop 1 ns))) s → IsKept t → w ≡ with_behind_freed h i ns v → IsLawful w
+    frees_now : {t : CountedStore} {w : ChainLists} → t ≡ with_references_dropped (take i (data_used_by fields (drop 1 ns))) s → IsKept t → w ≡ with_behind_freed h i ns v → IsLawful w
         → IsFreed old (with_bytes_drained h count (message_at old h) old) t now w id
-    frees_now t w t_is kept w_is parted =
+    frees_now {t} {w} t_is kept w_is parted =
         let names : take i (data_used_by fields (drop 1 ns)) ≡ data_used_by now out =
         take-map (λ n. (fields_at fields n).data_number) i (drop 1 ns) ∙ sym (named-same fields now change.named out) in
-        let freed = frees_some id s now v filled_now h held (Some (take 1 ns ++ rest)) out parts t w (t_is ∙ ap (λ ds. with_references_dropped ds s) names) kept w_is parted in
+        let freed = frees_some id s now v filled_now h held (Some (take 1 ns ++ rest)) out parts (t_is ∙ ap (λ ds. with_references_dropped ds s) names) kept w_is parted in
         record {
           filled = freed.filled;
           shelved = freed.shelved ∙ ap shelved_blocks shows_now;
           after = freed.after ∙ drained_is;
         }
 
-  pub drains : (fields' : List Fields) (t : CountedStore) (w : ChainLists) → AreTaken fields ns count s i fields' t → IsKept t → w ≡ with_behind_freed h i ns v → IsLawful w
+  pub drains : {fields' : List Fields} {t : CountedStore} {w : ChainLists} → AreTaken fields ns count s i fields' t → IsKept t → w ≡ with_behind_freed h i ns v → IsLawful w
       → IsFreed old (with_bytes_drained h count (message_at old h) old) t fields' w id
-  drains fields' t w taken kept w_is parted = grind (arith, common_steps, frees_now)
+  drains taken kept w_is parted = grind (arith, common_steps, frees_now)
 
 -- ==== `pullupmsg`: the first block has the next bytes, and the blocks after it have lost them
 
@@ -246,9 +246,9 @@ same_answer f g (Ok d) = refl
 same_answer f g (Err why) = refl
 
 -- and it is taken where the call is answered
-taken_where : (f : ℕ → Arena) (r : Result ℕ Refusal) (u : Unit {0}) → answer_of (answer_map (λ d. (tt {0}, f d)) r) ≡ Ok u → (d : ℕ) × (r ≡ Ok d)
-taken_where f (Ok d) u is = (d, refl)
-taken_where f (Err why) u is = absurd (cc is)
+taken_where : (f : ℕ → Arena) (r : Result ℕ Refusal) {u : Unit {0}} → answer_of (answer_map (λ d. (tt {0}, f d)) r) ≡ Ok u → (d : ℕ) × (r ≡ Ok d)
+taken_where f (Ok d) is = (d, refl)
+taken_where f (Err why) is = absurd (cc is)
 
 -- ---- the call, as the code goes
 
@@ -266,7 +266,7 @@ module _ (h n : ℕ) (b : Block) (bs : List Block) (a : Arena) (held : held_at a
 
   module _ (first : Arena) (first_is : first ≡ value_after a (pull_front h n a)) (u : Unit {0}) (given : answer_of (pull_front h n a) ≡ Ok u) where
     pub taken : (d : ℕ) × (take_data n a.store ≡ Ok d)
-    taken = taken_where (front_pulled h n (message_at a h) a) (take_data n a.store) u given
+    taken = taken_where (front_pulled h n (message_at a h) a) (take_data n a.store) given
 
     front_pulled_now : first ≡ front_pulled h n (b ∷ bs) a taken.0
     front_pulled_now = grind (arith, common_steps, taken)
@@ -275,8 +275,8 @@ module _ (h n : ℕ) (b : Block) (bs : List Block) (a : Arena) (held : held_at a
     pub front_pulled_held : held_at first h ≡ Some (over_data taken.0 n b ∷ bs)
     front_pulled_held = ap (λ x. held_at x h) front_pulled_now ∙ first_held h n b bs a held taken.0
 
-    pub pulls : (new : Arena) → new ≡ with_bytes_drained h (n - b.len) (message_at first h) first → IsPulled h n a (pullupmsg h count a) new
-    pulls new new_is =
+    pub pulls : {new : Arena} → new ≡ with_bytes_drained h (n - b.len) (message_at first h) first → IsPulled h n a (pullupmsg h count a) new
+    pulls {new} new_is =
         let is : new ≡ with_front_pulled h n (b ∷ bs) a taken.0 = new_is ∙ ap (λ x. with_bytes_drained h (n - b.len) (message_at x h) x) front_pulled_now ∙ pulled_is h n b bs a held taken.0 in
         let now : held_at new h ≡ Some (over_data taken.0 n b ∷ blocks_left_over (n - b.len) bs) = ap (λ x. held_at x h) is ∙ pulled_held h n b bs a held taken.0 in
         record {

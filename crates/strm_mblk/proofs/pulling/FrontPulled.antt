@@ -44,12 +44,12 @@ pub record IsFrontCopied (s : CountedStore) (m : List Block) (into count k done 
   pub after : t ≡ with_front_copied into done m s
   pub left : take (count - done) (drop done (bytes_of s.store m)) ≡ take (count - done) (bytes_of s.store (drop k m))
 
-module _ (s : CountedStore) (m : List Block) (into count k done : ℕ) (t : CountedStore) (copied : IsFrontCopied s m into count k done t) (enough : count ≤ length (bytes_of s.store m)) where
+module _ (s : CountedStore) (m : List Block) (into count : ℕ) {k done : ℕ} {t : CountedStore} (copied : IsFrontCopied s m into count k done t) (enough : count ≤ length (bytes_of s.store m)) where
   abbrev all : List ℕ
   all = bytes_of s.store m
 
   -- the next block, which does not name the data block
-  module _ (there : into < length s.store.blocks) (n : ℕ) (f : Fields) (at : slice_get m k ≡ Some (block_of n f)) (placed : IsPlaced s.store f) (other : f.data_number ≢ into) (len : ℕ) (len_is : len ≡ min f.len (count - done)) where
+  module _ (there : into < length s.store.blocks) (n : ℕ) {f : Fields} (at : slice_get m k ≡ Some (block_of n f)) (placed : IsPlaced s.store f) (other : f.data_number ≢ into) {len : ℕ} (len_is : len ≡ min f.len (count - done)) where
     abbrev own : List ℕ
     own = bytes_of_block s.store (block_of n f)
 
@@ -60,7 +60,7 @@ module _ (s : CountedStore) (m : List Block) (into count k done : ℕ) (t : Coun
     rest_is = ap (bytes_of s.store) (drop_from m k (block_of n f) at)
 
     own_long : length own ≡ f.len
-    own_long = length-bytes_of_block s.store n f placed
+    own_long = length-bytes_of_block n placed
 
     left_is : take (count - done) (drop done all) ≡ take (count - done) (own ++ behind)
     left_is = copied.left ∙ ap (take (count - done)) rest_is
@@ -81,8 +81,8 @@ module _ (s : CountedStore) (m : List Block) (into count k done : ℕ) (t : Coun
         ∙ ap (take len) (sym left_is)
         ∙ take-take len (count - done) (drop done all) (omega (arith, len_is))
 
-    next_after : (u : CountedStore) → u ≡ record t { store = with_bytes_copied f.data_number f.offset into done len t.store } → u ≡ with_front_copied into (done + len) m s
-    next_after u is =
+    next_after : {u : CountedStore} → u ≡ record t { store = with_bytes_copied f.data_number f.offset into done len t.store } → u ≡ with_front_copied into (done + len) m s
+    next_after is =
         let many : length (take done all) ≡ done = length-take-le done all (omega (arith, copied.few, enough)) in
         is ∙ ap (λ bytes. record t { store = with_bytes_written into done bytes t.store }) more_is
         ∙ ap (λ (c : CountedStore). record c { store = with_bytes_written into done more c.store }) copied.after
@@ -106,8 +106,8 @@ module _ (s : CountedStore) (m : List Block) (into count k done : ℕ) (t : Coun
               ∙ ap (take r) (drop-append_seam own behind)
         ]
 
-    pub next_copied : (u : CountedStore) → u ≡ record t { store = with_bytes_copied f.data_number f.offset into done len t.store } → IsFrontCopied s m into count (k + 1) (done + len) u
-    next_copied u is = record { few = omega (arith, len_is, copied.few); after = next_after u is; left = next_left }
+    pub next_copied : {u : CountedStore} → u ≡ record t { store = with_bytes_copied f.data_number f.offset into done len t.store } → IsFrontCopied s m into count (k + 1) (done + len) u
+    next_copied {u} is = record { few = omega (arith, len_is, copied.few); after = next_after is; left = next_left }
 
 -- ==== the first block of a held message takes a data block that has the first bytes of the message
 
@@ -127,7 +127,7 @@ pub record IsFrontPulled (a : Arena) (t : CountedStore) (fields : List Fields) (
 one_more : (s : CountedStore) (store : DataStore) (d k : ℕ) → d < length s.counts → count_of s d ≡ 0 → count_of (record { store = store; counts = set s.counts d 1 }) k ≡ count_of s k + one_if (eqb d k)
 one_more s store d k inside none = grind (arith, common_steps, count_of-set, eqb_tells)
 
-module _ (id : ℕ) (s : CountedStore) (fields : List Fields) (v : ChainLists) (filled : IsFilled s fields v (arena_of id s.store fields v)) (h : ℕ) (is : IsHeldHead fields v h) where
+module _ (id : ℕ) (s : CountedStore) (fields : List Fields) (v : ChainLists) (filled : IsFilled s fields v (arena_of id s.store fields v)) {h : ℕ} (is : IsHeldHead fields v h) where
   abbrev old : Arena
   old = arena_of id s.store fields v
 
@@ -139,7 +139,7 @@ module _ (id : ℕ) (s : CountedStore) (fields : List Fields) (v : ChainLists) (
   rest = message_of fields (drop 1 (nodes_at v h))
 
   nodes_are : nodes_at v h ≡ h ∷ drop 1 (nodes_at v h)
-  nodes_are = first_rest (nodes_at v h) h (begins_with v filled.parted h (nodes_at v h) is.held)
+  nodes_are = first_rest (nodes_at v h) (begins_with filled.parted h is.held)
 
   message_is : message_at old h ≡ block_at fields h ∷ rest
   message_is = message_at-seen id s.store fields v h ∙ ap (message_of fields) nodes_are
@@ -158,10 +158,10 @@ module _ (id : ℕ) (s : CountedStore) (fields : List Fields) (v : ChainLists) (
       )
 
   -- d is taken, gets the type of the first block's, and then the first n bytes
-  pub pulled_is : (n d : ℕ) (kind : MsgType) → kind ≡ kind_of s.store (block_at fields h) → (w u : CountedStore)
+  pub pulled_is : (n d : ℕ) {kind : MsgType} → kind ≡ kind_of s.store (block_at fields h) → {w u : CountedStore}
       → w ≡ record { store = with_kind d kind (with_data_taken d s.store); counts = set s.counts d 1 } → u ≡ with_front_copied d n (message_of fields (nodes_at v h)) w
       → u ≡ record { store = store_with_front n (block_at fields h ∷ rest) s.store d; counts = set s.counts d 1 }
-  pulled_is n d kind kind_is w u w_is u_is = grind (arith, common_steps, nodes_are, bytes-message, bytes-typed)
+  pulled_is n d kind_is w_is u_is = grind (arith, common_steps, nodes_are, bytes-message, bytes-typed)
 
   -- the bytes that are in it then
   module _ (n d : ℕ) (fresh : IsUnused s d) (room : n ≤ capacity_of s.store d) (u : CountedStore) (u_is : u ≡ record { store = store_with_front n (block_at fields h ∷ rest) s.store d; counts = set s.counts d 1 }) where
@@ -218,7 +218,7 @@ module _ (id : ℕ) (s : CountedStore) (fields : List Fields) (v : ChainLists) (
 
       shows : arena_of id t.store now v ≡ record named { store = t.store }
       shows =
-          written_shows id s fields v filled h 0 h (nodes_at v h) is.held is.first t.store x
+          written_shows id s fields v filled h 0 is.held is.first t.store x
           ∙ ap (λ (ns : List ℕ). record old { store = t.store; held = set old.held h (Some (set (message_of fields ns) 0 (block_at now h))) }) nodes_are
           ∙ ap (λ b. record old { store = t.store; held = set old.held h (Some (b ∷ rest)) }) block_is
 
@@ -238,7 +238,7 @@ module _ (id : ℕ) (s : CountedStore) (fields : List Fields) (v : ChainLists) (
           parted = filled.parted;
           few = filled.few;
           listed = omega (arith, filled.listed, length-set fields h x);
-          placed = placed-set s.store t.store fields h x rooms placed filled.placed;
+          placed = placed-set s.store fields h rooms placed filled.placed;
           counts = λ k. counted_now k ∙ ap (λ a. references_to a k) (sym shows);
         };
         after = shows ∙ ap (λ w. record named { store = w }) store_is ∙ ap (λ m. front_pulled h n m old d) (sym message_is);

@@ -55,12 +55,12 @@ left_others n (b ∷ bs) = grind (arith, common_steps, (left_others (n - b.len) 
 -- ---- one step
 
 -- the bytes of one block more
-size_next : (cs : List Block) (k : ℕ) (c : Block) → slice_get cs k ≡ Some c → size_of (take (k + 1) cs) ≡ size_of (take k cs) + c.len
-size_next [] k c at = absurd (none-some c at)
-size_next (x ∷ cs) zero c at = omega (arith, size_front x [], ap (λ (y : Block). y.len) (same_Some x c at))
-size_next (x ∷ cs) (suc k) c at =
+size_next : (cs : List Block) (k : ℕ) {c : Block} → slice_get cs k ≡ Some c → size_of (take (k + 1) cs) ≡ size_of (take k cs) + c.len
+size_next [] k {c} at = absurd (none-some c at)
+size_next (x ∷ cs) zero {c} at = omega (arith, size_front x [], ap (λ (y : Block). y.len) (same_Some x c at))
+size_next (x ∷ cs) (suc k) {c} at =
     let e : suc k + 1 ≡ suc (k + 1) = omega arith in
-    omega (arith, ap (λ j. size_of (take j (x ∷ cs))) e, size_front x (take (k + 1) cs), size_front x (take k cs), size_next cs k c at)
+    omega (arith, ap (λ j. size_of (take j (x ∷ cs))) e, size_front x (take (k + 1) cs), size_front x (take k cs), size_next cs k at)
 
 -- of `count` bytes that are taken from bs those of the first i blocks are, all that these have, and `left` are left
 pub record IsTaking (count : ℕ) (bs : List Block) (i left : ℕ) : Type 0 where
@@ -71,7 +71,7 @@ pub record IsTaking (count : ℕ) (bs : List Block) (i left : ℕ) : Type 0 wher
 pub start_taking : (count : ℕ) (bs : List Block) → IsTaking count bs 0 count
 start_taking count bs = record { rest = refl; few = omega arith; left_is = omega arith }
 
-module _ (count : ℕ) (bs : List Block) (i left : ℕ) (taking : IsTaking count bs i left) where
+module _ {count : ℕ} {bs : List Block} {i left : ℕ} (taking : IsTaking count bs i left) where
   all_used : blocks_used_up left (drop i bs) ≡ [] → i ≡ length (blocks_used_up count bs)
   all_used none = omega (arith, taking.few, ap length (sym taking.rest ∙ none), length-drop i (blocks_used_up count bs))
 
@@ -86,7 +86,7 @@ module _ (count : ℕ) (bs : List Block) (i left : ℕ) (taking : IsTaking count
   pub end_taking : drop i bs ≡ [] → i ≡ length (blocks_used_up count bs)
   end_taking none = all_used (ap (blocks_used_up left) none)
 
-  module _ (b : Block) (at : slice_get bs i ≡ Some b) where
+  module _ {b : Block} (at : slice_get bs i ≡ Some b) where
     -- the next block has more
     pub part_taking : left < b.len → i ≡ length (blocks_used_up count bs)
     part_taking many = all_used (ap (blocks_used_up left) (drop_from bs i b at) ∙ cond-false _ _ _ (used_part left b many))
@@ -103,7 +103,7 @@ module _ (count : ℕ) (bs : List Block) (i left : ℕ) (taking : IsTaking count
       next_taking = record {
         rest = sym (ap (drop 1) used_next) ∙ drop-drop 1 i (blocks_used_up count bs);
         few = omega (arith, more_used);
-        left_is = omega (arith, taking.left_is, size_next bs i b at);
+        left_is = omega (arith, taking.left_is, size_next bs i at);
       }
 
 -- ==== bytes are taken from the blocks after the first of a message: what they say then, and the references that are dropped
@@ -139,7 +139,7 @@ module _ (fields : List Fields) (ns : List ℕ) (count : ℕ) (old : CountedStor
   pub first_takes : ((d : ℕ) → times d (data_used_by fields ns) ≤ count_of old d) → AreTaking 0 count old
   first_takes named = grind (arith, common_steps, start_taking, start_dropping, times-take, drop-map, times-drop)
 
-  module _ (i left : ℕ) (s : CountedStore) (takes : AreTaking i left s) where
+  module _ {i left : ℕ} {s : CountedStore} (takes : AreTaking i left s) where
     dropped_all : i ≡ all → s ≡ with_references_dropped (take i (data_used_by fields (drop 1 ns))) old
     dropped_all used = grind (arith, common_steps, drop_all, length-take)
 
@@ -154,7 +154,7 @@ module _ (fields : List Fields) (ns : List ℕ) (count : ℕ) (old : CountedStor
     pub none_left : length ns ≤ i + 1 → AreTaken i fields s
     none_left last = grind (arith, common_steps, end_taking, drop_all, length-map, length-drop, dropped_all, left_now)
 
-    module _ (n : ℕ) (at : slice_get ns (i + 1) ≡ Some n) where
+    module _ {n : ℕ} (at : slice_get ns (i + 1) ≡ Some n) where
       here : slice_get (drop 1 ns) i ≡ Some n
       here = get_behind ns i ∙ at
 
@@ -169,14 +169,14 @@ module _ (fields : List Fields) (ns : List ℕ) (count : ℕ) (old : CountedStor
       module _ (some : 0 < left) (few : (fields_at fields n).len ≤ left) where
         named_here : slice_get names i ≡ Some (fields_at fields n).data_number
         named_here =
-            slice_get-take all i (data_used_by fields (drop 1 ns)) (more_used count behind i left takes.taking (block_at fields n) block_here some few)
-            ∙ named-get fields (drop 1 ns) i n here
+            slice_get-take all i (data_used_by fields (drop 1 ns)) (more_used takes.taking block_here some few)
+            ∙ named-get fields (drop 1 ns) i here
 
         pub name_there : 0 < count_of s (fields_at fields n).data_number
-        name_there = next_used names i old s takes.dropping (fields_at fields n).data_number named_here
+        name_there = next_used takes.dropping named_here
 
         pub next_takes : AreTaking (i + 1) (left - (fields_at fields n).len) (without_reference (fields_at fields n).data_number s)
         next_takes = record {
-          taking = next_taking count behind i left takes.taking (block_at fields n) block_here some few;
-          dropping = next_dropping names i old s takes.dropping (fields_at fields n).data_number named_here;
+          taking = next_taking takes.taking block_here some few;
+          dropping = next_dropping takes.dropping named_here;
         }

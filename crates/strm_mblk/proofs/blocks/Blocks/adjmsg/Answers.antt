@@ -23,7 +23,7 @@ pub run_in-run-requires-clause-small : goal.run_in-run-requires-clause-small
 run_in-run-requires-clause-small c =
     let i = c.self.inside in
     subst (λ h. size_of (message_of i.chains.loads (nodes_at i.chains.lists h)) < 2 ^ 32) (sym c.head.ensures)
-    (nodes_small i.id i.data i.chains.loads i.chains.lists c.self.invariant.filled c.args.self.now c.self.view_is c.args.token.now c.requires)
+    (nodes_small c.self.invariant.filled c.self.view_is c.args.token.now c.requires)
 
 pub cut-requires-clause-first : goal.cut-requires-clause-first
 cut-requires-clause-first c =
@@ -33,7 +33,7 @@ cut-requires-clause-first c =
       arith,
       c.self.invariant.filled.listed,
       (block_some i.id i.data i.chains.loads i.chains.lists c.self.invariant.filled c.args.self.now c.self.view_is c.head.result (length (nodes_at i.chains.lists c.head.result) - c.run_in-run.result.blocks)
-          c.args.token.now (sym c.head.ensures) c.requires c.run_in-run.result.first run.begins).there,
+          c.args.token.now (sym c.head.ensures) c.requires run.begins).there,
     )
 
 pub cut-requires-clause-tail : goal.cut-requires-clause-tail
@@ -41,7 +41,7 @@ cut-requires-clause-tail c = grind (arith, common_steps)
 
 pub cut-requires-clause-small : goal.cut-requires-clause-small
 cut-requires-clause-small c =
-    ends_small c.self.inside.id c.self.inside.data c.self.inside.chains.loads c.self.inside.chains.lists c.self.invariant.filled
+    ends_small c.self.invariant.filled
 
 module _ (c : After-cut) where
   abbrev nodes : List ℕ
@@ -65,7 +65,7 @@ module _ (c : After-cut) where
   is_adjusted =
       let i = c.self.inside in
       subst (λ (p : Arena × (List Fields × ChainLists)). IsAdjusted p.0 i.data p.1.0 p.1.1 i.id c.args.count c.args.token.now) (λ j. (c.self.view_is j, (sym now_is j, sym c.cut.ensures.lists j)))
-      (run_adjusts i.id i.data i.chains.loads i.chains.lists c.self.invariant.filled c.args.token.now (subst (λ a. has a c.args.token.now ≡ true) (sym c.self.view_is) c.requires) c.args.count c.run_in-run.result run
+      (run_adjusts i.id i.data i.chains.loads i.chains.lists c.self.invariant.filled c.args.token.now (subst (λ a. has a c.args.token.now ≡ true) (sym c.self.view_is) c.requires) c.args.count run
       (omega (arith, c.if-run-bytes.false, bytes_is)))
 
 pub invariant_of-self : goal.invariant_of-self

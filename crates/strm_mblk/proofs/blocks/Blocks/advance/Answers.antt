@@ -18,5 +18,5 @@ returns c =
     let within = c.in_ok-node.ensures.within in
     let room : x.offset + x.len + c.args.count ≤ capacity_of a.store x.data_number = omega (arith, c.if-count-capacity.false, within.within, within.capacity) in
     alters_fields a _ c.args.token.now k (record x { len = x.len + c.args.count }) c.requires (advance h k c.args.count a) tt
-    (c.set_fields.ensures h k x (found_own a h k x own) refl)
+    (c.set_fields.ensures h k x (found_own a h k own) refl)
     (ap (and_then (advance_block h k c.args.count a)) own ∙ cond-false _ _ _ (le-ltb _ _ room))

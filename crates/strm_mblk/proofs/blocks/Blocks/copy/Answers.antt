@@ -28,8 +28,8 @@ module _ (c : After-begin_all-head) where
 
   is_beside : IsBeside c.self.inside.chains.lists c.begin_all-head.new.self.lists c.args.token.now.head c.begin_all-head.result c.args.count
   is_beside =
-      beside c.self.inside.id c.self.inside.data c.self.inside.chains.loads c.self.inside.chains.lists c.self.invariant.filled c.args.token.now had c.args.count (of_blocks c.args.self.now (parted_inside c.self.inside c.self.invariant c.args.self.now c.self.view_is) c.args.token.now c.requires.had c.args.count c.requires.count).0 (of_blocks c.args.self.now (parted_inside c.self.inside c.self.invariant c.args.self.now c.self.view_is) c.args.token.now c.requires.had c.args.count c.requires.count).1
-      (omega (arith, c.if-free_len-count.false, c.free_len.ensures)) c.begin_all-head.result c.begin_all-head.ensures.answer c.begin_all-head.new.self.lists c.begin_all-head.ensures.after
+      beside c.self.inside.id c.self.inside.data c.self.inside.chains.loads c.self.inside.chains.lists c.self.invariant.filled c.args.token.now had c.args.count (of_blocks (parted_inside c.self.invariant c.self.view_is) c.args.token.now c.requires.had c.args.count c.requires.count).0 (of_blocks (parted_inside c.self.invariant c.self.view_is) c.args.token.now c.requires.had c.args.count c.requires.count).1
+      (omega (arith, c.if-free_len-count.false, c.free_len.ensures)) c.begin_all-head.ensures.answer c.begin_all-head.ensures.after
 
 pub copies_fit-requires-clause-classed : goal.copies_fit-requires-clause-classed
 copies_fit-requires-clause-classed c =
@@ -38,8 +38,8 @@ copies_fit-requires-clause-classed c =
     let fields = c.self.inside.chains.loads in
     let filled = c.self.invariant.filled in
     let head = c.head-from.result in
-    fits_each s filled.kept (take c.args.count (message_of fields (nodes_at v head))) (λ k b at.
-    let of = block_there fields v filled.parted filled.listed head c.args.count k b at in omega (arith, (filled.placed of.0 of.1).there, ap (λ (x : Block). x.data_number) of.2))
+    fits_each filled.kept (take c.args.count (message_of fields (nodes_at v head))) (λ k b at.
+    let of = block_there fields filled.parted filled.listed head c.args.count k at in omega (arith, (filled.placed of.0 of.1).there, ap (λ (x : Block). x.data_number) of.2))
 
 pub copy_blocks-requires-clause-into : goal.copy_blocks-requires-clause-into
 copy_blocks-requires-clause-into c = (is_beside (goal.at.copy_blocks-requires-clause-into c).After-begin_all-head).into.begun
@@ -75,7 +75,7 @@ module _ (c : After-copy_blocks) where
   is_copied =
       subst (λ (p : Arena × ChainLists). IsCopied p.0 c.copy_blocks.new.stored said p.1 c.self.inside.id c.begin_all-head.result c.args.count c.args.token.now) (λ i. (c.self.view_is i, sym c.copy_blocks.ensures.lists i))
       (copied_all c.self.inside.id c.self.inside.data c.self.inside.chains.loads c.self.inside.chains.lists c.self.invariant.filled c.args.token.now (subst (λ a. has a c.args.token.now ≡ true) (sym c.self.view_is) c.requires.had)
-      c.args.count (of_blocks c.args.self.now (parted_inside c.self.inside c.self.invariant c.args.self.now c.self.view_is) c.args.token.now c.requires.had c.args.count c.requires.count).0 (of_blocks c.args.self.now (parted_inside c.self.inside c.self.invariant c.args.self.now c.self.view_is) c.args.token.now c.requires.had c.args.count c.requires.count).1 (omega (arith, c.if-free_len-count.false, c.free_len.ensures))
+      c.args.count (of_blocks (parted_inside c.self.invariant c.self.view_is) c.args.token.now c.requires.had c.args.count c.requires.count).0 (of_blocks (parted_inside c.self.invariant c.self.view_is) c.args.token.now c.requires.had c.args.count c.requires.count).1 (omega (arith, c.if-free_len-count.false, c.free_len.ensures))
       c.begin_all-head.result c.begin_all-head.ensures.answer c.begin_all-head.new.self.lists c.begin_all-head.ensures.after c.begin_all-head.ensures.parted
       c.copy_blocks.new.stored said c.copy_blocks.ensures.kept
       (subst (λ (p : List Fields × ℕ).
@@ -84,7 +84,7 @@ module _ (c : After-copy_blocks) where
 
 pub invariant_of-self : goal.invariant_of-self
 invariant_of-self c =
-    let is = is_copied (goal.at.invariant_of-self c).After-copy_blocks in still_whole c.self.inside _ c.args.self.now c.self.invariant c.self.view_is refl is.is.begun.filled is.is.begun.shelved
+    let is = is_copied (goal.at.invariant_of-self c).After-copy_blocks in still_whole _ c.self.invariant c.self.view_is refl is.is.begun.filled is.is.begun.shelved
 
 pub token-requires : goal.token-requires
 token-requires c = ap is_some (is_copied (goal.at.token-requires c).After-copy_blocks).is.begun.held
@@ -93,8 +93,8 @@ pub returns : goal.returns
 returns c =
     let at = (goal.at.returns c).After-copy_blocks in
     let is = is_copied at in
-    let parted = parted_inside c.self.inside c.self.invariant c.args.self.now c.self.view_is in
-    gives c.args.self.now (now at) (Some c.args.token.now) _ c.token.result c.begin_all-head.result _ is.is.done c.token.ensures is.is.begun.held is.is.begun.absent is.source (leaves_copied c.args.self.now parted None _)
+    let parted = parted_inside c.self.invariant c.self.view_is in
+    gives c.args.self.now (now at) (Some c.args.token.now) _ c.begin_all-head.result is.is.done c.token.ensures is.is.begun.held is.is.begun.absent is.source (leaves_copied parted None _)
 
 -- ---- too few message blocks are free
 
@@ -105,7 +105,7 @@ few_free c few =
       few,
       c.free_len.ensures,
       ap (λ (a : Arena). length a.free) c.self.view_is,
-      taken_many c.args.self.now (parted_inside c.self.inside c.self.invariant c.args.self.now c.self.view_is) c.args.token.now c.requires.had c.args.count c.requires.count,
+      taken_many (parted_inside c.self.invariant c.self.view_is) c.args.token.now c.requires.had c.args.count c.requires.count,
     )))
 
 pub returns-then-free_len-count : goal.returns-then-free_len-count

@@ -19,7 +19,7 @@ use Rattle.std.proofs.lemmas.Grind.{common_steps}
 pub loop-block-init : goal.loop-block-init
 loop-block-init c = record {
   read =
-      reached_head c.self.inside.id c.self.inside.data c.self.inside.chains.loads c.self.inside.chains.lists c.self.invariant.filled c.args.self.now c.self.view_is c.args.token.now c.requires.had c.head-read.result c.head-read.ensures;
+      reached_head c.self.invariant.filled c.self.view_is c.args.token.now c.requires.had c.head-read.ensures;
   written = grind (arith, common_steps, nodes_room);
   lists = refl;
   long_as = refl;
@@ -44,7 +44,7 @@ module _ (c : In-loop-block) where
   is_at : IsAt c.self.inside.data c.self.inside.chains.loads c.self.inside.chains.lists c.args.self.now c.args.token.now.head k c.loop-block.read (nodes_at c.self.inside.chains.lists c.args.token.now.head)
   is_at =
       block_reached c.self.inside.id c.self.inside.data c.self.inside.chains.loads c.self.inside.chains.lists c.self.invariant.filled c.args.self.now c.self.view_is c.args.token.now.head k
-      c.args.token.now refl c.requires.had c.loop-block.read c.loop-block.invariant.read few
+      c.args.token.now refl c.requires.had c.loop-block.invariant.read few
 
   written_at : slice_get (nodes_at c.args.chains.now.lists c.args.head) k ≡ Some c.loop-block.written
   written_at = c.loop-block.invariant.written.here (omega (arith, few, c.requires.count))
@@ -57,7 +57,7 @@ module _ (c : In-loop-block) where
 
   fits : is_ok (take_data (capacity_of c.args.self.now.store b.data_number) c.loop-block.stored.store) ≡ true
   fits =
-      next_fits (Some c.args.self.now.store) m (nodes_at c.args.chains.now.lists c.args.head) k c.args.chains.now.loads c.loop-block.chains.loads c.args.stored.now c.loop-block.stored c.loop-block.invariant.copying b next c.requires.fit
+      next_fits c.loop-block.invariant.copying b next c.requires.fit
 
 written_there : (c : In-loop-block) → c.loop-block.written < length c.args.chains.now.lists.held
 written_there c = c.loop-block.invariant.written.in_range (omega (arith, few c, c.requires.count))
@@ -103,7 +103,7 @@ loop-block-preserved c =
     c.take_copy.ensures.after c.loop-block.read ∙ (λ i. with_copy (Some (store_is loop i)) (block_of c.loop-block.read (said i)) c.loop-block.stored d) in
     let size : capacity_of c.self.inside.data.store c.fields_at.result.data_number ≡ capacity_of c.args.self.now.store x.data_number = λ i. capacity_of (store_is loop i) (said i).data_number in
     let copied =
-    next_copied o (m loop) (nodes_at c.args.chains.now.lists c.args.head) c.loop-block._block c.args.chains.now.loads c.loop-block.chains.loads c.args.stored.now c.loop-block.stored c.loop-block.invariant.copying
+    next_copied c.loop-block.invariant.copying
     x (next loop) d c.loop-block.written
     (ap (λ n. take_data n c.loop-block.stored.store) (sym size) ∙ c.take_copy.ensures.taken)
     c.take_copy.ensures.unused

@@ -4,4 +4,4 @@ use Rattle.strm_mblk.proofs.layout.StoredArena.{counted_is}
 use Rattle.strm_mblk.proofs.blocks.Blocks.data.Goals as goal
 
 pub returns : goal.returns
-returns c = sym (counted_is c.self.inside.id c.self.inside.data c.self.inside.chains.loads c.self.inside.chains.lists c.self.invariant.filled) ∙ ap counted_in c.self.view_is
+returns c = sym (counted_is c.self.invariant.filled) ∙ ap counted_in c.self.view_is

@@ -29,7 +29,7 @@ module _ (c : After-head-from) where
   in_use : (d : ℕ) → 0 < times d (data_used_by c.self.inside.chains.loads (nodes_at c.self.inside.chains.lists c.head-from.result)) → 0 < count_of c.self.inside.data d
   in_use =
       subst (λ ds. (d : ℕ) → 0 < times d ds → 0 < count_of c.self.inside.data d) (sym named_is)
-      (used c.self.inside.id c.self.inside.data c.self.inside.chains.loads c.self.inside.chains.lists c.self.invariant.filled c.args.token.now had c.args.count (of_blocks c.args.self.now (parted_inside c.self.inside c.self.invariant c.args.self.now c.self.view_is) c.args.token.now c.requires.had c.args.count c.requires.count).0 (of_blocks c.args.self.now (parted_inside c.self.inside c.self.invariant c.args.self.now c.self.view_is) c.args.token.now c.requires.had c.args.count c.requires.count).1)
+      (used c.self.inside.id c.self.inside.data c.self.inside.chains.loads c.self.inside.chains.lists c.self.invariant.filled c.args.token.now had c.args.count (of_blocks (parted_inside c.self.invariant c.self.view_is) c.args.token.now c.requires.had c.args.count c.requires.count).0 (of_blocks (parted_inside c.self.invariant c.self.view_is) c.args.token.now c.requires.had c.args.count c.requires.count).1)
 
 pub give_references-requires-clause-used : goal.give_references-requires-clause-used
 give_references-requires-clause-used c = in_use (goal.at.give_references-requires-clause-used c).After-head-from
@@ -47,21 +47,20 @@ too_many : (c : Then-not-give_references) → message_duplicated (take c.args.co
 too_many c =
     let at = (goal.at.returns-then-not-give_references c).After-head-from in
     subst (λ a. message_duplicated (take c.args.count (message_at a c.args.token.now.head)) a ≡ Err RefMax) c.self.view_is
-    (refused c.self.inside.id c.self.inside.data c.self.inside.chains.loads c.self.inside.chains.lists c.self.invariant.filled c.args.token.now (had at) c.args.count (of_blocks c.args.self.now (parted_inside c.self.inside c.self.invariant c.args.self.now c.self.view_is) c.args.token.now c.requires.had c.args.count c.requires.count).0 (of_blocks c.args.self.now (parted_inside c.self.inside c.self.invariant c.args.self.now c.self.view_is) c.args.token.now c.requires.had c.args.count c.requires.count).1
+    (refused c.self.inside.id c.self.inside.data c.self.inside.chains.loads c.self.inside.chains.lists c.self.invariant.filled c.args.token.now (had at) c.args.count (of_blocks (parted_inside c.self.invariant c.self.view_is) c.args.token.now c.requires.had c.args.count c.requires.count).0 (of_blocks (parted_inside c.self.invariant c.self.view_is) c.args.token.now c.requires.had c.args.count c.requires.count).1
     (omega (arith, c.if-free_len-count.false, c.free_len.ensures))
     (refused_by _ (c.if-not-give_references.ensures.answer ∙ ap (λ ds. not (exceeds_counts (take c.args.count ds) c.self.inside.data)) (named_is at))))
 
 pub returns-then-not-give_references : goal.returns-then-not-give_references
 returns-then-not-give_references c =
-    gives_none c.args.self.now _ (Some c.args.token.now) _ RefMax (too_many c)
+    gives_none c.args.self.now _ (Some c.args.token.now) _ (too_many c)
     (ap (λ (st : CountedStore). arena_of c.self.inside.id st.store c.self.inside.chains.loads c.self.inside.chains.lists) c.if-not-give_references.ensures.after ∙ c.self.view_is)
     c.requires.had
 
 is_beside : (c : After-begin_all-head) → IsBeside c.self.inside.chains.lists c.begin_all-head.new.self.lists c.args.token.now.head c.begin_all-head.result c.args.count
 is_beside c =
     beside c.self.inside.id c.self.inside.data c.self.inside.chains.loads c.self.inside.chains.lists c.self.invariant.filled c.args.token.now (subst (λ a. has a c.args.token.now ≡ true) (sym c.self.view_is) c.requires.had)
-    c.args.count (of_blocks c.args.self.now (parted_inside c.self.inside c.self.invariant c.args.self.now c.self.view_is) c.args.token.now c.requires.had c.args.count c.requires.count).0 (of_blocks c.args.self.now (parted_inside c.self.inside c.self.invariant c.args.self.now c.self.view_is) c.args.token.now c.requires.had c.args.count c.requires.count).1 (omega (arith, c.if-free_len-count.false, c.free_len.ensures))
-    c.begin_all-head.result c.begin_all-head.ensures.answer c.begin_all-head.new.self.lists c.begin_all-head.ensures.after
+    c.args.count (of_blocks (parted_inside c.self.invariant c.self.view_is) c.args.token.now c.requires.had c.args.count c.requires.count).0 (of_blocks (parted_inside c.self.invariant c.self.view_is) c.args.token.now c.requires.had c.args.count c.requires.count).1 (omega (arith, c.if-free_len-count.false, c.free_len.ensures)) c.begin_all-head.ensures.answer c.begin_all-head.ensures.after
 
 pub copy_fields-requires-clause-to : goal.copy_fields-requires-clause-to
 copy_fields-requires-clause-to c = (is_beside (goal.at.copy_fields-requires-clause-to c).After-begin_all-head).into.begun
@@ -91,7 +90,7 @@ module _ (c : After-copy_fields) where
       λ i. data_used_by (c.self.inside.chains.loads) (nodes_at c.self.inside.chains.lists (c.head-from.ensures i)) in
       subst (λ (p : Arena × ChainLists). IsDuplicated p.0 c.give_references.new.stored said p.1 c.self.inside.id c.begin_all-head.result (take c.args.count (message_at p.0 c.args.token.now.head)) c.args.token.now) (λ i. (c.self.view_is i, sym c.copy_fields.ensures.lists i))
       (duplicates c.self.inside.id c.self.inside.data c.self.inside.chains.loads c.self.inside.chains.lists c.self.invariant.filled c.args.token.now (subst (λ a. has a c.args.token.now ≡ true) (sym c.self.view_is) c.requires.had)
-      c.args.count (of_blocks c.args.self.now (parted_inside c.self.inside c.self.invariant c.args.self.now c.self.view_is) c.args.token.now c.requires.had c.args.count c.requires.count).0 (of_blocks c.args.self.now (parted_inside c.self.inside c.self.invariant c.args.self.now c.self.view_is) c.args.token.now c.requires.had c.args.count c.requires.count).1 (omega (arith, c.if-free_len-count.false, c.free_len.ensures))
+      c.args.count (of_blocks (parted_inside c.self.invariant c.self.view_is) c.args.token.now c.requires.had c.args.count c.requires.count).0 (of_blocks (parted_inside c.self.invariant c.self.view_is) c.args.token.now c.requires.had c.args.count c.requires.count).1 (omega (arith, c.if-free_len-count.false, c.free_len.ensures))
       c.begin_all-head.result c.begin_all-head.ensures.answer c.begin_all-head.new.self.lists c.begin_all-head.ensures.after c.begin_all-head.ensures.parted
       c.give_references.new.stored said c.if-not-give_references.ensures.kept
       (given_by _ (c.if-not-give_references.ensures.answer ∙ ap (λ ds. not (exceeds_counts (take c.args.count ds) c.self.inside.data)) names))
@@ -101,7 +100,7 @@ module _ (c : After-copy_fields) where
 
 pub invariant_of-self-2 : goal.invariant_of-self-2
 invariant_of-self-2 c =
-    let is = is_duplicated (goal.at.invariant_of-self-2 c).After-copy_fields in still_whole c.self.inside _ c.args.self.now c.self.invariant c.self.view_is refl is.begun.filled is.begun.shelved
+    let is = is_duplicated (goal.at.invariant_of-self-2 c).After-copy_fields in still_whole _ c.self.invariant c.self.view_is refl is.begun.filled is.begun.shelved
 
 pub token-requires : goal.token-requires
 token-requires c = ap is_some (is_duplicated (goal.at.token-requires c).After-copy_fields).begun.held
@@ -110,8 +109,8 @@ pub returns : goal.returns
 returns c =
     let at = (goal.at.returns c).After-copy_fields in
     let is = is_duplicated at in
-    let parted = parted_inside c.self.inside c.self.invariant c.args.self.now c.self.view_is in
-    gives c.args.self.now (now at) (Some c.args.token.now) _ c.token.result c.begin_all-head.result _ is.done c.token.ensures is.begun.held is.begun.absent is.source (leaves_duplicated c.args.self.now parted _)
+    let parted = parted_inside c.self.invariant c.self.view_is in
+    gives c.args.self.now (now at) (Some c.args.token.now) _ c.begin_all-head.result is.done c.token.ensures is.begun.held is.begun.absent is.source (leaves_duplicated parted _)
 
 -- ---- too few message blocks are free
 
@@ -122,7 +121,7 @@ few_free c few =
       few,
       c.free_len.ensures,
       ap (λ (a : Arena). length a.free) c.self.view_is,
-      taken_many c.args.self.now (parted_inside c.self.inside c.self.invariant c.args.self.now c.self.view_is) c.args.token.now c.requires.had c.args.count c.requires.count,
+      taken_many (parted_inside c.self.invariant c.self.view_is) c.args.token.now c.requires.had c.args.count c.requires.count,
     )))
 
 pub returns-then-free_len-count : goal.returns-then-free_len-count

@@ -18,13 +18,13 @@ returns g c =
     let x = block_of_found c.in_ok-fields.field-0 in
     let own = sym c.in_ok-fields.ensures.answer in
     let edits = c.edit_data.ensures in
-    lends a _ c.args.token.now (FnOnceReturnsAtMut g.F.FnOnce c.args.change) (bytes_to_edit h k a) (λ r left. edit h k r left a) (bytes_of_block a.store x) c.edit_data.result _
+    lends a _ c.args.token.now (FnOnceReturnsAtMut g.F.FnOnce c.args.change) (λ r left. edit h k r left a) c.edit_data.result _
     (ap (answer_map (bytes_of_block a.store)) own)
     (record {
       left = edits.left;
       long = edits.long;
       called = edits.called;
       after =
-          alters_store a _ c.args.token.now k x own c.requires.had (with_bytes_written x.data_number x.offset edits.left a.store) (other_data a.store x.data_number _) (edit h k c.edit_data.result edits.left a) c.edit_data.result edits.after
+          alters_store a _ c.args.token.now k own c.requires.had (with_bytes_written x.data_number x.offset edits.left a.store) (other_data a.store x.data_number _) (edit h k c.edit_data.result edits.left a) c.edit_data.result edits.after
           (ap (answer_map (λ b. (c.edit_data.result, with_bytes b.data_number b.offset edits.left a))) own);
     })

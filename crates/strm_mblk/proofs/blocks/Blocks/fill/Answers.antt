@@ -42,7 +42,7 @@ module _ (g : Over) (c : After-edit_data g) where
 pub set_fields-requires : goal.set_fields-requires
 set_fields-requires g c =
     let at = (goal.at.set_fields-requires g c).After-edit_data in
-    suits_written c.args.self.now c.args.token.now.head c.args.place (block g at) (own g at) _ c.edit_data.ensures.left _ c.edit_data.ensures.after (room g at) _ refl
+    suits_written c.args.self.now c.args.token.now.head c.args.place (own g at) _ c.edit_data.ensures.left c.edit_data.ensures.after (room g at) _ refl
     (omega (arith, room g at, many g at, c.min-count.ensures)) c.in_ok-node.ensures.within.banded
 
 pub returns : goal.returns
@@ -56,14 +56,14 @@ returns g c =
     let now = record x { len = x.len + c.min-count.result } in
     let written = with_bytes_written x.data_number (x.offset + x.len) edits.left a.store in
     let count : min c.edit_data.result (length edits.left) ≡ c.min-count.result = ap (min c.edit_data.result) (many g at) ∙ sym c.min-count.ensures in
-    lends a _ c.args.token.now (FnOnceReturnsAtMut g.F.FnOnce c.args.write) (bytes_to_fill h k a) (λ r left. fill h k r left a) (bytes_behind a.store x) c.edit_data.result _
+    lends a _ c.args.token.now (FnOnceReturnsAtMut g.F.FnOnce c.args.write) (λ r left. fill h k r left a) c.edit_data.result _
     (ap (answer_map (bytes_behind a.store)) (own g at))
     (record {
       left = edits.left;
       long = edits.long ∙ ap length (behind g at);
       called = subst (λ bytes. FnOnceReturnsAtMut g.F.FnOnce c.args.write bytes c.edit_data.result edits.left) (behind g at) edits.called;
       after =
-          alters_block a _ c.args.token.now k x (own g at) c.requires.had written (other_data a.store x.data_number _) (fill h k c.edit_data.result edits.left a) c.min-count.result now
-          (c.set_fields.ensures h k x (found_written a h k x (own g at) _ edits.left _ edits.after) refl ∙ ap (with_block h k now) edits.after)
+          alters_block a _ c.args.token.now k (own g at) c.requires.had written (other_data a.store x.data_number _) (fill h k c.edit_data.result edits.left a) c.min-count.result now
+          (c.set_fields.ensures h k x (found_written a h k (own g at) _ edits.left edits.after) refl ∙ ap (with_block h k now) edits.after)
           (ap (answer_map (block_filled h k edits.left (min c.edit_data.result (length edits.left)) a)) (own g at) ∙ ap (λ n. Ok (block_filled h k edits.left n a x)) count);
     })

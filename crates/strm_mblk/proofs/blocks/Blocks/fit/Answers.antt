@@ -22,7 +22,7 @@ module _ (g : _) (c : After-fields_at-data_number g) where
   is_at : IsAt c.self.inside.data c.self.inside.chains.loads c.self.inside.chains.lists c.args.self.now c.args.token.now.head c.loop-shaped.shaped-index c.loop-shaped.node (nodes_at c.self.inside.chains.lists c.args.token.now.head)
   is_at =
       block_reached c.self.inside.id c.self.inside.data c.self.inside.chains.loads c.self.inside.chains.lists c.self.invariant.filled c.args.self.now c.self.view_is c.args.token.now.head c.loop-shaped.shaped-index
-      c.args.token.now refl c.requires.had c.loop-shaped.node c.loop-shaped.invariant.at (omega (arith, c.loop-shaped-test.true, c.requires.count))
+      c.args.token.now refl c.requires.had c.loop-shaped.invariant.at (omega (arith, c.loop-shaped-test.true, c.requires.count))
 
   read : c.fields_at-data_number.result ≡ fields_at c.self.inside.chains.loads c.loop-shaped.node
   read = c.fields_at-data_number.ensures
@@ -38,14 +38,14 @@ module _ (g : _) (c : After-fields_at-data_number g) where
 
   -- its shape
   item : slice_get xs c.loop-shaped.shaped-index ≡ Some c.shape-shape.result
-  item = shape_at g.S.Shaped.shape c.args.shapes.now c.loop-shaped.shaped-index c.shaped-item.result c.shape-shape.result c.loop-shaped-test.true c.shaped-item.is c.shape-shape.ensures
+  item = shape_at g.S.Shaped.shape c.args.shapes.now c.loop-shaped.shaped-index c.loop-shaped-test.true c.shaped-item.is c.shape-shape.ensures
 
   next : shapes_fit c.args.self.now xs m
       ≡ and_then (λ u. shapes_fit c.args.self.now (drop (c.loop-shaped.shaped-index + 1) xs) (drop (c.loop-shaped.shaped-index + 1) m)) (shape_fits c.args.self.now c.shape-shape.result b)
-  next = c.loop-shaped.invariant.rest ∙ fits_next xs c.loop-shaped.shaped-index c.shape-shape.result item c.args.self.now m b is_at.block
+  next = c.loop-shaped.invariant.rest ∙ fits_next xs c.loop-shaped.shaped-index item c.args.self.now m is_at.block
 
-  counted : (n : ℕ) → n ≡ count_of c.self.inside.data c.fields_at-data_number.result.data_number → n ≡ references_to c.args.self.now b.data_number
-  counted n is = is ∙ ap (λ (f : Fields). count_of c.self.inside.data f.data_number) read ∙ is_at.named
+  counted : {n : ℕ} → n ≡ count_of c.self.inside.data c.fields_at-data_number.result.data_number → n ≡ references_to c.args.self.now b.data_number
+  counted is = is ∙ ap (λ (f : Fields). count_of c.self.inside.data f.data_number) read ∙ is_at.named
 
 module _ (g : _) (c : After-cap-capacity g) where
   abbrev before : After-fields_at-data_number g
@@ -69,7 +69,7 @@ module _ (g : _) (c : After-ne g) where
       ∙ ap (λ (a : Arena). (data_block_at a.store (b g here).data_number).kind) c.self.view_is
 
   changes : not (same_kind (kind_of c.args.self.now.store (b g here)) c.shape-shape.result.kind) ≡ c.ne.result
-  changes = ap (λ k. not (same_kind k c.shape-shape.result.kind)) (sym kind_is) ∙ sym (kind_changes _ _ _ c.ne.ensures)
+  changes = ap (λ k. not (same_kind k c.shape-shape.result.kind)) (sym kind_is) ∙ sym (kind_changes _ _ c.ne.ensures)
 
 pub cap-capacity-requires : goal.cap-capacity-requires
 cap-capacity-requires g c = subst (λ (f : Fields). f.data_number < length c.self.inside.data.store.blocks) (sym (read g c)) (is_at g c).placed.there
@@ -90,7 +90,7 @@ pub returns-then-count-gt1 : goal.returns-then-count-gt1
 returns-then-count-gt1 g c =
     let ne = (goal.at.returns-then-count-gt1 g c).After-ne in
     let at = here g ne in
-    let many : 1 < references_to c.args.self.now (b g at).data_number = omega (arith, c.if-count-gt1.true, counted g at c.count.result c.count.ensures) in
+    let many : 1 < references_to c.args.self.now (b g at).data_number = omega (arith, c.if-count-gt1.true, counted g at c.count.ensures) in
     sym (next g at ∙ ap (and_then (λ u. shapes_fit c.args.self.now (drop (c.loop-shaped.shaped-index + 1) (xs g at)) (drop (c.loop-shaped.shaped-index + 1) (m g at))))
     (cond-false _ _ _ (le-ltb _ _ (room g ne)) ∙ cond-true _ _ _ (ap (λ p. p && nat_lt 1 (references_to c.args.self.now (b g at).data_number)) (changes g ne ∙ c.if-ne.true) ∙ lt-ltb 1 _ many)))
 
@@ -105,7 +105,7 @@ loop-shaped-preserved g c =
     let none : (type_changes && nat_lt 1 (references_to c.args.self.now (b g at).data_number)) ≡ false =
     elim c.else-ne.branch [
       | else-ne-via-then-ne+else-count-gt1 w ↦
-          ap (λ p. type_changes && p) (le-ltb 1 _ (omega (arith, w.if-count-gt1.false, counted g at w.count.result w.count.ensures))) ∙ and_false type_changes
+          ap (λ p. type_changes && p) (le-ltb 1 _ (omega (arith, w.if-count-gt1.false, counted g at w.count.ensures))) ∙ and_false type_changes
       | else-ne-via-else-ne w ↦ ap (λ p. p && nat_lt 1 (references_to c.args.self.now (b g at).data_number)) (changes g ne ∙ w.if-ne.false)
     ] in
     record {

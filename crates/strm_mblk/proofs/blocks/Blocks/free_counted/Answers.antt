@@ -19,19 +19,19 @@ use Rattle.strm_mblk.proofs.blocks.Blocks.free_counted.Goals as goal
 
 module _ (c : After-self) where
   held : held_in c.self.inside.chains.lists.held c.spend-token.result.head ≡ Some (nodes_at c.self.inside.chains.lists c.spend-token.result.head)
-  held = token_held c.self.inside.id c.self.inside.data c.self.inside.chains.loads c.self.inside.chains.lists c.args.self.now c.self.view_is c.args.token c.spend-token.result c.spend-token.ensures c.requires.had
+  held = token_held c.self.inside.data c.self.inside.chains.loads c.self.inside.chains.lists c.self.view_is c.args.token c.spend-token.result c.spend-token.ensures c.requires.had
 
   -- it has as many blocks as the caller says
   many : c.spend-token.result.blocks ≡ c.args.blocks
   many = ap (λ (t : TokenValue). t.blocks) c.spend-token.ensures ∙ sym c.requires.blocks
 
   counted : c.args.blocks ≡ length (nodes_at c.self.inside.chains.lists c.spend-token.result.head)
-  counted = sym many ∙ token_counted c.self.inside.id c.self.inside.data c.self.inside.chains.loads c.self.inside.chains.lists c.args.self.now c.self.view_is c.args.token c.spend-token.result c.spend-token.ensures c.requires.had
+  counted = sym many ∙ token_counted c.self.inside.data c.self.inside.chains.loads c.self.inside.chains.lists c.self.view_is c.spend-token.ensures c.requires.had
 
   all : take c.args.blocks (data_used_by c.self.inside.chains.loads (nodes_at c.self.inside.chains.lists c.spend-token.result.head))
       ≡ data_used_by c.self.inside.chains.loads (nodes_at c.self.inside.chains.lists c.spend-token.result.head)
   all = subst (λ n. take n (data_used_by c.self.inside.chains.loads (nodes_at c.self.inside.chains.lists c.spend-token.result.head)) ≡ data_used_by c.self.inside.chains.loads (nodes_at c.self.inside.chains.lists c.spend-token.result.head)) many
-      (token_named c.self.inside.id c.self.inside.data c.self.inside.chains.loads c.self.inside.chains.lists c.args.self.now c.self.view_is c.args.token c.spend-token.result c.spend-token.ensures c.requires.had)
+      (token_named c.self.inside.data c.self.inside.chains.loads c.self.inside.chains.lists c.self.view_is c.spend-token.ensures c.requires.had)
 
 pub drop_references-requires-clause-named : goal.drop_references-requires-clause-named
 drop_references-requires-clause-named c d =
@@ -54,7 +54,7 @@ is_freed c =
     c.drop_references.new.stored c.free.new.self.lists dropped c.drop_references.ensures.kept c.free.ensures.after c.free.ensures.parted)
 
 pub invariant_of-self : goal.invariant_of-self
-invariant_of-self c = still_whole c.self.inside _ c.args.self.now c.self.invariant c.self.view_is refl (is_freed c).filled (is_freed c).shelved
+invariant_of-self c = still_whole _ c.self.invariant c.self.view_is refl (is_freed c).filled (is_freed c).shelved
 
 freed_is : (c : After-free) → arena_of c.self.inside.id c.drop_references.new.stored.store c.free.new.self.loads c.free.new.self.lists ≡ freemsg c.args.token.head c.args.self.now
 freed_is c = (is_freed c).after ∙ ap (λ (t : TokenValue). freemsg t.head c.args.self.now) c.spend-token.ensures

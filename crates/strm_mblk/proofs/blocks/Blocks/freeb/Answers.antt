@@ -14,7 +14,7 @@ use Rattle.std.proofs.lemmas.Grind.{common_steps}
 is_freed : (c : After-freemsg) → IsOneFreed c.args.self.now c.lawful.ensures.parted c.args.token.head c.unlinkb-rest.new.token (message_at c.args.self.now c.args.token.head)
 is_freed c =
     let message = had_message c.args.self.now c.args.token c.requires in
-    frees_one c.args.self.now c.lawful.ensures.parted c.args.token.head message.0 message.1.held c.unlinkb-rest.new.token
+    frees_one c.args.self.now c.lawful.ensures.parted c.args.token.head message.1.held c.unlinkb-rest.new.token
     (ap (λ (t : TokenValue). t.head) c.unlinkb-rest.ensures.token)
     (subst (λ a. has a c.unlinkb-rest.new.token ≡ true) c.unlinkb-rest.ensures.after c.unlinkb-rest.ensures.had)
 

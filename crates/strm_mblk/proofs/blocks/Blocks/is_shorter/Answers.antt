@@ -22,21 +22,20 @@ same size count left is =
 pub loop-block-init : goal.loop-block-init
 loop-block-init c = record {
   at =
-      reached_head c.self.inside.id c.self.inside.data c.self.inside.chains.loads c.self.inside.chains.lists c.self.invariant.filled c.args.self.now c.self.view_is c.args.token.now c.requires
-      c.head-node.result c.head-node.ensures;
+      reached_head c.self.invariant.filled c.self.view_is c.args.token.now c.requires c.head-node.ensures;
   rest = omega arith;
 }
 
 is_at : (c : In-loop-block) → IsAt c.self.inside.data c.self.inside.chains.loads c.self.inside.chains.lists c.args.self.now c.args.token.now.head c.loop-block._block c.loop-block.node (nodes_at c.self.inside.chains.lists c.args.token.now.head)
 is_at c =
     block_reached c.self.inside.id c.self.inside.data c.self.inside.chains.loads c.self.inside.chains.lists c.self.invariant.filled c.args.self.now c.self.view_is c.args.token.now.head c.loop-block._block
-    c.args.token.now refl c.requires c.loop-block.node c.loop-block.invariant.at (omega (arith, c.loop-block-test.true, c.blocks-block-end.ensures))
+    c.args.token.now refl c.requires c.loop-block.invariant.at (omega (arith, c.loop-block-test.true, c.blocks-block-end.ensures))
 
-module _ (c : In-loop-block) (f : Fields) (read : f ≡ fields_at c.self.inside.chains.loads c.loop-block.node) where
+module _ (c : In-loop-block) {f : Fields} (read : f ≡ fields_at c.self.inside.chains.loads c.loop-block.node) where
   -- the bytes from this block on are those in it, and those of the blocks after it
   bytes : size_of (drop c.loop-block._block (message_at c.args.self.now c.args.token.now.head)) ≡ f.len + size_of (drop (c.loop-block._block + 1) (message_at c.args.self.now c.args.token.now.head))
   bytes =
-      sum_from (λ (b : Block). b.len) (message_at c.args.self.now c.args.token.now.head) c.loop-block._block (block_at c.self.inside.chains.loads c.loop-block.node) (is_at c).block
+      sum_from (λ (b : Block). b.len) (message_at c.args.self.now c.args.token.now.head) c.loop-block._block (is_at c).block
       ∙ ap (λ (g : Fields). g.len + size_of (drop (c.loop-block._block + 1) (message_at c.args.self.now c.args.token.now.head))) (sym read)
 
 pub fields_at-len-requires : goal.fields_at-len-requires
@@ -46,7 +45,7 @@ pub returns-then-left-len : goal.returns-then-left-len
 returns-then-left-len c =
     let before = (goal.at.returns-then-left-len c).In-loop-block in
     let read = c.fields_at-len.ensures in
-    sym (le-ltb (size_of (message_at c.args.self.now c.args.token.now.head)) c.args.count (omega (arith, c.loop-block.invariant.rest, bytes before c.fields_at-len.result read, c.if-left-len.true)))
+    sym (le-ltb (size_of (message_at c.args.self.now c.args.token.now.head)) c.args.count (omega (arith, c.loop-block.invariant.rest, bytes before read, c.if-left-len.true)))
 
 pub onward-node-requires : goal.onward-node-requires
 onward-node-requires c = omega (arith, (is_at (goal.at.onward-node-requires c).In-loop-block).there, c.self.invariant.filled.listed)
@@ -57,11 +56,11 @@ loop-block-preserved c =
     let read = c.fields_at-len.ensures in
     record {
       at = c.onward-node.ensures c.args.token.now.head c.loop-block._block c.loop-block.invariant.at;
-      rest = omega (arith, c.loop-block.invariant.rest, bytes before c.fields_at-len.result read, c.if-left-len.false);
+      rest = omega (arith, c.loop-block.invariant.rest, bytes before read, c.if-left-len.false);
     }
 
 pub returns : goal.returns
 returns c =
-    let none = past_last c.self.inside.id c.self.inside.data c.self.inside.chains.loads c.self.inside.chains.lists c.self.invariant.filled c.args.self.now c.self.view_is c.args.token.now c.requires
+    let none = past_last c.self.invariant.filled c.self.view_is c.args.token.now c.requires
     c.loop-block._block (omega (arith, c.loop-block-test.false, c.blocks-block-end.ensures)) in
     same (size_of (message_at c.args.self.now c.args.token.now.head)) c.args.count c.loop-block.left (c.loop-block.invariant.rest ∙ ap (λ bs. c.args.count + size_of bs) none)

@@ -5,10 +5,10 @@ pub returns : goal.returns
 returns c =
     let i = c.self.inside in
     rw (← c.self.view_is) (record {
-      parted = law_parted i.id i.data i.chains.loads i.chains.lists c.self.invariant.filled;
-      kept = law_kept i.id i.data i.chains.loads i.chains.lists c.self.invariant.filled;
-      within = law_within i.id i.data i.chains.loads i.chains.lists c.self.invariant.filled;
-      bands = law_bands i.id i.data i.chains.loads i.chains.lists c.self.invariant.filled;
-      few = law_few i.id i.data i.chains.loads i.chains.lists c.self.invariant.filled;
-      whole = law_whole i.id i.data i.chains.loads i.chains.lists c.self.invariant.filled;
+      parted = law_parted c.self.invariant.filled;
+      kept = law_kept c.self.invariant.filled;
+      within = law_within c.self.invariant.filled;
+      bands = law_bands c.self.invariant.filled;
+      few = law_few c.self.invariant.filled;
+      whole = law_whole c.self.invariant.filled;
     })

@@ -16,10 +16,10 @@ lists_are c = c.in_ok-new-2.ensures.opened ∙ ap (opening_chains c.args.mblks) 
 pub invariant_of-result : goal.invariant_of-result
 invariant_of-result c = record {
   filled =
-      opening_filled c.args.id c.args.mblks c.args.shelves c.args.classes.now c.in_ok-new.field-0 c.in_ok-new-2.field-0.loads c.in_ok-new-2.field-0.lists
+      opening_filled c.args.id c.args.mblks c.args.shelves c.args.classes.now
       c.in_ok-new.ensures.opened (fields_are c) (lists_are c) c.requires.few_blocks c.requires.classes c.in_ok-new.ensures.kept c.in_ok-new-2.ensures.parted;
-  queued = opening_queued c.args.id c.args.mblks c.args.shelves c.args.classes.now c.in_ok-new.field-0 c.in_ok-new-2.field-0.loads c.in_ok-new-2.field-0.lists c.in_ok-new.ensures.opened (fields_are c) (lists_are c);
+  queued = opening_queued c.args.id c.args.mblks c.args.shelves c.args.classes.now c.in_ok-new.ensures.opened (fields_are c) (lists_are c);
 }
 
 pub returns : goal.returns
-returns c = opening_shows c.args.id c.args.mblks c.args.shelves c.args.classes.now c.in_ok-new.field-0 c.in_ok-new-2.field-0.loads c.in_ok-new-2.field-0.lists c.in_ok-new.ensures.opened (fields_are c) (lists_are c)
+returns c = opening_shows c.args.id c.args.mblks c.args.shelves c.args.classes.now c.in_ok-new.ensures.opened (fields_are c) (lists_are c)

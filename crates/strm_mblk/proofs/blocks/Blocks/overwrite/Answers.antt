@@ -23,7 +23,7 @@ module _ (c : After-head) where
   -- the message is held
   head : IsHeldHead c.self.inside.chains.loads c.self.inside.chains.lists c.args.token.now.head
   head =
-      seen_head c.self.inside.id c.self.inside.data c.self.inside.chains.loads c.self.inside.chains.lists c.self.invariant.filled c.args.token.now.head c.args.self.now c.self.view_is
+      seen_head c.self.invariant.filled c.args.token.now.head c.self.view_is
       (ap is_some (had_message c.args.self.now c.args.token.now c.requires).1.held)
 
   chain_is : chain_of c.self.inside.chains.lists c.args.token.now.head ≡ nodes_at c.self.inside.chains.lists c.args.token.now.head
@@ -56,7 +56,7 @@ module _ (c : After-find_byte-start) (chain_is : chain_of c.self.inside.chains.l
   at : IsAt c.self.inside.data c.self.inside.chains.loads c.self.inside.chains.lists c.args.self.now h k node (nodes_at c.self.inside.chains.lists h)
   at =
       block_some c.self.inside.id c.self.inside.data c.self.inside.chains.loads c.self.inside.chains.lists c.self.invariant.filled c.args.self.now c.self.view_is h k
-      c.args.token.now refl c.requires node (ap (λ ns. slice_get ns k) (sym chain_is) ∙ start.begins)
+      c.args.token.now refl c.requires (ap (λ ns. slice_get ns k) (sym chain_is) ∙ start.begins)
 
   before : size_of (take k (message_at c.args.self.now h)) + c.find_byte-start.result.at ≡ c.args.at
   before = ap (λ m. size_of (take k m) + c.find_byte-start.result.at) (at.message ∙ ap (message_of c.self.inside.chains.loads) (sym chain_is)) ∙ start.before
@@ -85,15 +85,15 @@ module _ (c : After-fields_at-fields) (at : IsAt c.self.inside.data c.self.insid
   within = omega (arith, inside, ap (λ (f : Fields). f.len) (read c at))
 
   few : nat_lt (size_of m) (c.args.at + length c.args.bytes.now) ≡ false
-  few = le-ltb _ _ (one_long m c.find_byte-start.result.block block at.block c.find_byte-start.result.at c.args.at before c.args.bytes.now within)
+  few = le-ltb _ _ (one_long m c.find_byte-start.result.block at.block c.find_byte-start.result.at before c.args.bytes.now within)
 
   touched : touches_shared a c.args.at (length c.args.bytes.now) m ≡ (nat_lt 0 (length c.args.bytes.now) && nat_lt 1 (references_to a block.data_number))
-  touched = one_touched m c.find_byte-start.result.block block at.block c.find_byte-start.result.at c.args.at before c.args.bytes.now within a
+  touched = one_touched m c.find_byte-start.result.block at.block c.find_byte-start.result.at before c.args.bytes.now within a
 
   written : with_bytes c.fields_at-fields.result.data_number (c.fields_at-fields.result.offset + c.find_byte-start.result.at) c.args.bytes.now a ≡ record a { store = store_overwritten c.args.at c.args.bytes.now m a.store }
   written =
       ap (λ (f : Fields). with_bytes f.data_number (f.offset + c.find_byte-start.result.at) c.args.bytes.now a) (read c at)
-      ∙ ap (λ s. record a { store = s }) (sym (one_overwritten m c.find_byte-start.result.block block at.block c.find_byte-start.result.at c.args.at before c.args.bytes.now within a.store))
+      ∙ ap (λ s. record a { store = s }) (sym (one_overwritten m c.find_byte-start.result.block at.block c.find_byte-start.result.at before c.args.bytes.now within a.store))
 
 pub count-requires : goal.count-requires
 count-requires c =
@@ -137,7 +137,7 @@ returns c =
           ap (λ p. nat_lt 0 (length bytes) && p) (le-ltb 1 _ once) ∙ and-false (nat_lt 0 (length bytes))
       | goal.else-bytes-gt0-via-else-bytes-gt0 w ↦ ap (λ p. p && nat_lt 1 refs) (le-ltb 0 _ w.if-bytes-gt0.false)
     ] in
-    alters_overwritten a _ c.args.token.now c.requires c.args.at bytes
+    alters_overwritten a c.args.token.now c.requires c.args.at bytes
     (few here at (before found strand) c.if-start-bytes.false)
     (touched here at (before found strand) c.if-start-bytes.false ∙ unshared)
     (c.write_data.ensures ∙ written here at (before found strand) c.if-start-bytes.false)

@@ -12,7 +12,7 @@ use Rattle.strm_mblk.proofs.blocks.Blocks.overwrite_across.Goals as goal
 pub invariant_of-self : goal.invariant_of-self
 invariant_of-self c = record {
   filled =
-      filled-over c.self.inside.id c.self.inside.data c.overwrite_blocks.new.stored c.self.inside.chains.loads c.self.inside.chains.lists c.self.invariant.filled c.overwrite_blocks.ensures.kept
+      filled-over c.self.invariant.filled c.overwrite_blocks.ensures.kept
       (ap (λ (s : CountedStore). s.counts) c.overwrite_blocks.ensures.after) (record { many = c.overwrite_blocks.ensures.blocks; room = c.overwrite_blocks.ensures.rooms });
   queued = c.self.invariant.queued;
 }
@@ -27,4 +27,4 @@ returns c =
     ∙ (λ i. arena_of c.self.inside.id (store_overwritten c.args.at bytes (message_of c.self.inside.chains.loads (nodes_at c.self.inside.chains.lists (c.head.ensures i))) c.self.inside.data.store) c.self.inside.chains.loads c.self.inside.chains.lists)
     ∙ (λ i. arena_of c.self.inside.id (store_overwritten c.args.at bytes (sym (message_at-seen c.self.inside.id c.self.inside.data.store c.self.inside.chains.loads c.self.inside.chains.lists h) i) c.self.inside.data.store) c.self.inside.chains.loads c.self.inside.chains.lists)
     ∙ ap (λ (x : Arena). record x { store = store_overwritten c.args.at bytes (message_at x h) x.store }) c.self.view_is in
-    alters_overwritten a _ c.args.token.now c.requires c.args.at bytes (sym c.is_shorter.ensures ∙ c.if-is_shorter.false) (sym c.touches_shared.ensures ∙ c.if-touches_shared.false) now
+    alters_overwritten a c.args.token.now c.requires c.args.at bytes (sym c.is_shorter.ensures ∙ c.if-is_shorter.false) (sym c.touches_shared.ensures ∙ c.if-touches_shared.false) now

@@ -17,7 +17,7 @@ returns c =
     let x = block_of_found c.in_ok-node.field-0 in
     let own = sym c.in_ok-node.ensures.answer in
     let at = x.offset - length c.args.bytes.now in
-    alters_block a _ c.args.token.now 0 x own c.requires (with_bytes_written x.data_number at c.args.bytes.now a.store) (other_data a.store x.data_number _) (prepend h c.args.bytes.now a) tt
+    alters_block a _ c.args.token.now 0 own c.requires (with_bytes_written x.data_number at c.args.bytes.now a.store) (other_data a.store x.data_number _) (prepend h c.args.bytes.now a) tt
     (record x { offset = at; len = x.len + length c.args.bytes.now })
-    (c.write_data.ensures ∙ ap (with_bytes x.data_number at c.args.bytes.now) (c.set_fields.ensures h 0 x (found_own a h 0 x own) refl))
+    (c.write_data.ensures ∙ ap (with_bytes x.data_number at c.args.bytes.now) (c.set_fields.ensures h 0 x (found_own a h 0 own) refl))
     (ap (and_then (prepend_block h c.args.bytes.now a)) own ∙ cond-false _ _ _ (le-ltb _ _ c.if-bytes-fields.false))

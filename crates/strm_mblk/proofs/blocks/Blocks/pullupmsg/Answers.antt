@@ -44,7 +44,7 @@ module _ (c : After-fields_at-front) where
   head = grind (arith, common_steps, seen_head, had_message)
 
   held : held_at c.args.self.now h ≡ Some (b ∷ bs)
-  held = ap (λ a. held_at a h) (sym c.self.view_is) ∙ head_held c.self.inside.id c.self.inside.data items c.self.inside.chains.lists c.self.invariant.filled h head
+  held = ap (λ a. held_at a h) (sym c.self.view_is) ∙ head_held c.self.inside.id c.self.inside.data items c.self.inside.chains.lists c.self.invariant.filled head
 
   -- what was read is what the first block says
   read : c.fields_at-front.result ≡ fields_at items h
@@ -85,44 +85,44 @@ returns-in_err-pull_front c =
     let why = c.in_err-pull_front.field-0.0 in
     let first = sym c.pull_front.ensures.answer ∙ c.in_err-pull_front.was in
     let is =
-    refused_is call why
+    refused_is call
     (sym (pull_front_answer (h d) c.in-Some.wanted (b d) (bs d) a (held d) c.args.count (asked d) (enough d) (more d c.if-wanted-front.false)) ∙ first) in
     subst (Alters itself t t call a c.pull_front.new.self) (sym (refused (goal.at.returns-in_err-pull_front c).After-from_residual))
-    (alters_none a c.pull_front.new.self t call why is (c.pull_front.ensures.after ∙ ap (value_after a) (refused_is (pull_front t.head c.in-Some.wanted a) why first)) c.requires)
+    (alters_none a c.pull_front.new.self t call why is (c.pull_front.ensures.after ∙ ap (value_after a) (refused_is (pull_front t.head c.in-Some.wanted a) first)) c.requires)
 
 -- ---- the first block takes a data block, and the others lose the bytes
 
-module _ (c : After-fields_at-front) (many : c.fields_at-front.result.len < c.in-Some.wanted) (first : Arena) (first_is : first ≡ value_after c.args.self.now (pull_front (h c) c.in-Some.wanted c.args.self.now))
-    (u : Unit {0}) (given : answer_of (pull_front (h c) c.in-Some.wanted c.args.self.now) ≡ Ok u) where
+module _ (c : After-fields_at-front) (many : c.fields_at-front.result.len < c.in-Some.wanted) {first : Arena} (first_is : first ≡ value_after c.args.self.now (pull_front (h c) c.in-Some.wanted c.args.self.now))
+    {u : Unit {0}} (given : answer_of (pull_front (h c) c.in-Some.wanted c.args.self.now) ≡ Ok u) where
   still_held : is_some (held_at first c.head-head.result) ≡ true
   still_held =
       ap (λ k. is_some (held_at first k)) c.head-head.ensures
       ∙ ap is_some (front_pulled_held (h c) c.in-Some.wanted (b c) (bs c) c.args.self.now (held c) c.args.count (asked c) (enough c) (more c many) first first_is u given)
 
-  is_pulled : (new : Arena) → new ≡ with_bytes_drained c.head-head.result (c.in-Some.wanted - c.fields_at-front.result.len) (message_at first c.head-head.result) first
+  is_pulled : {new : Arena} → new ≡ with_bytes_drained c.head-head.result (c.in-Some.wanted - c.fields_at-front.result.len) (message_at first c.head-head.result) first
       → IsPulled (h c) c.in-Some.wanted c.args.self.now (pullupmsg (h c) c.args.count c.args.self.now) new
-  is_pulled new is =
-      pulls (h c) c.in-Some.wanted (b c) (bs c) c.args.self.now (held c) c.args.count (asked c) (enough c) (more c many) first first_is u given new
+  is_pulled {new} is =
+      pulls (h c) c.in-Some.wanted (b c) (bs c) c.args.self.now (held c) c.args.count (asked c) (enough c) (more c many) first first_is u given
       (is ∙ (λ i. with_bytes_drained (c.head-head.ensures i) (c.in-Some.wanted - len_is c i) (message_at first (c.head-head.ensures i)) first))
 
 pub drain-requires : goal.drain-requires
 drain-requires c =
-    still_held (goal.at.drain-requires c).After-fields_at-front c.if-wanted-front.false c.pull_front.new.self c.pull_front.ensures.after c.in_ok-pull_front.field-0
+    still_held (goal.at.drain-requires c).After-fields_at-front c.if-wanted-front.false c.pull_front.ensures.after
     (sym c.pull_front.ensures.answer ∙ c.in_ok-pull_front.was)
 
 pub len-requires : goal.len-requires
 len-requires c =
     let is =
-    is_pulled (goal.at.len-requires c).After-fields_at-front c.if-wanted-front.false c.pull_front.new.self c.pull_front.ensures.after c.in_ok-pull_front.field-0
-    (sym c.pull_front.ensures.answer ∙ c.in_ok-pull_front.was) c.drain.new.self c.drain.ensures in
+    is_pulled (goal.at.len-requires c).After-fields_at-front c.if-wanted-front.false c.pull_front.ensures.after
+    (sym c.pull_front.ensures.answer ∙ c.in_ok-pull_front.was) c.drain.ensures in
     ap (λ k. is_some (held_in c.self-2.inside.chains.lists.held k)) c.head-head.ensures
-    ∙ ap is_some (held_nodes c.self-2.inside.id c.self-2.inside.data.store c.self-2.inside.chains.loads c.self-2.inside.chains.lists c.args.token.now.head _ (ap (λ a. held_at a c.args.token.now.head) c.self-2.view_is ∙ is.held)).1.held
+    ∙ ap is_some (held_nodes c.self-2.inside.id c.self-2.inside.data.store c.self-2.inside.chains.loads c.self-2.inside.chains.lists c.args.token.now.head (ap (λ a. held_at a c.args.token.now.head) c.self-2.view_is ∙ is.held)).1.held
 
 module _ (c : After-set_blocks) where
   done : IsPulled c.args.token.now.head c.in-Some.wanted c.args.self.now (pullupmsg c.args.token.now.head c.args.count c.args.self.now) c.drain.new.self
   done =
-      is_pulled (goal.at.returns c).After-fields_at-front c.if-wanted-front.false c.pull_front.new.self c.pull_front.ensures.after c.in_ok-pull_front.field-0
-      (sym c.pull_front.ensures.answer ∙ c.in_ok-pull_front.was) c.drain.new.self c.drain.ensures
+      is_pulled (goal.at.returns c).After-fields_at-front c.if-wanted-front.false c.pull_front.ensures.after
+      (sym c.pull_front.ensures.answer ∙ c.in_ok-pull_front.was) c.drain.ensures
 
   -- the token says how many blocks the message has
   token_now : c.set_blocks.new.self ≡ token_of c.drain.new.self c.args.token.now.head
@@ -133,5 +133,5 @@ returns c =
     let at = (goal.at.returns c).After-set_blocks in
     let a = c.args.self.now in
     let t = c.args.token.now in
-    alters a c.drain.new.self t _ tt c.set_blocks.new.self (done at).done (token_now at) (ap (has c.drain.new.self) (token_now at) ∙ token_had c.drain.new.self t.head _ (done at).held)
-    (leaves_pullupmsg a (parted_inside c.self.inside c.self.invariant a c.self.view_is) t.head c.args.count)
+    alters a c.drain.new.self t _ tt (done at).done (token_now at) (ap (has c.drain.new.self) (token_now at) ∙ token_had c.drain.new.self t.head _ (done at).held)
+    (leaves_pullupmsg (parted_inside c.self.invariant c.self.view_is) t.head c.args.count)

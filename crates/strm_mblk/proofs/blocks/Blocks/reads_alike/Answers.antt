@@ -5,7 +5,7 @@ use Rattle.strm_mblk.proofs.arena.Stands.{heads_apart}
 use Rattle.strm_mblk.proofs.blocks.Blocks.reads_alike.Goals as goal
 
 pub returns-clause-apart : goal.returns-clause-apart
-returns-clause-apart c shelf = heads_apart c.args.self.now (parted_inside c.self.inside c.self.invariant c.args.self.now c.self.view_is) shelf
+returns-clause-apart c shelf = heads_apart c.args.self.now (parted_inside c.self.invariant c.self.view_is) shelf
 
 pub returns-clause-forward : goal.returns-clause-forward
 returns-clause-forward c shelf = Reads-after (heads_at c.args.self.now shelf) (returns-clause-apart c shelf)

@@ -17,6 +17,6 @@ returns c =
     let x = block_of_found c.in_ok-node.field-0 in
     let own = sym c.in_ok-node.ensures.answer in
     alters_fields a _ c.args.token.now k (record x { offset = c.args.count }) c.requires (reserve h k c.args.count a) tt
-    (c.set_fields.ensures h k x (found_own a h k x own) refl)
+    (c.set_fields.ensures h k x (found_own a h k own) refl)
     (ap (and_then (reserve_block h k c.args.count a)) own
     ∙ cond-false _ _ _ (ap (λ p. p || nat_lt (capacity_of a.store x.data_number) c.args.count) (le-ltb _ _ c.if-fields-gt0.false) ∙ le-ltb _ _ (omega (arith, c.if-count-capacity.false, c.in_ok-node.ensures.within.capacity))))

@@ -13,7 +13,7 @@ module _ (c : After-reset_least-2) where
 
   filled : IsFilled c.reset_least.new.self c.reset_least-2.new.self.loads c.reset_least-2.new.self.lists (arena_of i.id c.reset_least.new.self.store c.reset_least-2.new.self.loads c.reset_least-2.new.self.lists)
   filled =
-      reset_filled i.id i.data c.reset_least-2.new.self.loads i.chains.lists (reloaded i.id i.data i.chains.lists c.reset_least-2.ensures.loads c.self.invariant.filled) _ _ c.reset_least.ensures.after c.reset_least.ensures.kept
+      reset_filled (reloaded c.reset_least-2.ensures.loads c.self.invariant.filled) c.reset_least.ensures.after c.reset_least.ensures.kept
       c.reset_least-2.ensures.after c.reset_least-2.ensures.parted
 
   shows : arena_of i.id c.reset_least.new.self.store c.reset_least-2.new.self.loads c.reset_least-2.new.self.lists ≡ with_least_reset c.args.self.now

@@ -24,7 +24,7 @@ value_first : (c : After-unlinkb-rest) → rmvb c.args.token.head c.args.place c
 value_first c =
     let message = had_message c.args.self.now c.args.token c.requires in
     ap (λ k. rmvb c.args.token.head k c.args.self.now) c.if-place-eq0.true
-    ∙ rmvb_first c.args.self.now c.lawful.ensures.parted c.args.token.head message.0 message.1.held
+    ∙ rmvb_first c.lawful.ensures.parted c.args.token.head message.1.held
     ∙ ap (λ a. Ok ((c.args.token.head, (unlinkb c.args.token.head c.args.self.now).0), a)) (sym c.unlinkb-rest.ensures.after)
 
 apart_first : (c : After-unlinkb-rest) → IfSome c.unlinkb-rest.result (λ rest. rest.head ≢ c.unlinkb-rest.new.token.head)
@@ -48,9 +48,7 @@ take_out-node-requires-clause-there c = grind (arith, common_steps, token_nodes)
 
 is_taken : (c : After-take_out-node) → IsTakenOut c.args.self.now c.self.inside.data c.take_out-node.new.self.loads c.take_out-node.new.self.lists c.self.inside.id c.args.token.head c.args.place c.take_out-node.result
 is_taken c =
-    is_taken_out c.self.inside.id c.self.inside.data c.take_out-node.new.self.loads c.self.inside.chains.lists (reloaded c.self.inside.id c.self.inside.data c.self.inside.chains.lists c.take_out-node.ensures.loads c.self.invariant.filled) c.args.self.now (reviewed c.self.inside.id c.self.inside.data.store c.self.inside.chains.lists c.take_out-node.ensures.loads c.self.view_is) c.args.token c.requires
-    c.spend-head.result.head c.args.place c.take_out-node.result (ap (λ (t : TokenValue). t.head) c.spend-head.ensures) c.take_out-node.ensures.answer (omega (arith, c.if-place-eq0.false))
-    c.take_out-node.new.self.lists c.take_out-node.ensures.after c.take_out-node.ensures.parted
+    is_taken_out (reloaded c.take_out-node.ensures.loads c.self.invariant.filled) (reviewed c.self.inside.data.store c.self.inside.chains.lists c.take_out-node.ensures.loads c.self.view_is) c.args.token c.requires c.args.place (ap (λ (t : TokenValue). t.head) c.spend-head.ensures) c.take_out-node.ensures.answer (omega (arith, c.if-place-eq0.false)) c.take_out-node.ensures.after c.take_out-node.ensures.parted
 
 abbrev new_arena : After-take_out-node → Arena
 new_arena c = arena_of c.self.inside.id c.self.inside.data.store c.take_out-node.new.self.loads c.take_out-node.new.self.lists
@@ -59,7 +57,7 @@ rest_held : (c : After-take_out-node) → held_at (new_arena c) c.spend-head.res
 rest_held c = subst (λ h. held_at (new_arena c) h ≡ Some (message_at (new_arena c) h)) (sym (ap (λ (t : TokenValue). t.head) c.spend-head.ensures)) (is_taken c).rest
 
 pub invariant_of-self : goal.invariant_of-self
-invariant_of-self c = still_whole c.self.inside _ c.args.self.now c.self.invariant c.self.view_is refl (is_taken c).filled (is_taken c).shelved
+invariant_of-self c = still_whole _ c.self.invariant c.self.view_is refl (is_taken c).filled (is_taken c).shelved
 
 pub token-requires : goal.token-requires
 token-requires c = ap is_some (is_taken c).block

@@ -9,4 +9,4 @@ pub run_in-requires-clause-small : goal.run_in-requires-clause-small
 run_in-requires-clause-small c =
     let i = c.self.inside in
     subst (λ h. size_of (message_of i.chains.loads (nodes_at i.chains.lists h)) < 2 ^ 32) (sym c.head.ensures)
-    (nodes_small i.id i.data i.chains.loads i.chains.lists c.self.invariant.filled c.args.self.now c.self.view_is c.args.token.now c.requires)
+    (nodes_small c.self.invariant.filled c.self.view_is c.args.token.now c.requires)

@@ -11,28 +11,28 @@ use Rattle.strm_mblk.proofs.blocks.Blocks.set_fields.Goals as goal
 pub set_load-requires : goal.set_load-requires
 set_load-requires c =
     let suits = c.requires in
-    omega (arith, number_there c.self.inside.id c.self.inside.data c.self.inside.chains.loads c.self.inside.chains.lists c.self.invariant.filled c.args.self.now c.self.view_is c.args.node suits.head suits.place suits.block suits.found suits.number)
+    omega (arith, number_there c.self.invariant.filled c.self.view_is c.args.node suits.head suits.place suits.block suits.found suits.number)
 
 pub invariant_of-self : goal.invariant_of-self
 invariant_of-self c =
     let suits = c.requires in
     let i = c.self.inside in
-    still_whole i _ c.args.self.now c.self.invariant c.self.view_is refl
+    still_whole _ c.self.invariant c.self.view_is refl
     (subst (λ (p : List Fields × ChainLists). IsFilled i.data p.0 p.1 (arena_of i.id i.data.store p.0 p.1)) (λ j. (sym c.set_load.ensures.loads j, sym c.set_load.ensures.lists j))
-    (fields_filled i.id i.data i.chains.loads i.chains.lists c.self.invariant.filled c.args.self.now c.self.view_is
+    (fields_filled c.self.invariant.filled c.self.view_is
     c.args.node suits.head suits.place suits.block suits.found suits.number c.args.fields suits.same
     (record {
       there =
-          data_there i.id i.data i.chains.loads i.chains.lists c.self.invariant.filled c.args.self.now c.self.view_is
+          data_there c.self.invariant.filled c.self.view_is
           c.args.node suits.head suits.place suits.block suits.found suits.number c.args.fields suits.same;
       within = omega (arith, suits.room, ap (λ (a : Arena). capacity_of a.store c.args.fields.data_number) c.self.view_is);
       banded = suits.banded;
     })))
-    (ap shelved_blocks ((λ j. arena_of i.id i.data.store (c.set_load.ensures.loads j) (c.set_load.ensures.lists j)) ∙ fields_show i.id i.data i.chains.loads i.chains.lists c.self.invariant.filled c.args.self.now c.self.view_is
+    (ap shelved_blocks ((λ j. arena_of i.id i.data.store (c.set_load.ensures.loads j) (c.set_load.ensures.lists j)) ∙ fields_show c.self.invariant.filled c.self.view_is
     c.args.node suits.head suits.place suits.block suits.found suits.number c.args.fields))
 
 pub returns : goal.returns
 returns c h k b found number =
     let i = c.self.inside in
     (λ j. arena_of i.id i.data.store (c.set_load.ensures.loads j) (c.set_load.ensures.lists j))
-    ∙ fields_show i.id i.data i.chains.loads i.chains.lists c.self.invariant.filled c.args.self.now c.self.view_is c.args.node h k b found number c.args.fields
+    ∙ fields_show c.self.invariant.filled c.self.view_is c.args.node h k b found number c.args.fields

@@ -16,20 +16,20 @@ use Rattle.strm_mblk.proofs.blocks.Blocks.setband.Goals.{After-fields_at-fields}
 use Rattle.strm_mblk.proofs.blocks.Blocks.setband.Goals as goal
 
 -- the band of the first block alone changes
-with_band_is : (band : ℕ) (m : Message) (b : Block) → slice_get m 0 ≡ Some b → slice_set m 0 (record b { band = band }) ≡ with_band band m
-with_band_is band [] b is = absurd (none-some b is)
-with_band_is band (c ∷ bs) b is = ap (λ (d : Block). record d { band = band } ∷ bs) (sym (same_Some c b is))
+with_band_is : (band : ℕ) (m : Message) {b : Block} → slice_get m 0 ≡ Some b → slice_set m 0 (record b { band = band }) ≡ with_band band m
+with_band_is band [] {b} is = absurd (none-some b is)
+with_band_is band (c ∷ bs) {b} is = ap (λ (d : Block). record d { band = band } ∷ bs) (sym (same_Some c b is))
 
 module _ (c : After-fields_at-fields) where
   head : IsHeldHead c.self.inside.chains.loads c.self.inside.chains.lists c.args.token.now.head
   head =
-      seen_head c.self.inside.id c.self.inside.data c.self.inside.chains.loads c.self.inside.chains.lists c.self.invariant.filled c.args.token.now.head c.args.self.now c.self.view_is
+      seen_head c.self.invariant.filled c.args.token.now.head c.self.view_is
       (ap is_some (had_message c.args.self.now c.args.token.now c.requires).1.held)
 
   at : IsAt c.self.inside.data c.self.inside.chains.loads c.self.inside.chains.lists c.args.self.now c.args.token.now.head 0 c.args.token.now.head (nodes_at c.self.inside.chains.lists c.args.token.now.head)
   at =
       block_some c.self.inside.id c.self.inside.data c.self.inside.chains.loads c.self.inside.chains.lists c.self.invariant.filled c.args.self.now c.self.view_is c.args.token.now.head 0
-      c.args.token.now refl c.requires c.args.token.now.head head.first
+      c.args.token.now refl c.requires head.first
 
   read : c.fields_at-fields.result ≡ fields_at c.self.inside.chains.loads c.args.token.now.head
   read = c.fields_at-fields.ensures ∙ ap (fields_at c.self.inside.chains.loads) c.head-node.ensures
@@ -60,6 +60,6 @@ returns c =
     c.set_fields.ensures h 0 b (at before).block (sym c.head-node.ensures)
     ∙ (λ i. with_block h 0 (record (block_of (c.head-node.ensures i) (read before i)) { band = c.args.band }) a) in
     alters_kept a _ c.args.token.now _ tt
-    (ap (λ m. Ok (tt, with_message h m a)) (sym (with_band_is c.args.band (message_at a h) b (at before).block)) ∙ ap (λ (x : Arena). Ok (tt, x)) (sym is))
+    (ap (λ m. Ok (tt, with_message h m a)) (sym (with_band_is c.args.band (message_at a h) (at before).block)) ∙ ap (λ (x : Arena). Ok (tt, x)) (sym is))
     (subst (λ x. has x c.args.token.now ≡ true) (sym is) (had_with_block a a.store c.args.token.now 0 (record b { band = c.args.band }) c.requires))
     (leaves_setband a h c.args.band)

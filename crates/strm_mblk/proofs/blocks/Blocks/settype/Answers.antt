@@ -12,7 +12,7 @@ pub returns : goal.returns
 returns c =
     let own = sym c.in_ok-found.ensures.answer in
     let d = c.in_ok-found.found.fields.data_number in
-    alters_store c.args.self.now _ c.args.token.now c.args.place (block_of_found c.in_ok-found.found) own c.requires (with_kind d c.args.kind c.args.self.now.store)
+    alters_store c.args.self.now _ c.args.token.now c.args.place own c.requires (with_kind d c.args.kind c.args.self.now.store)
     (other_data c.args.self.now.store d _) _ tt
     (ap (λ (s : CountedStore). arena_of c.self.inside.id s.store c.self.inside.chains.loads c.self.inside.chains.lists) c.set_kind.ensures.after
     ∙ ap (λ (a : Arena). record a { store = with_kind d c.args.kind a.store }) c.self.view_is)

@@ -12,7 +12,7 @@ pub set_fields-requires : goal.set_fields-requires
 set_fields-requires c =
     let x = block_of_found c.in_ok-node.field-0 in
     let within = c.in_ok-node.ensures.within in
-    suits_found c.args.self.now c.args.token.now.head c.args.place x (found_at c.args.self.now c.args.token.now.head c.args.place x (sym c.in_ok-node.ensures.answer)) _ refl
+    suits_found c.args.self.now c.args.token.now.head c.args.place (found_at c.args.self.now c.args.token.now.head c.args.place (sym c.in_ok-node.ensures.answer)) _ refl
     (omega (arith, within.capacity)) within.banded
 
 pub returns : goal.returns
@@ -24,5 +24,5 @@ returns c =
     let found = sym c.in_ok-node.ensures.answer in
     let room : c.args.at + c.args.len ≤ capacity_of a.store x.data_number = omega (arith, c.in_ok-node.ensures.within.capacity) in
     alters_fields a _ c.args.token.now k (record x { offset = c.args.at; len = c.args.len }) c.requires (shape h k c.args.at c.args.len a) tt
-    (c.set_fields.ensures h k x (found_at a h k x found) refl)
+    (c.set_fields.ensures h k x (found_at a h k found) refl)
     (ap (and_then (shape_block h k c.args.at c.args.len a)) found ∙ cond-false _ _ _ (le-ltb _ _ room))

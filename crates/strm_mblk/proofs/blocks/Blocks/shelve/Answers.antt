@@ -20,7 +20,7 @@ had c = had_message (arena_in c.self.inside) c.spend-head.result (ap (λ (t : To
 pub overflow_add-self : goal.overflow_add-self
 overflow_add-self c =
     let message = had (goal.at.overflow_add-self c).After-len-blocks in
-    omega (arith, shelving_room c.self.inside.id c.self.inside.data c.self.inside.chains.loads c.self.inside.chains.lists c.self.invariant.filled c.spend-head.result.head message.0 message.1.held, c.len-blocks.ensures, c.self.invariant.queued)
+    omega (arith, shelving_room c.self.invariant.filled c.spend-head.result.head message.1.held, c.len-blocks.ensures, c.self.invariant.queued)
 
 pub shelve-requires-clause-before : goal.shelve-requires-clause-before
 shelve-requires-clause-before c at is =
@@ -38,16 +38,16 @@ invariant_of-self c =
     let within = within (goal.at.invariant_of-self c).After-shelve in
     record {
       filled =
-          reloaded i.id i.data c.shelve.new.self.lists c.shelve.ensures.loads
-          (shelve_filled i.id i.data i.chains.loads i.chains.lists c.self.invariant.filled c.spend-head.result.head message.0 message.1.held
-          c.from.result c.args.before c.shelve.new.self.lists within c.shelve.ensures.after c.shelve.ensures.parted);
+          reloaded c.shelve.ensures.loads
+          (shelve_filled c.self.invariant.filled c.spend-head.result.head message.1.held
+          c.from.result c.args.before within c.shelve.ensures.after c.shelve.ensures.parted);
       queued =
           omega (
             arith,
             c.len-blocks.ensures,
             c.self.invariant.queued,
-            shelve_queued i.id i.data i.chains.loads i.chains.lists c.self.invariant.filled c.spend-head.result.head message.0 message.1.held
-                c.from.result c.args.before c.shelve.new.self.lists within c.shelve.ensures.after c.shelve.ensures.parted,
+            shelve_queued c.self.invariant.filled c.spend-head.result.head message.1.held
+                c.from.result c.args.before within c.shelve.ensures.after c.shelve.ensures.parted,
             ap (λ fields. length (shelved_blocks (arena_of i.id i.data.store fields c.shelve.new.self.lists))) c.shelve.ensures.loads,
           );
     }
@@ -56,9 +56,9 @@ after_is : (c : After-self-1) → arena_of c.self.inside.id c.self.inside.data.s
 after_is c =
     let message = had (goal.at.returns c).After-len-blocks in
     let i = c.self.inside in
-    reviewed i.id i.data.store c.shelve.new.self.lists c.shelve.ensures.loads
-    (shelve_shows i.id i.data i.chains.loads i.chains.lists c.self.invariant.filled c.spend-head.result.head message.0 message.1.held
-    c.from.result c.args.before c.shelve.new.self.lists (within (goal.at.returns c).After-shelve) c.shelve.ensures.after c.shelve.ensures.parted
+    reviewed i.data.store c.shelve.new.self.lists c.shelve.ensures.loads
+    (shelve_shows c.self.invariant.filled c.spend-head.result.head message.1.held
+    c.from.result c.args.before (within (goal.at.returns c).After-shelve) c.shelve.ensures.after c.shelve.ensures.parted
     ∙ (λ j. shelve (c.from.ensures j) c.args.before (c.spend-head.ensures j).head (c.self.view_is j)))
 
 pub returns : goal.returns

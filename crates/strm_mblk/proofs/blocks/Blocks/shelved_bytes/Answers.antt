@@ -16,15 +16,15 @@ use Rattle.strm_mblk.proofs.blocks.Blocks.shelved_bytes.Goals as goal
 
 module _ (c : After-finds_chains) where
   head : IsHead c.self.inside.data c.self.inside.chains.loads c.self.inside.chains.lists c.args.self.now c.args.head
-  head = is_head c.self.inside.id c.self.inside.data c.self.inside.chains.loads c.self.inside.chains.lists c.self.invariant.filled c.args.self.now c.self.view_is c.args.head c.requires
+  head = is_head c.self.inside.id c.self.inside.data c.self.inside.chains.loads c.self.inside.chains.lists c.self.invariant.filled c.self.view_is c.args.head c.requires
 
   chain_is : chain_of c.self.inside.chains.lists c.args.head ≡ head.nodes
   chain_is = c.finds_chains.ensures.shelved head.shelf head.place c.args.head (ap (λ ns. slice_get ns 0) head.at ∙ head.begins) ∙ head.at
 
   -- the block that the walk found
-  block : (o : Option ℕ) → o ≡ slice_get (chain_of c.self.inside.chains.lists c.args.head) c.args.place
+  block : {o : Option ℕ} → o ≡ slice_get (chain_of c.self.inside.chains.lists c.args.head) c.args.place
       → slice_get (shelved_message c.args.self.now c.args.head) c.args.place ≡ option_map (block_at c.self.inside.chains.loads) o
-  block o is =
+  block is =
       ap (λ m. slice_get m c.args.place) head.message ∙ slice_get-map (block_at c.self.inside.chains.loads) head.nodes c.args.place
       ∙ ap (option_map (block_at c.self.inside.chains.loads)) (ap (λ ns. slice_get ns c.args.place) (sym chain_is) ∙ sym is)
 
@@ -37,7 +37,7 @@ node_of-requires-clause-there c = omega (arith, (head c).there, c.self.invariant
 pub returns-in_default : goal.returns-in_default
 returns-in_default c =
     let a = c.args.self.now in
-    ap (λ o. answer_map (bytes_of_block a.store) (ok_or o NoSuchBlock)) (sym (block (goal.at.returns-in_default c).After-finds_chains None (sym c.in_default.is ∙ c.node_of.ensures.value)))
+    ap (λ o. answer_map (bytes_of_block a.store) (ok_or o NoSuchBlock)) (sym (block (goal.at.returns-in_default c).After-finds_chains (sym c.in_default.is ∙ c.node_of.ensures.value)))
 
 pub returns : goal.returns
 returns c =
@@ -51,4 +51,4 @@ returns c =
     (c.bytes.ensures
     ∙ ap (λ (f : Fields). bytes_at f.data_number f.offset f.len c.self.inside.data.store) read
     ∙ ap (λ (x : Arena). bytes_of_block x.store (block_at fields node)) c.self.view_is)
-    ∙ ap (λ o. answer_map (bytes_of_block a.store) (ok_or o NoSuchBlock)) (sym (block (goal.at.returns c).After-finds_chains (Some node) (sym at)))
+    ∙ ap (λ o. answer_map (bytes_of_block a.store) (ok_or o NoSuchBlock)) (sym (block (goal.at.returns c).After-finds_chains (sym at)))

@@ -25,10 +25,10 @@ sum_of_lengths-requires c =
     let i = c.self.inside in
     let h = c.args.token.now.head in
     subst (IsSummable i.chains.lists i.chains.loads i.data.store) (sym c.head.ensures)
-    (summable i.id i.data i.chains.loads i.chains.lists c.self.invariant.filled h (nodes_at i.chains.lists h) (chain_is c)
-    (at_first (nodes_at i.chains.lists h) h (begins_with i.chains.lists c.self.invariant.filled.parted h (nodes_at i.chains.lists h) (held c)))
-    (nodes_room i.chains.lists h h (at_first (nodes_at i.chains.lists h) h (begins_with i.chains.lists c.self.invariant.filled.parted h (nodes_at i.chains.lists h) (held c))))
-    (nodes_small i.id i.data i.chains.loads i.chains.lists c.self.invariant.filled c.args.self.now c.self.view_is c.args.token.now c.requires))
+    (summable c.self.invariant.filled (chain_is c)
+    (at_first (nodes_at i.chains.lists h) (begins_with c.self.invariant.filled.parted h (held c)))
+    (nodes_room i.chains.lists h (at_first (nodes_at i.chains.lists h) (begins_with c.self.invariant.filled.parted h (held c))))
+    (nodes_small c.self.invariant.filled c.self.view_is c.args.token.now c.requires))
 
 pub returns : goal.returns
 returns c = grind (arith, common_steps, message_at-seen)

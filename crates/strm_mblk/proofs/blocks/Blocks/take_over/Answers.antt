@@ -22,7 +22,7 @@ use Rattle.strm_mblk.proofs.blocks.Blocks.take_over.Goals as goal
 module _ (c : After-begin_all-head) where
   some : 0 < c.blocks-count.result
   some =
-      omega (arith, c.blocks-count.ensures, some_blocks c.args.other.now (parted_inside c.other.inside c.other.invariant c.args.other.now c.other.view_is) c.args.token.now c.requires)
+      omega (arith, c.blocks-count.ensures, some_blocks (parted_inside c.other.invariant c.other.view_is) c.args.token.now c.requires)
 
   free : c.blocks-count.result ≤ length c.self.inside.chains.lists.free
   free = omega (arith, c.if-free_len-count.false, c.free_len.ensures)
@@ -30,7 +30,7 @@ module _ (c : After-begin_all-head) where
   -- the first free message blocks are a message
   into : IsInto c.self.inside.chains.lists c.begin_all-head.new.self.lists c.begin_all-head.result c.blocks-count.result
   into =
-      into_is c.self.inside.chains.lists c.self.invariant.filled.parted c.blocks-count.result some free c.begin_all-head.result c.begin_all-head.ensures.answer c.begin_all-head.new.self.lists c.begin_all-head.ensures.after
+      into_is c.self.invariant.filled.parted c.blocks-count.result some free c.begin_all-head.ensures.answer c.begin_all-head.ensures.after
 
 pub copy_into-requires-clause-begun : goal.copy_into-requires-clause-begun
 copy_into-requires-clause-begun c = (into (goal.at.copy_into-requires-clause-begun c).After-begin_all-head).begun
@@ -61,7 +61,7 @@ module _ (c : After-copy_into) where
   made =
       let begun = (goal.at.After-copy_into c).After-begin_all-head in
       subst (λ (p : Arena × ChainLists). IsMade (Some c.args.other.now.store) m p.0 c.copy_into.new.stored said p.1 c.self.inside.id c.begin_all-head.result) (λ i. (c.self.view_is i, sym c.copy_into.ensures.lists i))
-      (is_made (Some c.args.other.now.store) m c.blocks-count.result many c.self.inside.id c.self.inside.data c.self.inside.chains.loads c.self.inside.chains.lists c.self.invariant.filled (some begun) (free begun)
+      (is_made (Some c.args.other.now.store) m many c.self.invariant.filled (some begun) (free begun)
       c.begin_all-head.result c.begin_all-head.ensures.answer c.begin_all-head.new.self.lists c.begin_all-head.ensures.after (into begun).is c.begin_all-head.ensures.parted
       c.copy_into.new.stored said c.copy_into.ensures.kept
       (subst (λ fields. AreCopied (Some c.args.other.now.store) m (nodes_at c.begin_all-head.new.self.lists c.begin_all-head.result) fields said c.self.inside.data c.copy_into.new.stored) c.begin_all-head.ensures.loads
@@ -69,7 +69,7 @@ module _ (c : After-copy_into) where
 
 pub invariant_of-self : goal.invariant_of-self
 invariant_of-self c =
-    let is = made (goal.at.invariant_of-self c).After-copy_into in still_whole c.self.inside _ c.args.self.now c.self.invariant c.self.view_is refl is.begun.filled is.begun.shelved
+    let is = made (goal.at.invariant_of-self c).After-copy_into in still_whole _ c.self.invariant c.self.view_is refl is.begun.filled is.begun.shelved
 
 pub token-requires : goal.token-requires
 token-requires c = ap is_some (made (goal.at.token-requires c).After-copy_into).begun.held
@@ -78,9 +78,9 @@ pub returns : goal.returns
 returns c =
     let at = (goal.at.returns c).After-copy_into in
     let is = made at in
-    let parted = parted_inside c.self.inside c.self.invariant c.args.self.now c.self.view_is in
+    let parted = parted_inside c.self.invariant c.self.view_is in
     let fits =
     ap (λ (a : Arena). fits_classes c.args.other.now.store (m at) a.store) (sym c.self.view_is) ∙ sym c.fits_classes.ensures ∙ c.if-not-fits_classes.false in
     let done = cond-true _ (message_copied (Some c.args.other.now.store) (m at) c.args.self.now) (Err TooLarge) fits ∙ is.done in
-    gives c.args.self.now (now at) None (transfer c.args.other.now c.args.token.now.head c.args.self.now) c.token.result c.begin_all-head.result _ done c.token.ensures is.begun.held is.begun.absent tt
-    (leaves_transfer c.args.self.now parted c.args.other.now c.args.token.now.head)
+    gives c.args.self.now (now at) None (transfer c.args.other.now c.args.token.now.head c.args.self.now) c.begin_all-head.result done c.token.ensures is.begun.held is.begun.absent tt
+    (leaves_transfer parted c.args.other.now c.args.token.now.head)

@@ -16,15 +16,14 @@ use Rattle.strm_mblk.proofs.blocks.Blocks.touches_shared.Goals as goal
 pub loop-block-init : goal.loop-block-init
 loop-block-init c = record {
   at =
-      reached_head c.self.inside.id c.self.inside.data c.self.inside.chains.loads c.self.inside.chains.lists c.self.invariant.filled c.args.self.now c.self.view_is c.args.token.now c.requires
-      c.head-node.result c.head-node.ensures;
+      reached_head c.self.invariant.filled c.self.view_is c.args.token.now c.requires c.head-node.ensures;
   rest = refl;
 }
 
 is_at : (c : In-loop-block) → IsAt c.self.inside.data c.self.inside.chains.loads c.self.inside.chains.lists c.args.self.now c.args.token.now.head c.loop-block._block c.loop-block.node (nodes_at c.self.inside.chains.lists c.args.token.now.head)
 is_at c =
     block_reached c.self.inside.id c.self.inside.data c.self.inside.chains.loads c.self.inside.chains.lists c.self.invariant.filled c.args.self.now c.self.view_is c.args.token.now.head c.loop-block._block
-    c.args.token.now refl c.requires c.loop-block.node c.loop-block.invariant.at (omega (arith, c.loop-block-test.true, c.blocks-block-end.ensures))
+    c.args.token.now refl c.requires c.loop-block.invariant.at (omega (arith, c.loop-block-test.true, c.blocks-block-end.ensures))
 
 pub fields_at-fields-requires : goal.fields_at-fields-requires
 fields_at-fields-requires c = omega (arith, (is_at (goal.at.fields_at-fields-requires c).In-loop-block).there)
@@ -42,7 +41,7 @@ module _ (c : After-min-here) (at : IsAt c.self.inside.data c.self.inside.chains
       || touches_shared c.args.self.now (c.loop-block.skip - (fields_at c.self.inside.chains.loads c.loop-block.node).len) (c.loop-block.left - c.min-here.result) (drop (c.loop-block._block + 1) (message_at c.args.self.now c.args.token.now.head)))
   next =
       c.loop-block.invariant.rest
-      ∙ touches_next (message_at c.args.self.now c.args.token.now.head) c.loop-block._block (block_at c.self.inside.chains.loads c.loop-block.node) at.block c.args.self.now c.loop-block.skip c.loop-block.left
+      ∙ touches_next (message_at c.args.self.now c.args.token.now.head) c.loop-block._block at.block c.args.self.now c.loop-block.skip c.loop-block.left
       ∙ ap (λ n. (nat_lt 0 n && nat_lt 1 (references_to c.args.self.now (fields_at c.self.inside.chains.loads c.loop-block.node).data_number))
       || touches_shared c.args.self.now (c.loop-block.skip - (fields_at c.self.inside.chains.loads c.loop-block.node).len) (c.loop-block.left - n) (drop (c.loop-block._block + 1) (message_at c.args.self.now c.args.token.now.head)))
       (sym here)
@@ -96,5 +95,5 @@ pub returns : goal.returns
 returns c =
     sym (c.loop-block.invariant.rest
     ∙ ap (touches_shared c.args.self.now c.loop-block.skip c.loop-block.left)
-    (past_last c.self.inside.id c.self.inside.data c.self.inside.chains.loads c.self.inside.chains.lists c.self.invariant.filled c.args.self.now c.self.view_is c.args.token.now c.requires
+    (past_last c.self.invariant.filled c.self.view_is c.args.token.now c.requires
     c.loop-block._block (omega (arith, c.loop-block-test.false, c.blocks-block-end.ensures))))

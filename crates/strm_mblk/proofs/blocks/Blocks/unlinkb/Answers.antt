@@ -21,12 +21,12 @@ use Rattle.strm_mblk.proofs.blocks.Blocks.unlinkb.Goals as goal
 
 is_divided : (c : After-set_blocks) → IsDivided c.args.self.now c.self.inside.data c.divide.new.self.loads c.divide.new.self.lists c.self.inside.id c.args.token.now.head c.in_ok-rest.rest
 is_divided c =
-    let held = token_held c.self.inside.id c.self.inside.data c.divide.new.self.loads c.self.inside.chains.lists c.args.self.now (reviewed c.self.inside.id c.self.inside.data.store c.self.inside.chains.lists c.divide.ensures.loads c.self.view_is) c.args.token.now c.args.token.now refl c.requires in
+    let held = token_held c.self.inside.data c.divide.new.self.loads c.self.inside.chains.lists (reviewed c.self.inside.data.store c.self.inside.chains.lists c.divide.ensures.loads c.self.view_is) c.args.token.now c.args.token.now refl c.requires in
     let at : slice_get (nodes_at c.self.inside.chains.lists c.args.token.now.head) 1 ≡ Some c.in_ok-rest.rest =
     ap (λ h. slice_get (nodes_at c.self.inside.chains.lists h) 1) (sym c.head.ensures) ∙ sym c.divide.ensures.answer ∙ c.in_ok-rest.was in
     let lists : ℕ → ChainLists = λ h. record c.self.inside.chains.lists { held = chain_divided (λ n. n) h (nodes_at c.self.inside.chains.lists h) c.self.inside.chains.lists.held } in
-    subst (λ a. IsDivided a c.self.inside.data c.divide.new.self.loads c.divide.new.self.lists c.self.inside.id c.args.token.now.head c.in_ok-rest.rest) (reviewed c.self.inside.id c.self.inside.data.store c.self.inside.chains.lists c.divide.ensures.loads c.self.view_is)
-    (divides c.self.inside.id c.self.inside.data c.divide.new.self.loads c.self.inside.chains.lists c.divide.new.self.lists (reloaded c.self.inside.id c.self.inside.data c.self.inside.chains.lists c.divide.ensures.loads c.self.invariant.filled) c.args.token.now.head c.in_ok-rest.rest held at
+    subst (λ a. IsDivided a c.self.inside.data c.divide.new.self.loads c.divide.new.self.lists c.self.inside.id c.args.token.now.head c.in_ok-rest.rest) (reviewed c.self.inside.data.store c.self.inside.chains.lists c.divide.ensures.loads c.self.view_is)
+    (divides (reloaded c.divide.ensures.loads c.self.invariant.filled) c.args.token.now.head held at
     (c.divide.ensures.after ∙ ap lists c.head.ensures) c.divide.ensures.parted)
 
 abbrev new_arena : After-set_blocks → Arena
@@ -36,7 +36,7 @@ first_token : (c : After-set_blocks) → c.set_blocks.new.self ≡ token_of (new
 first_token c = grind (arith, common_steps, token_is, had_message, is_divided)
 
 pub invariant_of-self-2 : goal.invariant_of-self-2
-invariant_of-self-2 c = still_whole c.self.inside _ c.args.self.now c.self.invariant c.self.view_is refl (is_divided c).filled (is_divided c).shelved
+invariant_of-self-2 c = still_whole _ c.self.invariant c.self.view_is refl (is_divided c).filled (is_divided c).shelved
 
 pub token-requires : goal.token-requires
 token-requires c = ap is_some (is_divided c).rest

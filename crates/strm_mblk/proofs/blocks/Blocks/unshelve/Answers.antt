@@ -28,16 +28,15 @@ unshelve-requires-clause-there c =
 
 is_unshelved : (c : After-unshelve) → IsUnshelved c.args.self.now c.self.inside.data c.unshelve.new.self.loads c.unshelve.new.self.lists c.self.inside.id c.args.shelf c.args.head
 is_unshelved c =
-    subst (λ a. IsUnshelved a c.self.inside.data c.unshelve.new.self.loads c.unshelve.new.self.lists c.self.inside.id c.args.shelf c.args.head) (reviewed c.self.inside.id c.self.inside.data.store c.self.inside.chains.lists c.unshelve.ensures.loads c.self.view_is)
+    subst (λ a. IsUnshelved a c.self.inside.data c.unshelve.new.self.loads c.unshelve.new.self.lists c.self.inside.id c.args.shelf c.args.head) (reviewed c.self.inside.data.store c.self.inside.chains.lists c.unshelve.ensures.loads c.self.view_is)
     (subst (λ s. IsUnshelved (arena_of c.self.inside.id c.self.inside.data.store c.unshelve.new.self.loads c.self.inside.chains.lists) c.self.inside.data c.unshelve.new.self.loads c.unshelve.new.self.lists c.self.inside.id s c.args.head) c.from.ensures
-    (unshelves c.self.inside.id c.self.inside.data c.unshelve.new.self.loads c.self.inside.chains.lists (reloaded c.self.inside.id c.self.inside.data c.self.inside.chains.lists c.unshelve.ensures.loads c.self.invariant.filled) c.from.result c.args.head
-    (omega (arith, c.requires.shelf, c.from.ensures, ap (λ (a : Arena). length a.shelves) (reviewed c.self.inside.id c.self.inside.data.store c.self.inside.chains.lists c.unshelve.ensures.loads c.self.view_is))) ((λ i. has c.args.head (heads_at ((reviewed c.self.inside.id c.self.inside.data.store c.self.inside.chains.lists c.unshelve.ensures.loads c.self.view_is) i) (c.from.ensures i))) ∙ c.requires.there)
-    c.unshelve.new.self.lists c.unshelve.ensures.after c.unshelve.ensures.parted))
+    (unshelves (reloaded c.unshelve.ensures.loads c.self.invariant.filled) c.from.result c.args.head
+    (omega (arith, c.requires.shelf, c.from.ensures, ap (λ (a : Arena). length a.shelves) (reviewed c.self.inside.data.store c.self.inside.chains.lists c.unshelve.ensures.loads c.self.view_is))) ((λ i. has c.args.head (heads_at ((reviewed c.self.inside.data.store c.self.inside.chains.lists c.unshelve.ensures.loads c.self.view_is) i) (c.from.ensures i))) ∙ c.requires.there) c.unshelve.ensures.after c.unshelve.ensures.parted))
 
 pub len-blocks-requires : goal.len-blocks-requires
 len-blocks-requires c =
     let is = is_unshelved (goal.at.len-blocks-requires c).After-unshelve in
-    ap is_some (held_nodes c.self.inside.id c.self.inside.data.store c.unshelve.new.self.loads c.unshelve.new.self.lists c.args.head is.message is.held).1.held
+    ap is_some (held_nodes c.self.inside.id c.self.inside.data.store c.unshelve.new.self.loads c.unshelve.new.self.lists c.args.head is.held).1.held
 
 pub overflow_sub-self : goal.overflow_sub-self
 overflow_sub-self c =

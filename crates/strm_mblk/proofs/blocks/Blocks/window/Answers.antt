@@ -22,13 +22,13 @@ returns g c =
     -- the bytes that are lent are all that the data block has
     let all : bytes_at x.data_number 0 c.in_ok-fields.field-0.capacity a.store ≡ bytes =
     take_all c.in_ok-fields.field-0.capacity bytes (omega (arith, c.in_ok-fields.ensures.within.capacity)) in
-    lends a _ c.args.token.now (FnOnceReturnsAtMut g.F.FnOnce c.args.change) (bytes_of_window h k a) (λ r left. window h k r left a) bytes c.edit_data.result _
+    lends a _ c.args.token.now (FnOnceReturnsAtMut g.F.FnOnce c.args.change) (λ r left. window h k r left a) c.edit_data.result _
     (ap (answer_map (λ b. (data_block_at a.store b.data_number).bytes)) own)
     (record {
       left = edits.left;
       long = edits.long ∙ ap length all;
       called = subst (λ lent. FnOnceReturnsAtMut g.F.FnOnce c.args.change lent c.edit_data.result edits.left) all edits.called;
       after =
-          alters_store a _ c.args.token.now k x own c.requires.had (with_bytes_written x.data_number 0 edits.left a.store) (other_data a.store x.data_number _) (window h k c.edit_data.result edits.left a) c.edit_data.result edits.after
+          alters_store a _ c.args.token.now k own c.requires.had (with_bytes_written x.data_number 0 edits.left a.store) (other_data a.store x.data_number _) (window h k c.edit_data.result edits.left a) c.edit_data.result edits.after
           (ap (answer_map (λ b. (c.edit_data.result, with_bytes b.data_number 0 edits.left a))) own);
     })

@@ -19,6 +19,6 @@ returns c =
     let within = c.in_ok-node.ensures.within in
     let end = x.offset + x.len in
     let room : end + length c.args.bytes.now ≤ capacity_of a.store x.data_number = omega (arith, c.if-bytes-capacity.false, within.within, within.capacity) in
-    alters_block a _ c.args.token.now k x own c.requires (with_bytes_written x.data_number end c.args.bytes.now a.store) (other_data a.store x.data_number _) _ tt (record x { len = x.len + length c.args.bytes.now })
-    (c.write_data.ensures ∙ ap (with_bytes x.data_number end c.args.bytes.now) (c.set_fields.ensures h k x (found_own a h k x own) refl))
+    alters_block a _ c.args.token.now k own c.requires (with_bytes_written x.data_number end c.args.bytes.now a.store) (other_data a.store x.data_number _) _ tt (record x { len = x.len + length c.args.bytes.now })
+    (c.write_data.ensures ∙ ap (with_bytes x.data_number end c.args.bytes.now) (c.set_fields.ensures h k x (found_own a h k own) refl))
     (ap (and_then (write_block h k c.args.bytes.now a)) own ∙ cond-false _ _ _ (le-ltb _ _ room))

@@ -27,12 +27,12 @@ lengths (f ∷ fs) zero = refl
 lengths (f ∷ fs) (suc c) = lengths fs c
 
 -- the places of the blocks lie in their data blocks, and a class fits each
-module _ (fields : List Fields) (v : ChainLists) (s to : DataStore) (h count : ℕ) (parted : IsLawful v) (listed : length fields ≡ length v.held) (placed : (n : ℕ) → n < length fields → IsPlaced s (fields_at fields n))
+module _ (fields : List Fields) {v : ChainLists} (s to : DataStore) (h count : ℕ) (parted : IsLawful v) (listed : length fields ≡ length v.held) (placed : (n : ℕ) → n < length fields → IsPlaced s (fields_at fields n))
     (classed : fits_classes s (take count (message_of fields (nodes_at v h))) to ≡ true) where
   pub each_inside : (k : ℕ) (b : Block) → slice_get (take count (message_of fields (nodes_at v h))) k ≡ Some b → IsInside s b × (fits_a_class (capacity_of s b.data_number) to.classes ≡ true)
   each_inside k b at =
       let bs = take count (message_of fields (nodes_at v h)) in
-      let of = block_there fields v parted listed h count k b at in
+      let of = block_there fields parted listed h count k at in
       let there = placed of.0 of.1 in (
         subst (IsInside s) of.2 (there.there, there.within),
         ap (λ (x : Block). fits_a_class (capacity_of s x.data_number) to.classes) (sym (get_or_from_slice_get bs k b b at))
@@ -43,8 +43,8 @@ pub returns-then-free_in_largest-count-clause-fit : goal.returns-then-free_in_la
 returns-then-free_in_largest-count-clause-fit c =
     let o = lent_store c.args.other in
     let bs = take c.args.count (message_of c.args.chains.now.loads (nodes_at c.args.chains.now.lists c.args.head)) in
-    sym (enough_left o bs c.args.stored.now (map length c.args.stored.now.store.free) c.requires.kept (lengths c.args.stored.now.store.free)
-    (each_inside c.args.chains.now.loads c.args.chains.now.lists (copied_from o c.args.stored.now.store) c.args.stored.now.store c.args.head c.args.count c.requires.parted c.requires.listed c.requires.placed c.requires.classed)
+    sym (enough_left o bs (map length c.args.stored.now.store.free) c.requires.kept (lengths c.args.stored.now.store.free)
+    (each_inside c.args.chains.now.loads (copied_from o c.args.stored.now.store) c.args.stored.now.store c.args.head c.args.count c.requires.parted c.requires.listed c.requires.placed c.requires.classed)
     (omega (arith, length-take c.args.count (message_of c.args.chains.now.loads (nodes_at c.args.chains.now.lists c.args.head)), c.free_in_largest.ensures, c.if-free_in_largest-count.true, lengths c.args.stored.now.store.free (length c.args.stored.now.store.classes - 1))))
 
 -- ---- a class for each
@@ -71,11 +71,11 @@ module _ (c : After-class_left) where
 
   -- the block of this step, and those after it
   next : drop c.loop-block._block bs ≡ b ∷ drop (c.loop-block._block + 1) bs
-  next = next_block c.args.chains.now.loads (nodes_at c.args.chains.now.lists c.args.head) c.args.count c.loop-block._block c.loop-block.node c.loop-block-test.true at
+  next = next_block c.args.chains.now.loads (nodes_at c.args.chains.now.lists c.args.head) c.args.count c.loop-block._block c.loop-block-test.true at
 
   here : IsInside from b × (fits_a_class (capacity_of from b.data_number) c.args.stored.now.store.classes ≡ true)
   here =
-      each_inside c.args.chains.now.loads c.args.chains.now.lists from c.args.stored.now.store c.args.head c.args.count c.requires.parted c.requires.listed c.requires.placed c.requires.classed c.loop-block._block b
+      each_inside c.args.chains.now.loads from c.args.stored.now.store c.args.head c.args.count c.requires.parted c.requires.listed c.requires.placed c.requires.classed c.loop-block._block b
       (slice_get-take c.args.count c.loop-block._block (message_of c.args.chains.now.loads ns) c.loop-block-test.true ∙ slice_get-map (block_at c.args.chains.now.loads) ns c.loop-block._block ∙ ap (option_map (block_at c.args.chains.now.loads)) at)
 
   -- the size that the class was looked up for

@@ -36,12 +36,12 @@ module _ (c : In-loop-block) where
 
   -- the block of this step, and those after it
   next : drop c.loop-block._block bs ≡ block_at c.args.chains.now.loads of ∷ drop (c.loop-block._block + 1) bs
-  next = next_block c.args.chains.now.loads (nodes_at c.args.chains.now.lists c.args.from) c.args.count c.loop-block._block of c.loop-block-test.true read_at
+  next = next_block c.args.chains.now.loads (nodes_at c.args.chains.now.lists c.args.from) c.args.count c.loop-block._block c.loop-block-test.true read_at
 
   -- it says what it said before
   said : fields_at c.loop-block.chains.loads of ≡ fields_at c.args.chains.now.loads of
   said =
-      source_stays None bs (nodes_at c.args.chains.now.lists c.args.into) c.loop-block._block c.args.chains.now.loads c.loop-block.chains.loads c.args.stored.now c.loop-block.stored c.loop-block.invariant.copying of
+      source_stays c.loop-block.invariant.copying of
       (omega (arith, c.requires.apart of, times_at of (nodes_at c.args.chains.now.lists c.args.from) c.loop-block._block read_at))
 
   there : of < length c.args.chains.now.loads
@@ -71,7 +71,7 @@ pub copy_data-requires-clause-fits : goal.copy_data-requires-clause-fits
 copy_data-requires-clause-fits c =
     let at = (goal.at.copy_data-requires-clause-fits c).After-fields_at in
     subst (λ (f : Fields). is_ok (take_data (capacity_of c.loop-block.stored.store f.data_number) c.loop-block.stored.store) ≡ true) (sym (read at))
-    (next_fits None (bs (loop at)) (nodes_at c.args.chains.now.lists c.args.into) c.loop-block._block c.args.chains.now.loads c.loop-block.chains.loads c.args.stored.now c.loop-block.stored c.loop-block.invariant.copying
+    (next_fits c.loop-block.invariant.copying
     (block_at c.args.chains.now.loads c.loop-block.read) (next (loop at)) c.requires.fit)
 
 pub set_load-requires : goal.set_load-requires
@@ -101,7 +101,7 @@ loop-block-preserved c =
     c.copy_data.ensures.after c.loop-block.read ∙ ap (λ (f : Fields). with_copy None (block_of c.loop-block.read f) c.loop-block.stored d) said in
     let lists = c.set_load.ensures.lists ∙ inv.lists in
     let copied =
-    next_copied None (bs before) (nodes_at c.args.chains.now.lists c.args.into) c.loop-block._block c.args.chains.now.loads now c.args.stored.now c.loop-block.stored inv.copying
+    next_copied inv.copying
     b (next before) d c.loop-block.written
     (ap (λ (f : Fields). take_data (capacity_of c.loop-block.stored.store f.data_number) c.loop-block.stored.store) (sym said) ∙ c.copy_data.ensures.taken)
     c.copy_data.ensures.unused

@@ -59,7 +59,7 @@ loop-block-preserved c =
       written = still_on lists c.onward-written.ensures c.args.to c.loop-block._block inv.written;
       copying =
           subst (IsCopying (take c.args.count (from at)) (to at) (c.loop-block._block + 1) c.args.chains.now.loads) (sym loads)
-          (next_copying (take c.args.count (from at)) (to at) c.loop-block._block c.args.chains.now.loads c.loop-block.chains.loads inv.copying c.loop-block.read c.loop-block.written
+          (next_copying inv.copying
           (slice_get-take c.args.count c.loop-block._block (from at) c.loop-block-test.true ∙ read_at at) (written_at at)
           (omega (arith, c.requires.apart c.loop-block.read, times_at c.loop-block.read (from at) c.loop-block._block (read_at at))));
     }

@@ -16,10 +16,10 @@ module _ (c : In-loop-given) where
   d = (fields_at c.args.chains.now.loads c.loop-given.node).data_number
 
   named_at : slice_get (data_used_by c.args.chains.now.loads (nodes_at c.args.chains.now.lists c.args.head)) c.loop-given.given ≡ Some d
-  named_at = named-get c.args.chains.now.loads (nodes_at c.args.chains.now.lists c.args.head) c.loop-given.given c.loop-given.node (c.loop-given.invariant.at.here (omega (arith, c.loop-given-test.true, c.requires.count)))
+  named_at = named-get c.args.chains.now.loads (nodes_at c.args.chains.now.lists c.args.head) c.loop-given.given (c.loop-given.invariant.at.here (omega (arith, c.loop-given-test.true, c.requires.count)))
 
   same_store : c.loop-given.stored.store ≡ c.args.stored.now.store
-  same_store = store_now (data_used_by c.args.chains.now.loads (nodes_at c.args.chains.now.lists c.args.head)) c.loop-given.given c.args.stored.now c.loop-given.stored c.requires.used c.loop-given.invariant.after
+  same_store = store_now (data_used_by c.args.chains.now.loads (nodes_at c.args.chains.now.lists c.args.head)) c.loop-given.given c.args.stored.now c.requires.used c.loop-given.invariant.after
 
   there : (n : ℕ) → n < length c.args.chains.now.loads → (fields_at c.args.chains.now.loads n).data_number < length c.loop-given.stored.store.blocks
   there n within = subst (λ (s : DataStore). (fields_at c.args.chains.now.loads n).data_number < length s.blocks) (sym same_store) (c.requires.there n within)
@@ -47,8 +47,7 @@ drop_references-requires-clause-kept c = c.loop-given.invariant.kept
 pub returns-then-count-clause-answer : goal.returns-then-count-clause-answer
 returns-then-count-clause-answer c =
     let at = (goal.at.returns-then-count-clause-answer c).In-loop-given in
-    sym (ap not (next_full (data_used_by c.args.chains.now.loads (nodes_at c.args.chains.now.lists c.args.head)) c.loop-given.given c.args.stored.now c.loop-given.stored c.requires.used c.loop-given.invariant.after
-    (d at) (named_at at) c.args.count c.loop-given-test.true (sym (c.count.ensures ∙ ap (λ (f : Fields). count_of c.loop-given.stored f.data_number) c.fields_at-data_number.ensures) ∙ c.if-count.true)))
+    sym (ap not (next_full (data_used_by c.args.chains.now.loads (nodes_at c.args.chains.now.lists c.args.head)) c.loop-given.given c.args.stored.now c.requires.used c.loop-given.invariant.after (named_at at) c.args.count c.loop-given-test.true (sym (c.count.ensures ∙ ap (λ (f : Fields). count_of c.loop-given.stored f.data_number) c.fields_at-data_number.ensures) ∙ c.if-count.true)))
 
 pub returns-then-count-clause-after : goal.returns-then-count-clause-after
 returns-then-count-clause-after c = grind (arith, common_steps, back_now)
@@ -62,7 +61,7 @@ pub name-requires-clause-used : goal.name-requires-clause-used
 name-requires-clause-used c =
     let at = (goal.at.name-requires-clause-used c).In-loop-given in
     subst (λ (f : Fields). 0 < count_of c.loop-given.stored f.data_number) (sym c.fields_at-data_number.ensures)
-    (next_used (data_used_by c.args.chains.now.loads (nodes_at c.args.chains.now.lists c.args.head)) c.loop-given.given c.args.stored.now c.loop-given.stored c.requires.used c.loop-given.invariant.after (d at) (named_at at))
+    (next_used (data_used_by c.args.chains.now.loads (nodes_at c.args.chains.now.lists c.args.head)) c.loop-given.given c.args.stored.now c.requires.used c.loop-given.invariant.after (named_at at))
 
 pub loop-given-preserved : goal.loop-given-preserved
 loop-given-preserved c =
@@ -71,7 +70,7 @@ loop-given-preserved c =
       at = c.onward-node.ensures c.args.head c.loop-given.given c.loop-given.invariant.at;
       after =
           c.name.ensures.after ∙ ap (λ (f : Fields). with_reference f.data_number c.loop-given.stored) c.fields_at-data_number.ensures
-          ∙ next_given (data_used_by c.args.chains.now.loads (nodes_at c.args.chains.now.lists c.args.head)) c.loop-given.given c.args.stored.now c.loop-given.stored c.requires.used c.loop-given.invariant.after (d at) (named_at at);
+          ∙ next_given (data_used_by c.args.chains.now.loads (nodes_at c.args.chains.now.lists c.args.head)) c.loop-given.given c.args.stored.now c.requires.used c.loop-given.invariant.after (named_at at);
       kept = c.name.ensures.kept;
     }
 

@@ -49,7 +49,7 @@ loop-block-preserved c =
         begins =
             slice_get-get_or (ns before) (k + 1) 4294967295 (more before)
             ∙ ap Some (sym (c.unwrap_or-node.ensures ∙ ap (λ o. unwrap_or o 4294967295) next ∙ unwrap_or-slice_get (ns before) (k + 1) 4294967295));
-        there = omega (arith, c.unwrap_or-node.ensures, below c.next.result 4294967295 _ _ (next ∙ slice_get-get_or (ns before) (k + 1) 0 (more before)) c.next.ensures.in_range);
+        there = omega (arith, c.unwrap_or-node.ensures, below 4294967295 _ (next ∙ slice_get-get_or (ns before) (k + 1) 0 (more before)) c.next.ensures.in_range);
         before =
             omega (
               arith,
@@ -58,7 +58,7 @@ loop-block-preserved c =
               ap (λ (f : Fields). f.len) c.fields_at-len.ensures,
               size_parts (m before) k,
               size_parts (m before) (k + 1),
-              size_next (m before) k (block_at c.args.chains.now.loads c.loop-block.node) (block before),
+              size_next (m before) k (block before),
             );
       };
     }

@@ -15,22 +15,22 @@ abbrev names : (fields : List Fields) (ns : List ℕ) (count : ℕ) → List ℕ
 names fields ns count = take count (data_used_by fields ns)
 
 -- a block of the message uses one of them
-at_block : (fields : List Fields) (ns : List ℕ) (count i n : ℕ) → i < count → slice_get ns i ≡ Some n → slice_get (names fields ns count) i ≡ Some (fields_at fields n).data_number
-at_block fields ns count i n within is = slice_get-take count i _ within ∙ named-get fields ns i n is
+at_block : (fields : List Fields) (ns : List ℕ) (count i : ℕ) {n : ℕ} → i < count → slice_get ns i ≡ Some n → slice_get (names fields ns count) i ≡ Some (fields_at fields n).data_number
+at_block fields ns count i {n} within is = slice_get-take count i _ within ∙ named-get fields ns i is
 
 -- ---- the first block
 
 pub drop_name-requires-clause-used : goal.drop_name-requires-clause-used
 drop_name-requires-clause-used c =
     subst (λ (f : Fields). 0 < count_of c.args.stored.now f.data_number) (sym c.fields_at.ensures)
-    (next_used _ 0 c.args.stored.now c.args.stored.now (start_dropping _ _ c.requires.named) _ (at_block c.args.chains.now.loads _ c.args.count 0 c.args.head (omega (arith, c.if-count-eq0.false)) c.requires.begun))
+    (next_used (start_dropping _ c.args.stored.now c.requires.named) (at_block c.args.chains.now.loads _ c.args.count 0 (omega (arith, c.if-count-eq0.false)) c.requires.begun))
 
 pub loop-block-init : goal.loop-block-init
 loop-block-init c =
     let ds = names c.args.chains.now.loads (nodes_at c.args.chains.now.lists c.args.head) c.args.count in
     let next : IsDropping ds 1 c.args.stored.now c.drop_name.new.self =
     subst (IsDropping ds 1 c.args.stored.now) (sym (c.drop_name.ensures.after ∙ ap (λ (f : Fields). without_reference f.data_number c.args.stored.now) c.fields_at.ensures))
-    (next_dropping ds 0 c.args.stored.now c.args.stored.now (start_dropping ds _ c.requires.named) _ (at_block c.args.chains.now.loads _ c.args.count 0 c.args.head (omega (arith, c.if-count-eq0.false)) c.requires.begun)) in
+    (next_dropping (start_dropping ds _ c.requires.named) (at_block c.args.chains.now.loads _ c.args.count 0 (omega (arith, c.if-count-eq0.false)) c.requires.begun)) in
     record {
       at = c.onward-node.ensures c.args.head 0 (record { here = λ _. c.requires.begun; in_range = λ _. grind (arith, common_steps) });
       after = next.after;
@@ -55,7 +55,7 @@ module _ (c : In-loop-block) where
 
   -- the next to be dropped is that of this step
   named_at : slice_get ds c.loop-block._block ≡ Some d
-  named_at = at_block c.args.chains.now.loads _ c.args.count c.loop-block._block c.loop-block.node c.loop-block-test.true (c.loop-block.invariant.at.here (omega (arith, c.loop-block-test.true, c.requires.count)))
+  named_at = at_block c.args.chains.now.loads _ c.args.count c.loop-block._block c.loop-block-test.true (c.loop-block.invariant.at.here (omega (arith, c.loop-block-test.true, c.requires.count)))
 
 pub drop_name-requires-in-loop-block-clause-used : goal.drop_name-requires-in-loop-block-clause-used
 drop_name-requires-in-loop-block-clause-used c = grind (arith, common_steps, next_used, dropping, named_at)
@@ -65,7 +65,7 @@ loop-block-preserved c =
     let at = (goal.at.loop-block-preserved c).In-loop-block in
     let next : IsDropping (ds at) (c.loop-block._block + 1) c.args.stored.now c.drop_name-in-loop-block.new.self =
     subst (IsDropping (ds at) (c.loop-block._block + 1) c.args.stored.now) (sym (c.drop_name-in-loop-block.ensures.after ∙ ap (λ (f : Fields). without_reference f.data_number c.loop-block.stored) c.fields_at-in-loop-block.ensures))
-    (next_dropping (ds at) c.loop-block._block c.args.stored.now c.loop-block.stored (dropping at) (d at) (named_at at)) in
+    (next_dropping (dropping at) (named_at at)) in
     record {
       at = c.onward-node-in-loop-block.ensures c.args.head c.loop-block._block c.loop-block.invariant.at;
       after = next.after;

@@ -18,7 +18,7 @@ use Rattle.strm_mblk.proofs.blocks.overwriting.overwrite_blocks.Goals as goal
 
 pub loop-block-init : goal.loop-block-init
 loop-block-init c = record {
-  at = record { here = λ some. c.requires.begun; in_range = λ some. nodes_room c.args.chains.now.lists c.args.head c.args.head c.requires.begun };
+  at = record { here = λ some. c.requires.begun; in_range = λ some. nodes_room c.args.chains.now.lists c.args.head c.requires.begun };
   rest = refl;
   counts = refl;
   rooms = record { many = refl; room = λ k. refl };
@@ -45,7 +45,7 @@ module _ (c : After-fields_at-fields) where
   placed : IsPlaced c.loop-block.stored.store c.fields_at-fields.result
   placed =
       subst (IsPlaced c.loop-block.stored.store) (sym c.fields_at-fields.ensures)
-      (placed-over c.args.stored.now.store c.loop-block.stored.store (fields_at c.args.chains.now.loads c.loop-block.node) c.loop-block.invariant.rooms (c.requires.placed c.loop-block.node (there loop)))
+      (placed-over c.loop-block.invariant.rooms (c.requires.placed c.loop-block.node (there loop)))
 
   block : slice_get (m loop) c.loop-block._block ≡ Some (block_of c.loop-block.node c.fields_at-fields.result)
   block =
@@ -95,7 +95,7 @@ loop-block-preserved c =
       at = c.onward-node.ensures c.args.head k c.loop-block.invariant.at;
       rest =
           c.loop-block.invariant.rest
-          ∙ overwritten_next (m (loop before)) k (block_of c.loop-block.node c.fields_at-fields.result) (block before) c.loop-block.stored.store c.loop-block.skip c.loop-block.rest.now
+          ∙ overwritten_next (m (loop before)) k (block before) c.loop-block.stored.store c.loop-block.skip c.loop-block.rest.now
           ∙ (λ i. store_overwritten (sym c.saturating_sub-skip.ensures i) (drop (sym here i) c.loop-block.rest.now) behind
           (with_bytes_written f.data_number (f.offset + min c.loop-block.skip f.len) (take (sym here i) c.loop-block.rest.now) c.loop-block.stored.store))
           ∙ (λ i. store_overwritten c.saturating_sub-skip.result (sym c.split_at.ensures.back i) behind (sym store i).store);

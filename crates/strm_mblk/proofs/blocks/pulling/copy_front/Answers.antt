@@ -10,8 +10,8 @@ use Rattle.strm_mblk.proofs.Lists.{times_at}
 use Rattle.strm_mblk.proofs.blocks.pulling.copy_front.Goals as goal
 
 -- a block of the message does not name the data block
-apart : (d : ℕ) (fields : List Fields) (ns : List ℕ) (k n : ℕ) → times d (data_used_by fields ns) ≡ 0 → slice_get ns k ≡ Some n → (fields_at fields n).data_number ≢ d
-apart d fields ns k n none at same =
+apart : (d : ℕ) (fields : List Fields) (ns : List ℕ) (k : ℕ) {n : ℕ} → times d (data_used_by fields ns) ≡ 0 → slice_get ns k ≡ Some n → (fields_at fields n).data_number ≢ d
+apart d fields ns k {n} none at same =
     let named = slice_get-map (λ j. (fields_at fields j).data_number) ns k ∙ ap (option_map (λ j. (fields_at fields j).data_number)) at in
     absurd (omega (arith, none, ap (λ e. times e (data_used_by fields ns)) same, times_at (fields_at fields n).data_number (data_used_by fields ns) k named))
 
@@ -26,9 +26,8 @@ loop-block-preserved c =
     record {
       at = c.onward-node.ensures c.args.head k c.loop-block.invariant.at;
       copied =
-          next_copied c.args.stored.now (message_of blocks ns) c.args.into c.args.count k c.loop-block.done c.loop-block.stored c.loop-block.invariant.copied c.requires.enough c.requires.there
-          n c.fields_at-fields.result (slice_get-map (block_at blocks) ns k ∙ ap (option_map (block_at blocks)) at ∙ ap (λ f. Some (block_of n f)) (sym c.fields_at-fields.ensures))
-          (subst (IsPlaced c.args.stored.now.store) (sym c.fields_at-fields.ensures) (c.requires.placed n there)) (subst (λ (f : Fields). f.data_number ≢ c.args.into) (sym c.fields_at-fields.ensures) (apart c.args.into blocks ns k n c.requires.unnamed at))
-          c.min-len.result c.min-len.ensures c.copy.new.self c.copy.ensures.after;
+          next_copied c.args.stored.now (message_of blocks ns) c.args.into c.args.count c.loop-block.invariant.copied c.requires.enough c.requires.there
+          n (slice_get-map (block_at blocks) ns k ∙ ap (option_map (block_at blocks)) at ∙ ap (λ f. Some (block_of n f)) (sym c.fields_at-fields.ensures))
+          (subst (IsPlaced c.args.stored.now.store) (sym c.fields_at-fields.ensures) (c.requires.placed n there)) (subst (λ (f : Fields). f.data_number ≢ c.args.into) (sym c.fields_at-fields.ensures) (apart c.args.into blocks ns k c.requires.unnamed at)) c.min-len.ensures c.copy.ensures.after;
       kept = c.copy.ensures.kept;
     }

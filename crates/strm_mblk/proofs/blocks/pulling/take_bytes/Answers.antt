@@ -23,7 +23,7 @@ module _ (c : In-loop-used) where
 
 module _ (c : Then-left-eq0) where
   nothing : AreTaken c.args.chains.now.loads (nodes_at c.args.chains.now.lists c.args.head) c.args.count c.args.stored.now c.loop-used.used c.args.chains.now.loads c.loop-used.stored
-  nothing = nothing_left _ _ _ _ _ _ _ c.loop-used.invariant.takes c.if-left-eq0.true
+  nothing = nothing_left _ _ _ _ c.loop-used.invariant.takes c.if-left-eq0.true
 
 pub returns-then-left-eq0-clause-used : goal.returns-then-left-eq0-clause-used
 returns-then-left-eq0-clause-used c = (nothing c).used
@@ -83,7 +83,7 @@ module _ (c : After-set_load) (d : slice_get (nodes_at c.args.chains.now.lists c
   part =
       subst (λ fields. AreTaken c.args.chains.now.loads (nodes_at c.args.chains.now.lists c.args.head) c.args.count c.args.stored.now c.loop-used.used fields c.loop-used.stored)
       (sym (c.set_load.ensures.loads ∙ (λ i. set (c.loop-used.invariant.same i).loads c.onward-node.result ((c.cut.ensures ∙ ap (fields_cut false c.loop-used.left) is) i))))
-      (part_left _ _ _ _ _ _ _ c.loop-used.invariant.takes c.onward-node.result d (omega (arith, c.if-left-fields.true, ap (λ (f : Fields). f.len) is)))
+      (part_left _ _ _ _ c.loop-used.invariant.takes d (omega (arith, c.if-left-fields.true, ap (λ (f : Fields). f.len) is)))
 
 pub returns-then-left-fields : goal.returns-then-left-fields
 returns-then-left-fields c =
@@ -109,7 +109,7 @@ loop-used-preserved c =
     let d = (goal.at.loop-used-preserved c).After-onward-node in
     let read = read (goal.at.loop-used-preserved c).After-fields_at-fields in
     let n = c.onward-node.result in
-    let next = next_takes _ _ _ _ _ _ _ c.loop-used.invariant.takes n (next_here d) (omega (arith, c.if-left-eq0.false)) (omega (arith, c.if-left-fields.false, ap (λ (f : Fields). f.len) read)) in
+    let next = next_takes _ _ _ _ c.loop-used.invariant.takes (next_here d) (omega (arith, c.if-left-eq0.false)) (omega (arith, c.if-left-fields.false, ap (λ (f : Fields). f.len) read)) in
     let dropped : c.drop_name.new.self ≡ without_reference (fields_at c.args.chains.now.loads n).data_number c.loop-used.stored =
     c.drop_name.ensures.after ∙ ap (λ (f : Fields). without_reference f.data_number c.loop-used.stored) read in
     record {
@@ -131,7 +131,7 @@ module _ (c : After-loop-used) where
   none : AreTaken c.args.chains.now.loads (nodes_at c.args.chains.now.lists c.args.head) c.args.count c.args.stored.now (c.len-behind.result - 1) c.args.chains.now.loads c.loop-used.stored
   none =
       subst (λ i. AreTaken c.args.chains.now.loads (nodes_at c.args.chains.now.lists c.args.head) c.args.count c.args.stored.now i c.args.chains.now.loads c.loop-used.stored) last
-      (none_left _ _ _ _ _ _ _ c.loop-used.invariant.takes (omega (arith, c.len-behind.ensures, last)))
+      (none_left _ _ _ _ c.loop-used.invariant.takes (omega (arith, c.len-behind.ensures, last)))
 
 pub returns-clause-used : goal.returns-clause-used
 returns-clause-used c = (none c).used

@@ -22,7 +22,7 @@ loop-block-init c =
       at = λ some. (start.begins, start.there);
       laid =
           subst (λ rest. IsLaid all rest c.args.into.now c.args.into.now 0)
-          (bytes_from_start store c.args.chains.now.loads c.requires.placed ns c.find_byte-start.result.block c.find_byte-start.result.at c.args.at start.before) (laid_start all c.args.into.now);
+          (bytes_from_start store c.args.chains.now.loads c.requires.placed ns c.find_byte-start.result.block c.find_byte-start.result.at start.before) (laid_start all c.args.into.now);
     }
 
 module _ (c : In-loop-block) where
@@ -71,20 +71,20 @@ loop-block-preserved c =
     let done = c.loop-block.done in
     let count = c.read_block-done.result in
     let room = take_rest now done in
-    let laid = subst (λ bs. IsLaid all bs c.args.into.now now done) (bytes_from store (m before) k node skip f block placed) c.loop-block.invariant.laid in
+    let laid = subst (λ bs. IsLaid all bs c.args.into.now now done) (bytes_from (m before) k node skip block placed) c.loop-block.invariant.laid in
     let counted : count ≡ min (length (drop done now)) (length own) =
     c.read_block-done.ensures.count
     ∙ (λ i. min (length (room i)) (f.len - skip))
-    ∙ ap (min (length (drop done now))) (sym (length-drop skip (bytes_of_block store (block_of node f)) ∙ ap (λ l. l - skip) (length-bytes_of_block store node f placed))) in
+    ∙ ap (min (length (drop done now))) (sym (length-drop skip (bytes_of_block store (block_of node f)) ∙ ap (λ l. l - skip) (length-bytes_of_block node placed))) in
     let copied : new ≡ take count own ++ drop count (drop done now) =
     c.read_block-done.ensures.bytes node ∙ (λ i. take count own ++ drop count (room i)) in
-    let on = laid_on all own rest c.args.into.now now new done count laid counted copied in
+    let on = laid_on own rest laid counted copied in
     record {
       at = λ more.
           let next : c.next.result ≡ slice_get (ns before) (k + 1) = c.next.ensures.value c.args.head k (at before).0 in (
             slice_get-get_or (ns before) (k + 1) 4294967295 more
                 ∙ ap Some (sym (c.unwrap_or-node.ensures ∙ ap (λ o. unwrap_or o 4294967295) next ∙ unwrap_or-slice_get (ns before) (k + 1) 4294967295)),
-            omega (arith, c.unwrap_or-node.ensures, below c.next.result 4294967295 _ _ (next ∙ slice_get-get_or (ns before) (k + 1) 0 more) c.next.ensures.in_range),
+            omega (arith, c.unwrap_or-node.ensures, below 4294967295 _ (next ∙ slice_get-get_or (ns before) (k + 1) 0 more) c.next.ensures.in_range),
           );
       laid =
           subst (λ n. IsLaid all (drop n (bytes_of store (drop (k + 1) (m before)))) c.args.into.now (put_mid done (length now - done) now new) (done + count)) (sym c.saturating_sub-skip.ensures)
@@ -96,7 +96,7 @@ read_full : (c : In-loop-block) → c.loop-block.done ≡ length c.loop-block.in
     → IsRead c.args.stored.now.store (message_of c.args.chains.now.loads (chain_of c.args.chains.now.lists c.args.head)) c.args.at c.args.into.now c.loop-block.into c.loop-block.done
 read_full c full =
     let store = c.args.stored.now.store in
-    read_all store (m c) (sized store c.args.chains.now.loads c.requires.placed (ns c)) c.args.at c.loop-block.done [] c.args.into.now c.loop-block.into refl (laid_full _ _ _ _ _ full c.loop-block.invariant.laid)
+    read_all store (m c) (sized store c.args.chains.now.loads c.requires.placed (ns c)) c.args.at refl (laid_full full c.loop-block.invariant.laid)
 
 pub returns-then-done-into-clause-count : goal.returns-then-done-into-clause-count
 returns-then-done-into-clause-count c = (read_full (goal.at.returns-then-done-into-clause-count c).In-loop-block c.if-done-into.true).count
@@ -110,7 +110,7 @@ read_after c =
     let ns = chain_of c.args.chains.now.lists c.args.head in
     let m = message_of c.args.chains.now.loads ns in
     let past : drop c.loop-block._block m ≡ [] = drop_all c.loop-block._block m (omega (arith, c.loop-block-test.false, c.len-block-end.ensures, length-map ns (block_at c.args.chains.now.loads))) in
-    read_all c.args.stored.now.store m (sized c.args.stored.now.store c.args.chains.now.loads c.requires.placed ns) c.args.at c.loop-block.done _ c.args.into.now c.loop-block.into
+    read_all c.args.stored.now.store m (sized c.args.stored.now.store c.args.chains.now.loads c.requires.placed ns) c.args.at
     (ap (λ bs. drop c.loop-block.skip (bytes_of c.args.stored.now.store bs)) past ∙ drop-nil c.loop-block.skip) c.loop-block.invariant.laid
 
 pub returns-clause-count : goal.returns-clause-count

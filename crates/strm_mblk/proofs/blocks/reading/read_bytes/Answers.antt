@@ -16,10 +16,10 @@ read_block-requires-clause-placed c = subst (IsPlaced c.args.stored.now.store) (
 read : (c : After-read_block) → IsRead c.args.stored.now.store (message_of c.args.chains.now.loads (chain_of c.args.chains.now.lists c.args.head)) c.args.at c.args.into.now c.read_block.new.into c.read_block.result
 read c =
     let ns = chain_of c.args.chains.now.lists c.args.head in
-    let one = one_item ns c.args.head c.requires.begins (sym c.len.ensures ∙ c.if-len-eq1.true) in
+    let one = one_item ns c.requires.begins (sym c.len.ensures ∙ c.if-len-eq1.true) in
     subst (λ m. IsRead c.args.stored.now.store m c.args.at c.args.into.now c.read_block.new.into c.read_block.result) (sym (ap (message_of c.args.chains.now.loads) one))
     (subst (λ f. IsRead c.args.stored.now.store (block_of c.args.head f ∷ []) c.args.at c.args.into.now c.read_block.new.into c.read_block.result) c.fields_at.ensures
-    (read_one c.args.stored.now.store (block_of c.args.head c.fields_at.result) c.args.at c.read_block.result c.args.into.now c.read_block.new.into c.read_block.ensures.count (c.read_block.ensures.bytes c.args.head)))
+    (read_one c.args.stored.now.store (block_of c.args.head c.fields_at.result) c.args.at c.args.into.now c.read_block.ensures.count (c.read_block.ensures.bytes c.args.head)))
 
 pub returns-then-len-eq1-clause-count : goal.returns-then-len-eq1-clause-count
 returns-then-len-eq1-clause-count c = (read (goal.at.returns-then-len-eq1-clause-count c).After-read_block).count

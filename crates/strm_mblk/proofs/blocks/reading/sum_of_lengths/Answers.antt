@@ -13,10 +13,10 @@ use Rattle.strm_mblk.proofs.blocks.reading.sum_of_lengths.Goals as goal
 use Rattle.strm_mblk.proofs.blocks.reading.sum_of_lengths.Goals.{After-unwrap_or-node}
 
 -- the sum from block k on is its length, and that of the blocks after it
-adds : (data_alone : Bool) (s : DataStore) (fields : List Fields) (ns : List ℕ) (k n : ℕ) → slice_get ns k ≡ Some n → (len : ℕ) → len ≡ len_counted data_alone s (block_at fields n)
+adds : (data_alone : Bool) (s : DataStore) (fields : List Fields) (ns : List ℕ) (k : ℕ) {n : ℕ} → slice_get ns k ≡ Some n → {len : ℕ} → len ≡ len_counted data_alone s (block_at fields n)
     → sum_by (len_counted data_alone s) (drop k (message_of fields ns)) ≡ len + sum_by (len_counted data_alone s) (drop (k + 1) (message_of fields ns))
-adds data_alone s fields ns k n at len is =
-    sum_from (len_counted data_alone s) (message_of fields ns) k (block_at fields n) (slice_get-map (block_at fields) ns k ∙ ap (option_map (block_at fields)) at)
+adds data_alone s fields ns k {n} at is =
+    sum_from (len_counted data_alone s) (message_of fields ns) k (slice_get-map (block_at fields) ns k ∙ ap (option_map (block_at fields)) at)
     ∙ ap (λ j. j + sum_by (len_counted data_alone s) (drop (k + 1) (message_of fields ns))) (sym is)
 
 pub loop-block-init : goal.loop-block-init
@@ -24,7 +24,7 @@ loop-block-init c = record {
   begun = omega arith;
   at = c.requires.begins;
   in_range = c.requires.there;
-  sum = sym (adds c.args.data_alone c.args.stored.now.store c.args.chains.now.loads (chain_of c.args.chains.now.lists c.args.head) 0 c.args.head c.requires.begins c.length_of-sum.result
+  sum = sym (adds c.args.data_alone c.args.stored.now.store c.args.chains.now.loads (chain_of c.args.chains.now.lists c.args.head) 0 c.requires.begins
       (c.length_of-sum.ensures c.args.head ∙ ap (λ f. len_counted c.args.data_alone c.args.stored.now.store (block_of c.args.head f)) c.fields_at.ensures));
 }
 
@@ -44,7 +44,7 @@ module _ (c : After-unwrap_or-node) where
   at = grind (arith, common_steps, slice_get-get_or, there, next, unwrap_or-slice_get)
 
   low : c.unwrap_or-node.result < length c.args.chains.now.lists.held
-  low = omega (arith, c.unwrap_or-node.ensures, below c.next.result (2 ^ 32 - 1) _ _ (next ∙ slice_get-get_or ns c.loop-block._block 0 there) c.next.ensures.in_range)
+  low = omega (arith, c.unwrap_or-node.ensures, below (2 ^ 32 - 1) _ (next ∙ slice_get-get_or ns c.loop-block._block 0 there) c.next.ensures.in_range)
 
 pub fields_at-requires-in-loop-block : goal.fields_at-requires-in-loop-block
 fields_at-requires-in-loop-block c = omega (arith, c.requires.listed, low (goal.at.fields_at-requires-in-loop-block c).After-unwrap_or-node)
@@ -60,7 +60,7 @@ overflow_add-sum c =
     omega (
       arith,
       c.loop-block.invariant.sum,
-      adds c.args.data_alone c.args.stored.now.store c.args.chains.now.loads (ns before) c.loop-block._block c.unwrap_or-node.result (at before) c.length_of-sum-in-loop-block.result
+      adds c.args.data_alone c.args.stored.now.store c.args.chains.now.loads (ns before) c.loop-block._block (at before)
           (c.length_of-sum-in-loop-block.ensures c.unwrap_or-node.result ∙ ap (λ f. len_counted c.args.data_alone c.args.stored.now.store (block_of c.unwrap_or-node.result f)) c.fields_at-in-loop-block.ensures),
       c.requires.small,
       counted_most c.args.data_alone c.args.stored.now.store (message_of c.args.chains.now.loads (ns before)),
@@ -77,7 +77,7 @@ loop-block-preserved c =
           omega (
             arith,
             c.loop-block.invariant.sum,
-            adds c.args.data_alone c.args.stored.now.store c.args.chains.now.loads (ns before) c.loop-block._block c.unwrap_or-node.result (at before) c.length_of-sum-in-loop-block.result
+            adds c.args.data_alone c.args.stored.now.store c.args.chains.now.loads (ns before) c.loop-block._block (at before)
                 (c.length_of-sum-in-loop-block.ensures c.unwrap_or-node.result ∙ ap (λ f. len_counted c.args.data_alone c.args.stored.now.store (block_of c.unwrap_or-node.result f)) c.fields_at-in-loop-block.ensures),
           );
     }

@@ -37,7 +37,7 @@ loop-shaped-preserved g c =
     let ns = nodes_at c.args.chains.now.lists c.args.head in
     let m : Message = message_of c.args.chains.now.loads ns in
     let x = c.shape-shape.result in
-    let item : slice_get xs i ≡ Some x = shape_at g.S.Shaped.shape c.args.shapes.now i c.shaped-item.result x c.loop-shaped-test.true c.shaped-item.is c.shape-shape.ensures in
+    let item : slice_get xs i ≡ Some x = shape_at g.S.Shaped.shape c.args.shapes.now i c.loop-shaped-test.true c.shaped-item.is c.shape-shape.ensures in
     let at : slice_get ns i ≡ Some n = inv.at.here (omega (arith, c.loop-shaped-test.true, c.requires.count)) in
     let now = c.loop-shaped.chains.loads in
     let lists = c.set_load.ensures.lists ∙ inv.lists in
@@ -46,14 +46,14 @@ loop-shaped-preserved g c =
     record {
       lists = lists;
       at = still_on lists c.onward-node.ensures c.args.head i inv.at;
-      fields = ap (with_shapes (drop (i + 1) xs) (drop (i + 1) ns)) loads ∙ sym (shaped_next xs i x item ns n now at) ∙ inv.fields;
+      fields = ap (with_shapes (drop (i + 1) xs) (drop (i + 1) ns)) loads ∙ sym (shaped_next xs i item ns now at) ∙ inv.fields;
       named = λ k. ap (λ fields. (fields_at fields k).data_number) loads ∙ named_one x n now k ∙ inv.named k;
       many = ap (λ (fields : List Fields). length fields) loads ∙ length-set now n _ ∙ inv.many;
       banded = subst (λ (fields : List Fields). (k : ℕ) → k < length fields → (fields_at fields k).band < 2 ^ 8) (sym loads) (banded_one x n now small inv.banded);
       store =
           ap (λ (s : CountedStore). store_retyped (drop (i + 1) xs) (drop (i + 1) m) s.store) c.set_kind.ensures.after
           ∙ (λ j. store_retyped (drop (i + 1) xs) (drop (i + 1) m) (with_kind ((ap (λ (f : Fields). f.data_number) c.fields_at-data_number.ensures ∙ inv.named n) j) x.kind c.loop-shaped.stored.store))
-          ∙ sym (retyped_next xs i x item m (block_at c.args.chains.now.loads n) c.loop-shaped.stored.store (slice_get-map (block_at c.args.chains.now.loads) ns i ∙ ap (option_map (block_at c.args.chains.now.loads)) at))
+          ∙ sym (retyped_next xs i item m c.loop-shaped.stored.store (slice_get-map (block_at c.args.chains.now.loads) ns i ∙ ap (option_map (block_at c.args.chains.now.loads)) at))
           ∙ inv.store;
       counts = ap (λ (s : CountedStore). s.counts) c.set_kind.ensures.after ∙ inv.counts;
       long = ap (λ (s : CountedStore). length s.store.blocks) c.set_kind.ensures.after ∙ length-set c.loop-shaped.stored.store.blocks _ _ ∙ inv.long;

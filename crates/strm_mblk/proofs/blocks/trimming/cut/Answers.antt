@@ -54,10 +54,10 @@ loop-block-preserved c =
           let ns = nodes_at c.args.chains.now.lists h in
           let e : i + (c.loop-block._block + 1) ≡ i + c.loop-block._block + 1 = omega arith in
           (λ j. with_bytes_cut c.args.from_tail (left j) (drop (e j) ns) (loads j))
-          ∙ cut_next c.args.from_tail c.loop-block.left ns (i + c.loop-block._block) n now ((inv.at h i at).here (omega (arith, c.loop-block-test.true, count))) ∙ inv.after h i at count;
+          ∙ cut_next c.args.from_tail c.loop-block.left ns (i + c.loop-block._block) now ((inv.at h i at).here (omega (arith, c.loop-block-test.true, count))) ∙ inv.after h i at count;
       in_range = λ more. (on tail.head tail.place tail.at).in_range (omega (arith, more, tail.len));
       many = ap (λ (fields : List Fields). length fields) c.set_load.ensures.loads ∙ length-set now n c.cut.result ∙ inv.many;
       small =
           subst (λ (fields : List Fields). (k : ℕ) → k < length fields → (fields_at fields k).offset + (fields_at fields k).len < 2 ^ 32) (sym c.set_load.ensures.loads)
-          (cut_small c.args.from_tail c.loop-block.left n now inv.small c.cut.result cut);
+          (cut_small c.args.from_tail c.loop-block.left n now inv.small cut);
     }
