@@ -54,7 +54,7 @@ IsChained-opened {n} links few long leads spans =
 
 -- ---- the first free nodes become a chain
 
-module _ (nodes : List Link) (first_free : Option ℕ) (free_len : ℕ) (v : ByHead) (laid : IsChained nodes first_free free_len v) where
+module _ {nodes : List Link} {first_free : Option ℕ} {free_len : ℕ} {v : ByHead} (laid : IsChained nodes first_free free_len v) where
   -- ---- the first part of the free nodes, from h to t
 
   module _ (ps qs : List ℕ) (split : v.free ≡ ps ++ qs) (h t : ℕ) (begins : first ps ≡ Some h) (ends : last ps ≡ Some t) where
@@ -82,23 +82,23 @@ module _ (nodes : List Link) (first_free : Option ℕ) (free_len : ℕ) (v : ByH
         head = begins;
         last = ends;
         len = refl;
-        leads = LeadsOn-end (after_at nodes) (after_at new) ps (first qs) None t ends parts.left leads.0 (nexts t ∙ write_here t _ _) (λ k there other. nexts k ∙ write_elsewhere t k _ _ other);
+        leads = LeadsOn-end (after_at nodes) (after_at new) ps (first qs) None t ends parts.left leads.0 (nexts t ∙ write_here t _) (λ k there other. nexts k ∙ write_elsewhere t k _ other);
       }
 
       pub IsChained-begun : IsChained new (after_at nodes t) (free_len - length ps) (record v { free = qs; chains = set v.chains h (Some ps) })
       IsChained-begun =
-          let here : IsChain (after_at new) (span_at new h) h ps = subst (λ s. IsChain (after_at new) s h ps) (sym (spans h ∙ write_here h _ _)) begun_chain in
+          let here : IsChain (after_at new) (span_at new h) h ps = subst (λ s. IsChain (after_at new) s h ps) (sym (spans h ∙ write_here h _)) begun_chain in
           let none = begins_none laid h (not_in_chain v laid.once h h (in_free h (has_first ps h begins))) in
           IsChained-moved new qs v.free (set v.chains h (Some ps)) h h (Some ps) (Some ps)
           (record {
             long = long;
             changes = Changes-one v.chains h (Some ps) begun_low.0;
-            spans = λ g other _. spans g ∙ write_elsewhere h g _ _ other;
-            links = λ k absent. nexts k ∙ write_elsewhere t k _ _ (apart_from k t v.free (in_free t (has_last ps t ends)) absent);
+            spans = λ g other _. spans g ∙ write_elsewhere h g _ other;
+            links = λ k absent. nexts k ∙ write_elsewhere t k _ (apart_from k t v.free (in_free t (has_last ps t ends)) absent);
             others = λ g k _ _ there. not_free v laid.once g k there;
             here = here;
             there = here;
-            free_leads = LeadsOn-kept (after_at nodes) (after_at new) qs None (λ k there. nexts k ∙ write_elsewhere t k _ _ (λ same. apart_from t k qs there (parts.cross t (has_last ps t ends)) (sym same))) leads.1;
+            free_leads = LeadsOn-kept (after_at nodes) (after_at new) qs None (λ k there. nexts k ∙ write_elsewhere t k _ (λ same. apart_from t k qs there (parts.cross t (has_last ps t ends)) (sym same))) leads.1;
             same = λ k. omega (arith, times-append k ps qs, ap (times k) split, times-set k h (Some ps) v.chains begun_low.0, ap (λ m. times k (items_of m)) none);
           }) (free_len - length ps) laid begun_next (omega (arith, laid.free_count, ap length split, length-append ps qs))
 
@@ -112,7 +112,7 @@ module _ (nodes : List Link) (first_free : Option ℕ) (free_len : ℕ) (v : ByH
   pub front_none : {h : ℕ} → first_free ≡ Some h → chain_in v.chains h ≡ None
   front_none {h} at = begins_none laid h (not_in_chain v laid.once h h (has_first v.free h (sym laid.free_front ∙ at)))
 
-  module _ (h c m : ℕ) (at : first_free ≡ Some h) (is : c ≡ suc m) (enough : m < length v.free) where
+  module _ {h : ℕ} (c m : ℕ) (at : first_free ≡ Some h) (is : c ≡ suc m) (enough : m < length v.free) where
     -- one step less leads to the last of them
     pub several_there : onward (after_at nodes) m (Some h) ≡ Some (get_or v.free m 0)
     several_there = ap (onward (after_at nodes) m) (sym at ∙ laid.free_front) ∙ onward-at (after_at nodes) v.free None m laid.free_leads enough

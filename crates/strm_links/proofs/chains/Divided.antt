@@ -64,23 +64,23 @@ module _ {nodes : List Link} {first_free : Option ℕ} {free_len : ℕ} {v : ByH
     module _ (new : List Link) (long : length new ≡ length nodes) (nexts : (k : ℕ) → after_at new k ≡ (if h == k then None else after_at nodes k))
         (spans : (k : ℕ) → span_at new k ≡ (if c == k then record { last = (span_at nodes h).last; len = (span_at nodes h).len - 1 } else (if h == k then record { last = h; len = 1 } else span_at nodes k))) where
       links : (k : ℕ) → has k (chain_at v h) ≡ false → after_at new k ≡ after_at nodes k
-      links k absent = nexts k ∙ write_elsewhere h k _ _ (apart_from k h (chain_at v h) (head_in laid h some_h) absent)
+      links k absent = nexts k ∙ write_elsewhere h k _ (apart_from k h (chain_at v h) (head_in laid h some_h) absent)
 
       here : IsChain (after_at new) (record { last = h; len = 1 }) h (h ∷ [])
-      here = record { head = refl; last = refl; len = refl; leads = (nexts h ∙ write_here h _ _, tt) }
+      here = record { head = refl; last = refl; len = refl; leads = (nexts h ∙ write_here h _, tt) }
 
       there : IsChain (after_at new) (record { last = (span_at nodes h).last; len = (span_at nodes h).len - 1 }) c (c ∷ two.0)
       there = record {
         head = refl;
         last = was.last;
         len = omega (arith, was.len);
-        leads = LeadsOn-kept (after_at nodes) (after_at new) (c ∷ two.0) None (λ k there. nexts k ∙ write_elsewhere h k _ _ (λ same. differ h k (c ∷ two.0) apart.0 there (sym same))) was.leads.1;
+        leads = LeadsOn-kept (after_at nodes) (after_at new) (c ∷ two.0) None (λ k there. nexts k ∙ write_elsewhere h k _ (λ same. differ h k (c ∷ two.0) apart.0 there (sym same))) was.leads.1;
       }
 
       pub IsChained-divided : IsChained new first_free free_len (record v { chains = set (set v.chains h (Some (h ∷ []))) c (Some (c ∷ two.0)) })
       IsChained-divided =
           IsChained-two laid h new long links h c (Some (h ∷ [])) (Some (c ∷ two.0)) other (head_low laid h some_h) divided_low
-          (λ g off_h off_c. (off_h, spans g ∙ write_elsewhere c g _ _ off_c ∙ write_elsewhere h g _ _ off_h))
-          (subst (λ s. IsChain (after_at new) s h (h ∷ [])) (sym (spans h ∙ write_elsewhere c h _ _ other ∙ write_here h _ _)) here)
-          (subst (λ s. IsChain (after_at new) s c (c ∷ two.0)) (sym (spans c ∙ write_here c _ _)) there)
+          (λ g off_h off_c. (off_h, spans g ∙ write_elsewhere c g _ off_c ∙ write_elsewhere h g _ off_h))
+          (subst (λ s. IsChain (after_at new) s h (h ∷ [])) (sym (spans h ∙ write_elsewhere c h _ other ∙ write_here h _)) here)
+          (subst (λ s. IsChain (after_at new) s c (c ∷ two.0)) (sym (spans c ∙ write_here c _)) there)
           (λ k. omega (arith, times-append k (h ∷ []) (c ∷ two.0), ap (times k) two.1, ap (λ m. times k (items_of m)) divided_none))

@@ -1,9 +1,8 @@
 -- Chains freed, whole and behind a node.
-use Rattle.std.proofs.Common.{◌≡◌, ◌≢◌, ℕ, suc, ◌+◌, ◌<◌, ◌≤◌, true, false, ◌==◌, List, [], ◌∷◌, ◌++◌, length, reverse, get_or, set, take, drop, Option, Some, None, IsSome, if◌then◌else◌, refl, sym, ap, ◌∙◌, subst, arith, length-append, length-set, drop-cons, get_or-set_same, get_or-set_other, ◌-◌}
+use Rattle.std.proofs.Common.{◌≡◌, ◌≢◌, ℕ, suc, ◌+◌, ◌<◌, ◌≤◌, true, false, ◌==◌, List, [], ◌∷◌, ◌++◌, length, reverse, get_or, set, take, drop, Option, Some, None, IsSome, if◌then◌else◌, refl, sym, ap, ◌∙◌, subst, arith, length-append, length-set, drop-cons, get_or-set_same, get_or-set_other}
 use Rattle.std.proofs.lemmas.Bool.{false≢true, false_from_ne_true}
 use Rattle.std.proofs.lemmas.Bool.Decides.{nat_tests}
 use Rattle.std.proofs.lemmas.List.{drop_all, reverse-append, take_all, take_more, length-drop, length-take-le}
-use Rattle.std.specs.Prelude.{is_none}
 use Rattle.strm_links.specs.Rows.{has, IsApart, first_or, last, first}
 use Rattle.strm_links.specs.Layout.{LeadsOn}
 use Rattle.strm_links.specs.Chains.{chain_in}
@@ -15,7 +14,7 @@ use Rattle.strm_links.specs.Counting.{times}
 use Rattle.strm_links.proofs.lists.ListLinks.{LeadsOn-kept, absent_take, link_at, LeadsOn-parts, walk_is, last_without, onward-end}
 use Rattle.strm_links.proofs.lists.Counting.{has_times, times-reverse, times_has, split_behind, times-append}
 use Rattle.strm_links.proofs.lists.OneList.{first_or-append, absent_both, absent_parts, first_alone, ApartParts, IsApart-parts, differ, has_left, has_right, has_tail}
-use Rattle.strm_links.proofs.chains.StoredChains.{IsChained-out, chain_laid, write_elsewhere, write_here, freed_few, head_in, apart_from, chain_apart, chain_low}
+use Rattle.strm_links.proofs.chains.StoredChains.{span_without, IsChained-out, chain_laid, write_elsewhere, write_here, freed_few, head_in, apart_from, chain_apart, chain_low}
 
 -- ---- all nodes of a chain become free, the last one first
 
@@ -33,8 +32,8 @@ module _ {nodes : List Link} {first_free : Option ℕ} {free_len : ℕ} {v : ByH
     pub IsChained-freed : (first_free' : Option ℕ) (free_len' : ℕ) → first_free' ≡ first_or first_free (reverse (chain_at v h)) → free_len' ≡ free_len + (span_at nodes h).len
         → IsChained new first_free' free_len' (record v { free = reverse (chain_at v h) ++ v.free; chains = set v.chains h None })
     IsChained-freed first_free' free_len' begins counts =
-        let none : (span_at new h).len ≡ 0 = ap (λ (s : Span). s.len) (spans h ∙ write_here h _ _) in
-        IsChained-out laid h new long links (chain_at v h) None first_free' free_len' some_h reversed (λ g other. spans g ∙ write_elsewhere h g _ _ other) none (λ k. omega arith)
+        let none : (span_at new h).len ≡ 0 = ap (λ (s : Span). s.len) (spans h ∙ write_here h _) in
+        IsChained-out laid h new long links (chain_at v h) None first_free' free_len' some_h reversed (λ g other. spans g ∙ write_elsewhere h g _ other) none (λ k. omega arith)
         begins (omega (arith, counts, was.len))
 
 -- ---- the walk that reverses the links
@@ -129,7 +128,7 @@ pub front_some : (xs : List ℕ) → 0 < length xs → IsSome (first xs)
 front_some [] some = absurd (omega (arith, some))
 front_some (x ∷ xs) some = refl
 
-module _ (nodes : List Link) (first_free : Option ℕ) (free_len : ℕ) (v : ByHead) (laid : IsChained nodes first_free free_len v) (h : ℕ) (some_h : IsSome (chain_in v.chains h)) where
+module _ {nodes : List Link} {first_free : Option ℕ} {free_len : ℕ} {v : ByHead} (laid : IsChained nodes first_free free_len v) (h : ℕ) (some_h : IsSome (chain_in v.chains h)) where
   -- ---- `out` follow the head h
 
   module _ (out post : List ℕ) (split : chain_at v h ≡ h ∷ (out ++ post)) where
@@ -167,13 +166,13 @@ module _ (nodes : List Link) (first_free : Option ℕ) (free_len : ℕ) (v : ByH
     module _ (new : List Link) (long : length new ≡ length nodes) (reversed : LeadsOn (after_at new) (reverse out) first_free) (now : after_at new h ≡ first post)
         (links : (k : ℕ) → k ≢ h → has k out ≡ false → after_at new k ≡ after_at nodes k)
         (spans : (k : ℕ) → span_at new k
-        ≡ (if h == k then record { last = (if is_none (first post) then h else (span_at nodes h).last); len = (span_at nodes h).len - length out } else span_at nodes k)) where
+        ≡ (if h == k then span_without (span_at nodes h) (length out) h (first post) else span_at nodes k)) where
       links_off : (k : ℕ) → has k (chain_at v h) ≡ false → after_at new k ≡ after_at nodes k
       links_off k absent =
           links k (apart_from k h (chain_at v h) (head_in laid h some_h) absent)
           (false_from_ne_true _ (λ there. false≢true (sym absent ∙ in_chain k there)))
 
-      here : IsChain (after_at new) (record { last = (if is_none (first post) then h else (span_at nodes h).last); len = (span_at nodes h).len - length out }) h (h ∷ post)
+      here : IsChain (after_at new) (span_without (span_at nodes h) (length out) h (first post)) h (h ∷ post)
       here = record {
         head = refl;
         last = last_without (h ∷ []) out post h (span_at nodes h).last refl chained.last;
@@ -188,8 +187,8 @@ module _ (nodes : List Link) (first_free : Option ℕ) (free_len : ℕ) (v : ByH
 
       IsChained-parted : (free_len' : ℕ) → free_len' ≡ free_len + length out → IsChained new (first_or first_free (reverse out)) free_len' (record { free = reverse out ++ v.free; chains = set v.chains h (Some (h ∷ post)) })
       IsChained-parted free_len' counts =
-          let chain_from = subst (λ s. IsChain (after_at new) s h (h ∷ post)) (sym (spans h ∙ write_here h _ _)) here in
-          IsChained-out laid h new long links_off out (Some (h ∷ post)) _ free_len' some_h reversed (λ g other. spans g ∙ write_elsewhere h g _ _ other) chain_from
+          let chain_from = subst (λ s. IsChain (after_at new) s h (h ∷ post)) (sym (spans h ∙ write_here h _)) here in
+          IsChained-out laid h new long links_off out (Some (h ∷ post)) _ free_len' some_h reversed (λ g other. spans g ∙ write_elsewhere h g _ other) chain_from
           (λ k. omega (arith, ap (times k) split, times-append k (h ∷ []) (out ++ post), times-append k (h ∷ []) post, times-append k out post)) refl counts
 
   -- ---- the `count` nodes after the head
@@ -248,11 +247,11 @@ module _ (nodes : List Link) (first_free : Option ℕ) (free_len : ℕ) (v : ByH
 
     pub IsChained-behind_freed : (new : List Link) → length new ≡ length nodes → LeadsOn (after_at new) (reverse out_of) first_free → after_at new h ≡ first rest_of
         → ((k : ℕ) → k ≢ h → has k out_of ≡ false → after_at new k ≡ after_at nodes k)
-        → ((k : ℕ) → span_at new k ≡ (if h == k then record { last = (if is_none (first rest_of) then h else (span_at nodes h).last); len = (span_at nodes h).len - count } else span_at nodes k))
+        → ((k : ℕ) → span_at new k ≡ (if h == k then span_without (span_at nodes h) count h (first rest_of) else span_at nodes k))
         → IsChained new (first_or first_free (reverse out_of)) (free_len + count) (behind_freed h count (chain_at v h) v)
     IsChained-behind_freed new long reversed now links spans =
         let only : (h ∷ []) ++ rest_of ≡ take 1 (chain_at v h) ++ rest_of = ap (λ xs. xs ++ rest_of) (sym (first_alone h (chain_at v h) begins)) in
         subst (λ xs. IsChained new (first_or first_free (reverse out_of)) (free_len + count) (record { free = reverse out_of ++ v.free; chains = set v.chains h (Some xs) })) only
         (IsChained-parted out_of rest_of split new long reversed now links
-        (λ k. spans k ∙ ap (λ n. if h == k then record { last = (if is_none (first rest_of) then h else (span_at nodes h).last); len = (span_at nodes h).len - n } else span_at nodes k) (sym behind_count))
+        (λ k. spans k ∙ ap (λ n. if h == k then span_without (span_at nodes h) n h (first rest_of) else span_at nodes k) (sym behind_count))
         (free_len + count) (omega (arith, behind_count)))

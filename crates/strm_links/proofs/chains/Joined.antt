@@ -32,7 +32,7 @@ module _ {nodes : List Link} {first_free : Option ℕ} {free_len : ℕ} {v : ByH
   module _ (new : List Link) (long : length new ≡ length nodes) (nexts : (k : ℕ) → after_at new k ≡ (if (span_at nodes h).last == k then Some g else after_at nodes k))
       (spans : (k : ℕ) → span_at new k ≡ (if h == k then record { last = (span_at nodes g).last; len = (span_at nodes h).len + (span_at nodes g).len } else (if g == k then no_span else span_at nodes k))) where
     links : (k : ℕ) → has k (chain_at v h) ≡ false → after_at new k ≡ after_at nodes k
-    links k absent = nexts k ∙ write_elsewhere _ k _ _ (apart_from k _ (chain_at v h) (last_in laid h some_h) absent)
+    links k absent = nexts k ∙ write_elsewhere _ k _ (apart_from k _ (chain_at v h) (last_in laid h some_h) absent)
 
     leads : LeadsOn (after_at new) both None
     unfolding both
@@ -40,7 +40,7 @@ module _ {nodes : List Link} {first_free : Option ℕ} {free_len : ℕ} {v : ByH
         let t = (span_at nodes h).last in
         LeadsOn-append (after_at new) (chain_at v h) (chain_at v g) None
         (subst (LeadsOn (after_at new) (chain_at v h)) (sym laid_g.head)
-        (LeadsOn-end (after_at nodes) (after_at new) (chain_at v h) None (Some g) t laid_h.last (chain_apart v laid.once h) laid_h.leads (nexts t ∙ write_here t _ _) (λ k there off. nexts k ∙ write_elsewhere t k _ _ off)))
+        (LeadsOn-end (after_at nodes) (after_at new) (chain_at v h) None (Some g) t laid_h.last (chain_apart v laid.once h) laid_h.leads (nexts t ∙ write_here t _) (λ k there off. nexts k ∙ write_elsewhere t k _ off)))
         (LeadsOn-kept (after_at nodes) (after_at new) (chain_at v g) None (λ k there. links k (not_in_other v laid.once g h k (λ same. other (sym same)) there)) laid_g.leads)
 
     here : IsChain (after_at new) span h both
@@ -56,8 +56,8 @@ module _ {nodes : List Link} {first_free : Option ℕ} {free_len : ℕ} {v : ByH
     unfolding both span
     IsChained-joined =
         let away : g ≢ h = λ same. other (sym same) in
-        let none : (span_at new g).len ≡ 0 = ap (λ (s : Span). s.len) (spans g ∙ write_elsewhere h g _ _ away ∙ write_here g _ _) in
+        let none : (span_at new g).len ≡ 0 = ap (λ (s : Span). s.len) (spans g ∙ write_elsewhere h g _ away ∙ write_here g _) in
         IsChained-two laid h new long links g h None (Some both) away (head_low laid g some_g) (head_low laid h some_h)
-        (λ k off_g off_h. (off_h, spans k ∙ write_elsewhere h k _ _ off_h ∙ write_elsewhere g k _ _ off_g)) none
-        (subst (λ s. IsChain (after_at new) s h both) (sym (spans h ∙ write_here h _ _)) here)
+        (λ k off_g off_h. (off_h, spans k ∙ write_elsewhere h k _ off_h ∙ write_elsewhere g k _ off_g)) none
+        (subst (λ s. IsChain (after_at new) s h both) (sym (spans h ∙ write_here h _)) here)
         (λ k. omega (arith, times-append k (chain_at v h) (chain_at v g)))

@@ -1,10 +1,10 @@
 -- How `Chained` stores free nodes and chains, what it stores says of them, and what a change has to keep.
-use Rattle.std.proofs.Common.{set, reverse, length-append, ◌≡◌, ◌≢◌, ◌⊎◌, ℕ, ◌+◌, ◌<◌, ◌≤◌, true, false, List, ◌++◌, length, if◌then◌else◌, sym, ◌∙◌, inl, inr, arith, [], ◌∷◌, map, get_or, Option, Some, None, IsSome, refl, ap, subst, ◌==◌}
-use Rattle.std.specs.Prelude.{nat_lt, slice_get}
+use Rattle.std.proofs.Common.{set, reverse, length-append, ◌≡◌, ◌≢◌, ◌⊎◌, ℕ, ◌+◌, ◌-◌, ◌<◌, ◌≤◌, true, false, List, ◌++◌, length, if◌then◌else◌, sym, ◌∙◌, inl, inr, arith, [], ◌∷◌, map, Option, Some, None, IsSome, refl, ap, subst, ◌==◌}
+use Rattle.std.specs.Prelude.{is_none, nat_lt, slice_get}
 use Rattle.std.specs.List.{range_with_len}
 use Rattle.std.proofs.lemmas.Bool.{cases_lt, cond-true, cond-false, lt-ltb, le-ltb, false_from_ne_true, eq-eqb, ne_eqb, false≢true, cases_eq}
 use Rattle.std.proofs.lemmas.Bool.Decides.{nat_tests}
-use Rattle.std.proofs.lemmas.List.{length-reverse, get_or_past, get_or_read}
+use Rattle.std.proofs.lemmas.List.{length-reverse, get_or_past}
 use Rattle.std.proofs.lemmas.List.FromFn.{fill_by_all}
 use Rattle.std.proofs.lemmas.Option.{none-some}
 use Rattle.strm_links.specs.Rows.{first_or, has, IsApart, first, after}
@@ -12,7 +12,7 @@ use Rattle.strm_links.specs.Counting.{times}
 use Rattle.strm_links.specs.Chains.{items_in, chain_in, items_of}
 use Rattle.strm_links.specs.ChainLayout.{ByHead, all_in, chain_at}
 use Rattle.strm_links.specs.Layout.{walk, LeadsOn}
-use Rattle.strm_links.specs.ChainLayout.{IsHeadOf, IsChained, IsChain, after_at, no_link, linked_at, path, span_at, chain_from, by_head}
+use Rattle.strm_links.specs.ChainLayout.{IsHeadOf, IsChained, IsChain, after_at, no_link, path, span_at, chain_from, by_head}
 use Rattle.strm_links.specs.declared.chained.Link.{Link}
 use Rattle.strm_links.specs.declared.chained.Span.{Span}
 use Rattle.strm_links.proofs.lists.Counting.{times-reverse, apart_once, has_times, times-append, times_has, Changes-one, Changes-two, times-set, times-set_two, some_chain, times_one, times_two, Changes}
@@ -125,7 +125,7 @@ by_head_is {nodes} {first_free} {free_len} {v} laid =
 
 -- the stored invariant holds at the value that a contract sees
 pub IsChained-stored : {nodes : List Link} {first_free : Option ℕ} {free_len : ℕ} {v : ByHead} → IsChained nodes first_free free_len v → IsChained nodes first_free free_len (by_head nodes first_free free_len)
-IsChained-stored {nodes} {first_free} {free_len} {v} laid = subst (IsChained nodes first_free free_len) (sym (by_head_is laid)) laid
+IsChained-stored {nodes} {first_free} {free_len} laid = subst (IsChained nodes first_free free_len) (sym (by_head_is laid)) laid
 
 -- ---- what the stored nodes say
 
@@ -294,14 +294,18 @@ module _ {nodes : List Link} {first_free : Option ℕ} {free_len : ℕ} {v : ByH
         same = λ k. omega (arith, same k, times-set_two k a b m o v.chains other low_a low_b);
       }) free_len laid laid.free_front laid.free_count
 
+-- what a head stores once `count` nodes after `ahead` have left its chain, and `next` follows
+abbrev pub span_without : Span → ℕ → ℕ → Option ℕ → Span
+span_without s count ahead next = record { last = (if is_none next then ahead else s.last); len = s.len - count }
+
 -- ---- one write
 
 -- a value where the write is, and elsewhere
-pub write_here : {X : Type 0} (at : ℕ) (x y : X) → (if at == at then x else y) ≡ x
-write_here at x y = cond-true _ _ _ (eq-eqb at at refl)
+pub write_here : {X : Type 0} (at : ℕ) {x : X} (y : X) → (if at == at then x else y) ≡ x
+write_here at y = cond-true _ _ _ (eq-eqb at at refl)
 
-pub write_elsewhere : {X : Type 0} (at k : ℕ) (x y : X) → k ≢ at → (if at == k then x else y) ≡ y
-write_elsewhere at k x y other = cond-false _ _ _ (ne_eqb at k (λ same. other (sym same)))
+pub write_elsewhere : {X : Type 0} (at k : ℕ) (x : X) {y : X} → k ≢ at → (if at == k then x else y) ≡ y
+write_elsewhere at k x other = cond-false _ _ _ (ne_eqb at k (λ same. other (sym same)))
 
 -- a number that is not in a list differs from one that is
 pub apart_from : (k at : ℕ) (xs : List ℕ) → has at xs ≡ true → has k xs ≡ false → k ≢ at

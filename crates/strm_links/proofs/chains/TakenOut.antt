@@ -13,7 +13,7 @@ use Rattle.strm_links.specs.declared.chained.Link.{Link}
 use Rattle.strm_links.proofs.lists.ListLinks.{LeadsOn-kept, LeadsOn-parts, first-take, first_front, has_first, has_last, last-take, last_without, link_at, onward-at, LeadsOn-append, LeadsOn-end}
 use Rattle.strm_links.proofs.lists.Counting.{times-append}
 use Rattle.strm_links.proofs.lists.OneList.{ApartParts, IsApart-parts, differ, has_head, has_left, has_right, has_tail}
-use Rattle.strm_links.proofs.chains.StoredChains.{IsChained-two, behind_begins_none, head_low, chain_laid, apart_from, write_elsewhere, write_here, chain_apart, chain_low}
+use Rattle.strm_links.proofs.chains.StoredChains.{span_without, IsChained-two, behind_begins_none, head_low, chain_laid, apart_from, write_elsewhere, write_here, chain_apart, chain_low}
 
 module _ {nodes : List Link} {first_free : Option ℕ} {free_len : ℕ} {v : ByHead} (laid : IsChained nodes first_free free_len v) (h : ℕ) (some_h : IsSome (chain_in v.chains h)) where
   was : IsChain (after_at nodes) (span_at nodes h) h (chain_at v h)
@@ -51,23 +51,23 @@ module _ {nodes : List Link} {first_free : Option ℕ} {free_len : ℕ} {v : ByH
     n_off_h = pre_off h n (has_first pre h begins) (has_head n n post refl)
 
     -- the last node of the chain without n
-    last_left : last (pre ++ post) ≡ Some (if is_none (after_at nodes n) then t else (span_at nodes h).last)
+    last_left : last (pre ++ post) ≡ Some (span_without (span_at nodes h) 1 t (after_at nodes n)).last
     last_left =
         last_without pre (n ∷ []) post t (span_at nodes h).last ends (ap last (sym split) ∙ was.last)
         ∙ ap (λ o. Some (if is_none o then t else (span_at nodes h).last)) (sym leads.1.0)
 
     module _ (new : List Link) (long : length new ≡ length nodes) (nexts : (k : ℕ) → after_at new k ≡ (if n == k then None else (if t == k then after_at nodes n else after_at nodes k)))
         (spans : (k : ℕ) → span_at new k
-        ≡ (if h == k then record { last = (if is_none (after_at nodes n) then t else (span_at nodes h).last); len = (span_at nodes h).len - 1 } else (if n == k then record { last = n; len = 1 } else span_at nodes k))) where
+        ≡ (if h == k then span_without (span_at nodes h) 1 t (after_at nodes n) else (if n == k then record { last = n; len = 1 } else span_at nodes k))) where
       links : (k : ℕ) → k ≢ n → k ≢ t → after_at new k ≡ after_at nodes k
-      links k off_n off_t = nexts k ∙ write_elsewhere n k _ _ off_n ∙ write_elsewhere t k _ _ off_t
+      links k off_n off_t = nexts k ∙ write_elsewhere n k _ off_n ∙ write_elsewhere t k _ off_t
 
       links_off : (k : ℕ) → has k (chain_at v h) ≡ false → after_at new k ≡ after_at nodes k
       links_off k absent = links k (apart_from k n (chain_at v h) n_in absent) (apart_from k t (chain_at v h) t_in absent)
 
       others_lead : LeadsOn (after_at new) (pre ++ post) None
       others_lead =
-          let t_next : after_at new t ≡ first post = nexts t ∙ write_elsewhere n t _ _ (pre_off t n (has_last pre t ends) (has_head n n post refl)) ∙ write_here t _ _ ∙ leads.1.0 in
+          let t_next : after_at new t ≡ first post = nexts t ∙ write_elsewhere n t _ (pre_off t n (has_last pre t ends) (has_head n n post refl)) ∙ write_here t _ ∙ leads.1.0 in
           LeadsOn-append (after_at new) pre post None
           (LeadsOn-end (after_at nodes) (after_at new) pre (Some n) (first post) t ends parts.left leads.0 t_next
           (λ k there off. links k (pre_off k n there (has_head n n post refl)) off))
@@ -75,7 +75,7 @@ module _ {nodes : List Link} {first_free : Option ℕ} {free_len : ℕ} {v : ByH
           (λ k there. links k (λ same. differ n k post parts.right.0 there (sym same)) (λ same. pre_off t k (has_last pre t ends) (has_tail n k post there) (sym same)))
           leads.1.1)
 
-      here : IsChain (after_at new) (record { last = (if is_none (after_at nodes n) then t else (span_at nodes h).last); len = (span_at nodes h).len - 1 }) h (pre ++ post)
+      here : IsChain (after_at new) (span_without (span_at nodes h) 1 t (after_at nodes n)) h (pre ++ post)
       here = record {
         head = first_front h pre post begins;
         last = last_left;
@@ -84,22 +84,25 @@ module _ {nodes : List Link} {first_free : Option ℕ} {free_len : ℕ} {v : ByH
       }
 
       there : IsChain (after_at new) (record { last = n; len = 1 }) n (n ∷ [])
-      there = record { head = refl; last = refl; len = refl; leads = (nexts n ∙ write_here n _ _, tt) }
+      there = record { head = refl; last = refl; len = refl; leads = (nexts n ∙ write_here n _, tt) }
 
       pub IsChained-apart : IsChained new first_free free_len (record v { chains = set (set v.chains h (Some (pre ++ post))) n (Some (n ∷ [])) })
       IsChained-apart =
           let n_none = behind_begins_none laid n h (λ same. n_off_h (sym same)) n_in in
           IsChained-two laid h new long links_off h n (Some (pre ++ post)) (Some (n ∷ [])) n_off_h (head_low laid h some_h) (chain_low v laid.once h n n_in)
-          (λ g off_h off_n. (off_h, spans g ∙ write_elsewhere h g _ _ off_h ∙ write_elsewhere n g _ _ off_n))
-          (subst (λ s. IsChain (after_at new) s h (pre ++ post)) (sym (spans h ∙ write_here h _ _)) here)
-          (subst (λ s. IsChain (after_at new) s n (n ∷ [])) (sym (spans n ∙ write_elsewhere h n _ _ (λ same. n_off_h (sym same)) ∙ write_here n _ _)) there)
+          (λ g off_h off_n. (off_h, spans g ∙ write_elsewhere h g _ off_h ∙ write_elsewhere n g _ off_n))
+          (subst (λ s. IsChain (after_at new) s h (pre ++ post)) (sym (spans h ∙ write_here h _)) here)
+          (subst (λ s. IsChain (after_at new) s n (n ∷ [])) (sym (spans n ∙ write_elsewhere h n _ (λ same. n_off_h (sym same)) ∙ write_here n _)) there)
           (λ k. omega (arith, ap (times k) split, times-append k pre (n ∷ post), times-append k (n ∷ []) post, times-append k pre post, ap (λ m. times k (items_of m)) n_none))
 
   -- ---- the node at a place
 
-  module _ (place before : ℕ) (is : place ≡ suc before) (within : place < (span_at nodes h).len) where
-    inside : place < length (chain_at v h)
-    inside = omega (arith, within, was.len)
+  module _ (place : ℕ) (behind : 0 < place) (inside : place < length (chain_at v h)) where
+    abbrev before : ℕ
+    before = place - 1
+
+    is : place ≡ suc before
+    is = omega (arith, behind)
 
     -- the node at the place, and the one before it
     pub place_at : slice_get (chain_at v h) place ≡ Some (get_or (chain_at v h) place 0)
@@ -139,17 +142,9 @@ module _ {nodes : List Link} {first_free : Option ℕ} {free_len : ℕ} {v : ByH
       ends : last (take place (chain_at v h)) ≡ Some t
       ends = ap (λ j. last (take j (chain_at v h))) is ∙ last-take (chain_at v h) before (omega (arith, is, inside)) ∙ sym (t_is walked)
 
-      pub place_low : (t < length v.chains) × (n < length v.chains)
-      place_low =
-          let pre = take place (chain_at v h) in
-          let post = drop (place + 1) (chain_at v h) in (
-            chain_low v laid.once h t (t_in pre post n split begins ends),
-            chain_low v laid.once h n (n_in pre post n split begins ends),
-          )
-
       pub IsChained-taken_out : (new : List Link) → length new ≡ length nodes → ((k : ℕ) → after_at new k ≡ (if n == k then None else (if t == k then after_at nodes n else after_at nodes k)))
           → ((k : ℕ) → span_at new k
-          ≡ (if h == k then record { last = (if is_none (after_at nodes n) then t else (span_at nodes h).last); len = (span_at nodes h).len - 1 } else (if n == k then record { last = n; len = 1 } else span_at nodes k)))
+          ≡ (if h == k then span_without (span_at nodes h) 1 t (after_at nodes n) else (if n == k then record { last = n; len = 1 } else span_at nodes k)))
           → IsChained new first_free free_len (record v { chains = set (set v.chains h (Some (take place (chain_at v h) ++ drop (place + 1) (chain_at v h)))) n (Some (n ∷ [])) })
       IsChained-taken_out new long nexts spans = IsChained-apart (take place (chain_at v h)) (drop (place + 1) (chain_at v h)) n split begins ends new long nexts spans
 

@@ -1,5 +1,5 @@
 -- A table of chains and shelves as a contract sees it, and how it stays whole.
-use Rattle.std.proofs.Common.{◌≡◌, ◌≢◌, ℕ, suc, ◌<◌, ◌≤◌, Bool, true, false, ◌&&◌, ◌==◌, List, [], ◌∷◌, ◌++◌, map, length, get_or, set, take, drop, Option, Some, None, IsSome, IfSome, is_some, refl, sym, ap, ◌∙◌, subst, inl, inr, arith, get_or-set_same, get_or-set_other, length-set, zero, Vec, Global, if◌then◌else◌}
+use Rattle.std.proofs.Common.{◌≡◌, ◌≢◌, ℕ, suc, ◌<◌, ◌≤◌, true, ◌&&◌, ◌==◌, List, [], ◌∷◌, ◌++◌, map, length, get_or, set, take, drop, Option, Some, None, IsSome, IfSome, is_some, refl, sym, ap, ◌∙◌, subst, inl, inr, arith, get_or-set_same, get_or-set_other, length-set, zero, Vec, Global, if◌then◌else◌}
 use Rattle.std.specs.Prelude.{nat_lt, not, slice_get, unwrap_or}
 use Rattle.std.specs.List.{All, flat_map}
 use Rattle.std.specs.Option.{option_map_or}
@@ -38,6 +38,11 @@ module _ {T : Type 0} (old new : List (Node Link T)) (rest : unlinked new ≡ un
 
   pub loads_rest : loads_of new ≡ loads_of old
   loads_rest = sym (map-map (λ (p : Place × T). p.1) (λ (n : Node Link T). (n.place, n.load)) new) ∙ ap (map (λ (p : Place × T). p.1)) rest ∙ map-map (λ (p : Place × T). p.1) (λ (n : Node Link T). (n.place, n.load)) old
+
+-- a table is whole, and a contract sees these lists
+pub record Shows {T : Type 0} (t : Table Link T) (front : Option ℕ) (free least : ℕ) (seen : ChainLists) : Type 0 where
+  pub whole : IsWhole t front free least
+  pub lists : lists_in t front free least ≡ seen
 
 -- the first node of a chain
 first_node : (xs : List ℕ) {x : ℕ} → first xs ≡ Some x → head_node xs ≡ x
@@ -163,7 +168,7 @@ module _ {T : Type 0} {t : Table Link T} {front : Option ℕ} {free least : ℕ}
     held_low h some = low_room h (head_low whole.chained h (there h some))
 
     pub held_read : (h : ℕ) → IsSome (chain_in v.lists.held h) → {x : Node Link T} → x ≡ get_or t.nodes.items h x → x.link ≡ linked_at (links_of t.nodes.items) h
-    held_read h some {x} read = link_read t.nodes.items h (held_low h some) read
+    held_read h some read = link_read t.nodes.items h (held_low h some) read
 
     -- a node that begins no chain is on no shelf
     pub none_off : (h : ℕ) → chain_in chains.chains h ≡ None → holder h rows ≡ None
@@ -273,13 +278,14 @@ module _ {T : Type 0} {t : Table Link T} {front : Option ℕ} {free least : ℕ}
       loads_kept = loads_rest t.nodes.items nodes.items rest ∙ ap (λ (u : LoadedChains T). u.loads) view
 
       -- at two of them
-      pub IsWhole-two : (a b : ℕ) (m o : Option (List ℕ)) (fs : List ℕ) (front' : Option ℕ) (free' least' : ℕ) → holder a rows ≡ None → holder b rows ≡ None
+      pub IsWhole-two : (a b : ℕ) (m o : Option (List ℕ)) {fs : List ℕ} {front' : Option ℕ} {free' least' : ℕ} → holder a rows ≡ None → holder b rows ≡ None
           → IsChained (links_of nodes.items) front' free' (record { free = fs; chains = set (set chains.chains a m) b o }) → least' ≤ free'
-          → IsWhole new front' free' least' × (lists_in new front' free' least' ≡ record v.lists { free = fs; held = set (set v.lists.held a m) b o; least = least' })
-      IsWhole-two a b m o fs front' free' least' off_a off_b laid few =
+          → Shows new front' free' least' (record v.lists { free = fs; held = set (set v.lists.held a m) b o; least = least' })
+      IsWhole-two a b m o {fs} {least'} off_a off_b laid few =
           let now = by_head_is laid in
-          let one : ByHead = record { free = fs; chains = set chains.chains a m } in (
-            record {
+          let one : ByHead = record { free = fs; chains = set chains.chains a m } in
+          record {
+            whole = record {
               sound = subst (λ ps. IsSound ps t.ends.items (rows_of ps t.ends.items)) (sym (places_rest t.nodes.items nodes.items rest)) whole.sound;
               chained = IsChained-stored laid;
               begun = λ g on.
@@ -287,26 +293,26 @@ module _ {T : Type 0} {t : Table Link T} {front : Option ℕ} {free least : ℕ}
                   subst (λ (u : ByHead). IsSome (chain_in u.chains g)) (sym now)
                   (subst IsSome (sym (get_or-set_other (set chains.chains a m) b g o None (differs g b was off_b) ∙ get_or-set_other chains.chains a g m None (differs g a was off_a))) (whole.begun g was));
               fewest = few;
-            },
-            (λ i. lists_of (now i) (rows_same i) least')
+            };
+            lists = (λ i. lists_of (now i) (rows_same i) least')
                 ∙ (λ i. record {
                   free = fs;
                   held = (held-set one rows b o off_b ∙ ap (λ xs. set xs b o) (held-set chains rows a m off_a)) i;
                   shelves = (shelves-set one rows b o off_b fs ∙ shelves-set chains rows a m off_a fs) i;
                   least = least';
                 })
-                ∙ ap (λ (u : ChainLists). record u { free = fs; held = set (set u.held a m) b o; least = least' }) lists_are,
-          )
+                ∙ ap (λ (u : ChainLists). record u { free = fs; held = set (set u.held a m) b o; least = least' }) lists_are;
+          }
         where
           differs : (g h : ℕ) → IsSome (holder g rows) → holder h rows ≡ None → g ≢ h
           differs g h on none same = false≢true (sym (ap (λ k. is_some (holder k rows)) same ∙ ap is_some none) ∙ on)
 
       -- at one
-      pub IsWhole-one : (h : ℕ) (o : Option (List ℕ)) (fs : List ℕ) {front' : Option ℕ} {free' : ℕ} (least' : ℕ) → holder h rows ≡ None → IsChained (links_of nodes.items) front' free' (record { free = fs; chains = set chains.chains h o }) → least' ≤ free'
-          → IsWhole new front' free' least' × (lists_in new front' free' least' ≡ record v.lists { free = fs; held = set v.lists.held h o; least = least' })
-      IsWhole-one h o fs {front'} {free'} least' off_h laid few =
-          let both = IsWhole-two h h o o fs front' free' least' off_h off_h (subst (λ xs. IsChained (links_of nodes.items) front' free' (record { free = fs; chains = xs })) (sym (set-set chains.chains h o o)) laid) few in
-          (both.0, both.1 ∙ (λ i. record v.lists { free = fs; held = set-set v.lists.held h o o i; least = least' }))
+      pub IsWhole-one : (h : ℕ) (o : Option (List ℕ)) {fs : List ℕ} {front' : Option ℕ} {free' least' : ℕ} → holder h rows ≡ None → IsChained (links_of nodes.items) front' free' (record { free = fs; chains = set chains.chains h o }) → least' ≤ free'
+          → Shows new front' free' least' (record v.lists { free = fs; held = set v.lists.held h o; least = least' })
+      IsWhole-one h o {fs} {front'} {free'} {least'} off_h laid few =
+          let both = IsWhole-two h h o o off_h off_h (subst (λ xs. IsChained (links_of nodes.items) front' free' (record { free = fs; chains = xs })) (sym (set-set chains.chains h o o)) laid) few in
+          record { whole = both.whole; lists = both.lists ∙ (λ i. record v.lists { free = fs; held = set-set v.lists.held h o o i; least = least' }) }
 
     -- ---- a chain comes on a shelf, or leaves it
 

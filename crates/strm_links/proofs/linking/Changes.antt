@@ -8,7 +8,7 @@ use Rattle.std.proofs.lemmas.Bool.{cases_eq, cases_Bool, cond-true, cond-false, 
 use Rattle.std.proofs.lemmas.Option.{none-some}
 use Rattle.strm_links.specs.declared.table.Place.{Place}
 use Rattle.strm_links.specs.Rows.{has, Rows, IsApart, is_some_of, first, last, list_at}
-use Rattle.strm_links.specs.Layout.{no_place, place_at, owner_at, previous_at, next_at, with_next, with_previous, walk, no_ends, ends_at, LeadsBack, IsLinked, IsSound}
+use Rattle.strm_links.specs.Layout.{no_place, place_at, owner_at, previous_at, next_at, with_next, with_previous, walk, no_ends, ends_at, LeadsBack, LeadsOn, IsLinked, IsSound}
 use Rattle.strm_links.specs.declared.table.Ends.{Ends}
 use Rattle.strm_links.proofs.lists.OneList.{has_head, has_tail, has_right, has-append, has-around, differ, absent_parts, absent_both, absent_around, ApartParts, IsApart-parts, IsApart-append, IsApart-insert, IsApart-remove, first_joined, first_off, last_joined, last_off, last_or-append, last_some, some_of}
 use Rattle.strm_links.proofs.lists.ListLinks.{LeadsOn-kept, LeadsBack-kept, LeadsOn-parts, LeadsBack-parts, LeadsBack-append, LeadsOn-join, LeadsBack-join}
@@ -92,7 +92,7 @@ pub record Rewires (mid new : List Place) (e e' : Ends) (ahead behind on back : 
 -- the same writes, named by equal values
 pub Rewires-same : {mid new : List Place} {e f e' : Ends} {ahead behind on back ahead' behind' on' back' : Option ℕ} → Rewires mid new e e' ahead behind on back
     → e ≡ f → ahead ≡ ahead' → behind ≡ behind' → on ≡ on' → back ≡ back' → Rewires mid new f e' ahead' behind' on' back'
-Rewires-same {mid} {new} {e} {f} {e'} rewires ends first last onto to =
+Rewires-same {mid} {new} {e'} rewires ends first last onto to =
     subst (λ (t : Ends × Option ℕ × Option ℕ × Option ℕ × Option ℕ). Rewires mid new t.0 e' t.1 t.2 t.3 t.4) (λ i. (ends i, first i, last i, onto i, to i)) rewires
 
 -- a write of one node changes only that node
@@ -166,12 +166,12 @@ abbrev Linked : List Place → Ends → ℕ → List ℕ → Type 0
 Linked nodes e l xs = IsLinked (owner_at nodes) (previous_at nodes) (next_at nodes) e l xs
 
 -- a list stays linked if its nodes keep their links and it neither gains nor loses a node
-Linked-kept : (nodes new : List Place) (e : Ends) (m : ℕ) (xs : List ℕ) → Linked nodes e m xs
+Linked-kept : (nodes new : List Place) {e : Ends} {m : ℕ} {xs : List ℕ} → Linked nodes e m xs
     → ((k : ℕ) → has k xs ≡ true → next_at new k ≡ next_at nodes k)
     → ((k : ℕ) → has k xs ≡ true → previous_at new k ≡ previous_at nodes k)
     → ((k : ℕ) → is_some_of m (owner_at new k) ≡ is_some_of m (owner_at nodes k))
     → Linked new e m xs
-Linked-kept nodes new e m xs was nexts previous owners = record {
+Linked-kept nodes new {xs} was nexts previous owners = record {
   len = was.len;
   front = was.front;
   back = was.back;
@@ -193,9 +193,17 @@ Linked-set new ends lists l m e ys in_ends in_lists here others =
           rw (get_or-set_other ends l m e no_ends away, get_or-set_other lists l m ys [] away) (others away)
     ]
 
+-- a list without the node that has changed leads on, and back, as before
+module _ {nodes mid : List Place} {n : ℕ} {x : Place} (puts : Puts nodes mid n x) (xs : List ℕ) (off : has n xs ≡ false) where
+  leads_on_as : (beyond : Option ℕ) → LeadsOn (next_at nodes) xs beyond → LeadsOn (next_at mid) xs beyond
+  leads_on_as beyond = LeadsOn-kept (next_at nodes) (next_at mid) xs beyond (λ k there. ap (λ (m : Place). m.next) (puts.others k (differ n k xs off there)))
+
+  leads_back_as : (ahead : Option ℕ) → LeadsBack (previous_at nodes) ahead xs → LeadsBack (previous_at mid) ahead xs
+  leads_back_as ahead = LeadsBack-kept (previous_at nodes) (previous_at mid) ahead xs (λ k there. ap (λ (m : Place). m.previous) (puts.others k (differ n k xs off there)))
+
 -- ---- a node joins a list
 
-module _ (nodes mid new : List Place) (n l : ℕ) (pre post : List ℕ) (e e' : Ends) where
+module _ {nodes mid new : List Place} {n l : ℕ} (pre post : List ℕ) {e e' : Ends} where
   -- a node between two parts that name it is in the list
   Linked-insert : Puts nodes mid n (record { list = Some l; previous = last pre; next = first post })
       → Rewires mid new e e' (last pre) (first post) (Some n) (Some n)
@@ -207,8 +215,6 @@ module _ (nodes mid new : List Place) (n l : ℕ) (pre post : List ℕ) (e e' : 
       let apart = IsApart-insert pre post n was.apart absent in
       let on = LeadsOn-parts (next_at nodes) pre post None was.leads_on in
       let back = LeadsBack-parts (previous_at nodes) None pre post was.leads_back in
-      let next : (k : ℕ) → n ≢ k → next_at mid k ≡ next_at nodes k = λ k other. ap (λ (m : Place). m.next) (puts.others k other) in
-      let previous : (k : ℕ) → n ≢ k → previous_at mid k ≡ previous_at nodes k = λ k other. ap (λ (m : Place). m.previous) (puts.others k other) in
       let joined : (pre ++ n ∷ []) ++ post ≡ pre ++ n ∷ post = append_assoc pre (n ∷ []) post in
       record {
         len = omega (arith, rewires.len, was.len, length-append pre post, length-append pre (n ∷ post));
@@ -219,16 +225,16 @@ module _ (nodes mid new : List Place) (n l : ℕ) (pre post : List ℕ) (e e' : 
             ∙ sym (last_joined post pre (pre ++ n ∷ []))
             ∙ ap last joined;
         leads_on = LeadsOn-join (next_at mid) (next_at new) pre (n ∷ post) (first post)
-            (LeadsOn-kept (next_at nodes) (next_at mid) pre (first post) (λ k there. next k (differ n k pre off.0 there)) on.0)
-            (ap (λ (m : Place). m.next) puts.here, LeadsOn-kept (next_at nodes) (next_at mid) post None (λ k there. next k (differ n k post off.1 there)) on.1)
+            (leads_on_as puts pre off.0 _ on.0)
+            (ap (λ (m : Place). m.next) puts.here, leads_on_as puts post off.1 _ on.1)
             (IsApart-parts pre (n ∷ post) apart)
             rewires.nexts;
         leads_back = subst (LeadsBack (previous_at new) None) joined
             (LeadsBack-join (previous_at mid) (previous_at new) None (last pre) (pre ++ n ∷ []) post
             (LeadsBack-append (previous_at mid) None pre (n ∷ [])
-            (LeadsBack-kept (previous_at nodes) (previous_at mid) None pre (λ k there. previous k (differ n k pre off.0 there)) back.0)
+            (leads_back_as puts pre off.0 _ back.0)
             (ap (λ (m : Place). m.previous) puts.here, tt))
-            (LeadsBack-kept (previous_at nodes) (previous_at mid) (last pre) post (λ k there. previous k (differ n k post off.1 there)) back.1)
+            (leads_back_as puts post off.1 _ back.1)
             (IsApart-parts (pre ++ n ∷ []) post (subst IsApart (sym joined) apart))
             (λ k. rewires.previous k ∙ ap (λ o. if is_some_of k (first post) then o else previous_at mid k) (sym (last_or-append None pre (n ∷ [])))));
         apart = apart;
@@ -247,8 +253,6 @@ module _ (nodes mid new : List Place) (n l : ℕ) (pre post : List ℕ) (e e' : 
       let apart = IsApart-remove pre post n was.apart in
       let on = LeadsOn-parts (next_at nodes) pre (n ∷ post) None was.leads_on in
       let back = LeadsBack-parts (previous_at nodes) None pre (n ∷ post) was.leads_back in
-      let next : (k : ℕ) → n ≢ k → next_at mid k ≡ next_at nodes k = λ k other. ap (λ (m : Place). m.next) (puts.others k other) in
-      let previous : (k : ℕ) → n ≢ k → previous_at mid k ≡ previous_at nodes k = λ k other. ap (λ (m : Place). m.previous) (puts.others k other) in
       record {
         len = omega (arith, rewires.len, was.len, length-append pre post, length-append pre (n ∷ post));
         front = rewires.front ∙ ap (λ o. if is_none (last pre) then first post else o) was.front ∙ sym (first_joined pre (n ∷ post) post);
@@ -256,13 +260,13 @@ module _ (nodes mid new : List Place) (n l : ℕ) (pre post : List ℕ) (e e' : 
             ∙ ap (λ o. if is_none (first post) then last pre else o) (was.back ∙ ap last (sym (append_assoc pre (n ∷ []) post)))
             ∙ sym (last_joined post (pre ++ n ∷ []) pre);
         leads_on = LeadsOn-join (next_at mid) (next_at new) pre post (Some n)
-            (LeadsOn-kept (next_at nodes) (next_at mid) pre (Some n) (λ k there. next k (differ n k pre off.0 there)) on.0)
-            (LeadsOn-kept (next_at nodes) (next_at mid) post None (λ k there. next k (differ n k post off.1 there)) on.1.1)
+            (leads_on_as puts pre off.0 _ on.0)
+            (leads_on_as puts post off.1 _ on.1.1)
             (IsApart-parts pre post apart)
             rewires.nexts;
         leads_back = LeadsBack-join (previous_at mid) (previous_at new) None (Some n) pre post
-            (LeadsBack-kept (previous_at nodes) (previous_at mid) None pre (λ k there. previous k (differ n k pre off.0 there)) back.0)
-            (LeadsBack-kept (previous_at nodes) (previous_at mid) (Some n) post (λ k there. previous k (differ n k post off.1 there)) back.1.1)
+            (leads_back_as puts pre off.0 _ back.0)
+            (leads_back_as puts post off.1 _ back.1.1)
             (IsApart-parts pre post apart)
             rewires.previous;
         apart = apart;
@@ -300,7 +304,7 @@ module _ {nodes mid new : List Place} {ends : List Ends} {rows : Rows} (l : ℕ)
         λ same. false≢true (sym (was m other) ∙ ap (λ j. is_some_of m (owner_at nodes j)) same ∙ owner),
         (sound.linked l within).owned k ∙ ap (is_some_of l) (some_of m (owner_at nodes k) owner) ∙ ne_eqb m l other,
       ) in
-      Linked-kept nodes new (ends_at ends m) m (list_at m rows) list
+      Linked-kept nodes new list
       (λ k there. let away = apart k there in new_next k (parts k away.1).0 ∙ ap (λ (x : Place). x.next) (puts.others k away.0))
       (λ k there. let away = apart k there in new_previous k (parts k away.1).1 ∙ ap (λ (x : Place). x.previous) (puts.others k away.0))
       (λ k. grind (arith, nat_tests, new_owner_here, is m other, was m other, new_owner k))
@@ -328,7 +332,7 @@ module _ {nodes mid new : List Place} {ends : List Ends} {rows : Rows} (l : ℕ)
         Linked-set new ends rows.lists l m e'' ys (omega (arith, low, sound.list_count)) low here (λ other. others_linked m low other);
   }
 
-module _ {nodes : List Place} (mid new : List Place) {ends : List Ends} {rows : Rows} (l n : ℕ) (pre post : List ℕ) (e' : Ends) (sound : IsSound nodes ends rows) (within : l < length rows.lists) (long : length new ≡ length nodes) where
+module _ {nodes mid new : List Place} {ends : List Ends} {rows : Rows} (l : ℕ) {n : ℕ} (pre post : List ℕ) {e' : Ends} (sound : IsSound nodes ends rows) (within : l < length rows.lists) (long : length new ≡ length nodes) where
   -- all is sound after a free node joins
   pub IsSound-insert : owner_at nodes n ≡ None → list_at l rows ≡ pre ++ post
       → Puts nodes mid n (record { list = Some l; previous = last pre; next = first post })
@@ -343,7 +347,7 @@ module _ {nodes : List Place} (mid new : List Place) {ends : List Ends} {rows : 
       (λ m other. ne_eqb l m (λ same. other (sym same)))
       (λ none. absurd (none-some l (sym none)))
       (pre ++ n ∷ post) (record e' { len = e'.len + 1 }) long
-      (Linked-insert nodes mid new n l pre post (ends_at ends l) e' puts rewires list free)
+      (Linked-insert pre post puts rewires list free)
 
   -- all is sound after a node leaves
   pub IsSound-remove : list_at l rows ≡ pre ++ n ∷ post → Puts nodes mid n no_place
@@ -359,7 +363,7 @@ module _ {nodes : List Place} (mid new : List Place) {ends : List Ends} {rows : 
       (λ m other. refl)
       (λ none. (refl, refl))
       (pre ++ post) (record e' { len = e'.len - 1 }) long
-      (Linked-remove nodes mid new n l pre post (ends_at ends l) e' puts rewires list)
+      (Linked-remove pre post puts rewires list)
 
 -- ---- a list joins another
 
@@ -428,7 +432,7 @@ module _ (nodes mid new : List Place) (ends : List Ends) {rows : Rows} {to : ℕ
       let off : (l : ℕ) → l < length rows.lists → m ≢ l → (k : ℕ) → has k (list_at m rows) ≡ true → has k (list_at l rows) ≡ false =
       λ l low differs k there.
       (sound.linked l low).owned k ∙ ap (is_some_of l) (some_of m (owner_at nodes k) (sym (list.owned k) ∙ there)) ∙ ne_eqb m l differs in
-      Linked-kept nodes new (ends_at ends m) m (list_at m rows) list
+      Linked-kept nodes new list
       (λ k there. far_next k (off to to_within not_to k there))
       (λ k there. far_previous k (off from from_within not_from k there))
       (λ k. grind (arith, nat_tests, not_to, not_from, moved_owner k, same_owner k, (sound.linked from from_within).owned k))

@@ -38,7 +38,7 @@ IsSound-rows {nodes} {ends} view sound = subst (IsSound nodes ends) view sound
 
 -- and the other way round
 pub IsSound-stored : {nodes : List Place} {ends : List Ends} {rows : Rows} → IsSound nodes ends rows → IsSound nodes ends (rows_of nodes ends)
-IsSound-stored {nodes} {ends} {rows} sound = subst (IsSound nodes ends) (sym (rows_of_is sound)) sound
+IsSound-stored {nodes} {ends} sound = subst (IsSound nodes ends) (sym (rows_of_is sound)) sound
 
 -- ---- what sound nodes and ends say
 

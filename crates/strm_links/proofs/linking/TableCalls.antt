@@ -104,7 +104,7 @@ module _ {nodes : List Place} {ends : List Ends} {rows : Rows} (sound : IsSound 
 
   -- it is a node of the arena
   pub joined_ahead_within : {k : ℕ} → option_map_or (λ j. previous_at nodes j) next (ends_at ends l).back ≡ Some k → k < length nodes
-  joined_ahead_within {k} is = last_within sound l within (pre_of next (list_at l rows)) (post_of next (list_at l rows)) (split_is (list_at l rows) next joined_has) (sym joined_ahead ∙ is)
+  joined_ahead_within is = last_within sound l within (pre_of next (list_at l rows)) (post_of next (list_at l rows)) (split_is (list_at l rows) next joined_has) (sym joined_ahead ∙ is)
 
   -- a list that lacks a node is shorter than the number of nodes
   pub joined_len : (ends_at ends l).len < rows.nodes
@@ -135,7 +135,7 @@ module _ {nodes : List Place} {ends : List Ends} {rows : Rows} (sound : IsSound 
       (Rewires-both mid e e1 e2 p next own own (λ k is. omega (arith, length-set nodes n x, joined_ahead_within (sym there ∙ is))) (λ at is. omega (arith, length-set nodes n x, joined_next_within is)) front back)
       e_is ahead on own_is own_is in
       rw (put_in-at (list_at l rows) next n joined_has)
-      (IsSound-insert mid _ l n pre post e2 sound within (length-written mid p next own own ∙ length-set nodes n x) owner_none (split_is (list_at l rows) next joined_has) puts written)
+      (IsSound-insert l pre post sound within (length-written mid p next own own ∙ length-set nodes n x) owner_none (split_is (list_at l rows) next joined_has) puts written)
 
   -- what the list has after the writes
   put_in_has : (k : ℕ) → has k (put_in next n (list_at l rows)) ≡ ((n == k) || has k (list_at l rows))
@@ -173,7 +173,7 @@ module _ (nodes : List Place) (ends : List Ends) (rows : Rows) (sound : IsSound 
 module _ {nodes : List Place} {ends : List Ends} {rows : Rows} (sound : IsSound nodes ends rows) where
   -- a node that a list holds is a node of the arena
   pub holder_within : (k : ℕ) {l : ℕ} → holder k rows ≡ Some l → k < rows.nodes
-  holder_within k {l} is = omega (arith, node_within nodes k (sym (holder-owner sound k) ∙ is), sound.node_count)
+  holder_within k is = omega (arith, node_within nodes k (sym (holder-owner sound k) ∙ is), sound.node_count)
 
   -- a node that is in the list of k is held as k is
   neighbour : (k j : ℕ) → owner_at nodes k ≢ None → ((l : ℕ) → owner_at nodes k ≡ Some l → has j (list_at l rows) ≡ true) → (holder j rows ≡ holder k rows) × (j < rows.nodes)
@@ -249,10 +249,10 @@ module _ {nodes : List Place} {ends : List Ends} {rows : Rows} (sound : IsSound 
   left_split = split_at n (list_at l rows) left_has
 
   pub left_previous : {k : ℕ} → previous_at nodes n ≡ Some k → k < length nodes
-  left_previous {k} at = last_within sound l left_list (upto n (list_at l rows)) (n ∷ beyond n (list_at l rows)) left_split (sym (previous-last sound l left_list n left_has) ∙ at)
+  left_previous at = last_within sound l left_list (upto n (list_at l rows)) (n ∷ beyond n (list_at l rows)) left_split (sym (previous-last sound l left_list n left_has) ∙ at)
 
   pub left_next : {k : ℕ} → next_at nodes n ≡ Some k → k < length nodes
-  left_next {k} at = first_within sound l left_list (upto n (list_at l rows) ++ n ∷ []) (beyond n (list_at l rows))
+  left_next at = first_within sound l left_list (upto n (list_at l rows) ++ n ∷ []) (beyond n (list_at l rows))
       (left_split ∙ sym (append_assoc (upto n (list_at l rows)) (n ∷ []) (beyond n (list_at l rows)))) (sym (next-first sound l left_list n left_has) ∙ at)
 
   pub left_len : 0 < (ends_at ends l).len
@@ -278,7 +278,7 @@ module _ {nodes : List Place} {ends : List Ends} {rows : Rows} (sound : IsSound 
       let lists : map (without n) rows.lists ≡ set rows.lists l (pre ++ post) =
       map-without rows (apart_all sound) n l is
       ∙ ap (set rows.lists l) (ap (without n) left_split ∙ without-at pre post n off.0 off.1) in
-      rw lists (IsSound-remove mid _ l n pre post e2 sound left_list (length-written mid x.previous x.next x.next x.previous ∙ length-set nodes n free) left_split puts written)
+      rw lists (IsSound-remove l pre post sound left_list (length-written mid x.previous x.next x.next x.previous ∙ length-set nodes n free) left_split puts written)
 
 -- ---- a list joins another
 
@@ -294,10 +294,10 @@ module _ {nodes : List Place} {ends : List Ends} {rows : Rows} (sound : IsSound 
   walk_within k found = listed_within sound l k within (ap (has k) (sym walk_list) ∙ found)
 
   pub front_within : {k : ℕ} → e.front ≡ Some k → k < length nodes
-  front_within {k} is = first_within sound l within [] (list_at l rows) refl (sym (ap (λ (f : Ends). f.front) e_is ∙ (sound.linked l within).front) ∙ is)
+  front_within is = first_within sound l within [] (list_at l rows) refl (sym (ap (λ (f : Ends). f.front) e_is ∙ (sound.linked l within).front) ∙ is)
 
   pub back_within : {k : ℕ} → e.back ≡ Some k → k < length nodes
-  back_within {k} is = last_within sound l within (list_at l rows) [] (sym (append-nil (list_at l rows))) (sym (ap (λ (f : Ends). f.back) e_is ∙ (sound.linked l within).back) ∙ is)
+  back_within is = last_within sound l within (list_at l rows) [] (sym (append-nil (list_at l rows))) (sym (ap (λ (f : Ends). f.back) e_is ∙ (sound.linked l within).back) ∙ is)
 
 module _ {nodes : List Place} {ends : List Ends} {rows : Rows} (sound : IsSound nodes ends rows) (to from : ℕ) (to_within : to < length rows.lists) (from_within : from < length rows.lists) (other : to ≢ from) where
   -- two lists together are no longer than the number of nodes

@@ -76,12 +76,12 @@ returns-clause-lists g c = rows_of_is (changes g (goal.at.returns-clause-lists g
 
 pub returns-clause-moved : goal.returns-clause-moved
 returns-clause-moved g c k was =
-    ap (holder k) (rows_of_is (changes g (goal.at.returns-clause-moved g c).After-index_mut-2))
+    ap (holder k) (returns-clause-lists g c)
     ∙ holder-append (rows_in c.args.self.now) (apart_all c.requires.sound) c.args.to c.args.from k c.requires.to c.requires.from c.requires.other
     ∙ cond-true _ _ _ (is_some_of-same c.args.from (holder k (rows_in c.args.self.now)) was)
 
 pub returns-clause-others : goal.returns-clause-others
 returns-clause-others g c k was =
-    ap (holder k) (rows_of_is (changes g (goal.at.returns-clause-others g c).After-index_mut-2))
+    ap (holder k) (returns-clause-lists g c)
     ∙ holder-append (rows_in c.args.self.now) (apart_all c.requires.sound) c.args.to c.args.from k c.requires.to c.requires.from c.requires.other
     ∙ cond-false _ _ _ (false_from_ne_true _ (λ is. was (some_of c.args.from (holder k (rows_in c.args.self.now)) is)))

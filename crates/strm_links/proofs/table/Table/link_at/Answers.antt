@@ -65,10 +65,8 @@ returns-clause-lists g c = rows_of_is (changes g (goal.at.returns-clause-lists g
 
 pub returns-clause-held : goal.returns-clause-held
 returns-clause-held g c =
-    ap (holder c.args.node) (rows_of_is (changes g (goal.at.returns-clause-held g c).After-set_previous))
-    ∙ joined_holder c.requires.sound c.args.list c.args.node c.args.next c.requires.list c.requires.node c.requires.free c.requires.next
+    ap (holder c.args.node) (returns-clause-lists g c) ∙ joined_holder c.requires.sound c.args.list c.args.node c.args.next c.requires.list c.requires.node c.requires.free c.requires.next
 
 pub returns-clause-others : goal.returns-clause-others
 returns-clause-others g c k other =
-    ap (holder k) (rows_of_is (changes g (goal.at.returns-clause-others g c).After-set_previous))
-    ∙ other_holder c.requires.sound c.args.list c.args.node c.args.next c.requires.list c.requires.node c.requires.free c.requires.next k other
+    ap (holder k) (returns-clause-lists g c) ∙ other_holder c.requires.sound c.args.list c.args.node c.args.next c.requires.list c.requires.node c.requires.free c.requires.next k other

@@ -64,33 +64,30 @@ overflow_sub-ends g c =
     omega (arith, len, left_len c.requires.sound c.args.node (holds g at))
 
 -- the table after the writes
-changes : (g : Over) (c : After-set_previous g) (at : After-put g) → holder c.args.node (rows_in c.args.self.now) ≡ Some c.number-list.result → c.index.result.now.place ≡ place_at (places_of c.args.self.now.nodes.items) c.args.node
+changes : (g : Over) (c : After-set_previous g)
     → IsSound (places_of c.set_previous.new.nodes.items) (set c.args.self.now.ends.items c.number-list.result (record c.set_previous.new.ends { len = c.set_previous.new.ends.len - 1 }))
     (record (rows_in c.args.self.now) { lists = map (without c.args.node) (rows_in c.args.self.now).lists })
-changes g c at holds read =
+changes g c =
     let x = c.index.result.now.place in
+    let holds = held_list c.args.self.now c.requires.sound c.args.node c.requires.held c.index.ensures ∙ c.number-list.ensures in
     let places = c.set_previous.ensures.places ∙ ap (with_previous x.next x.previous) (c.set_next.ensures.places ∙ ap (with_next x.previous x.next) c.put.ensures.places) in
     rw places
-    (IsSound-left c.requires.sound c.args.node holds read c.free.ensures
+    (IsSound-left c.requires.sound c.args.node holds (held_place c.args.self.now c.requires.sound c.args.node c.requires.held c.index.ensures) c.free.ensures
     (ends_read c.requires.sound c.number-list.result (left_list c.requires.sound c.args.node holds) c.index_mut-ends.ensures.value) c.set_next.ensures.ends c.set_previous.ensures.ends)
 
 pub returns-clause-sound : goal.returns-clause-sound
-returns-clause-sound g c = let at = goal.at.returns-clause-sound g c in IsSound-stored (changes g at.After-set_previous at.After-put (holds g at.After-put) (read g at.After-put))
+returns-clause-sound g c = IsSound-stored (changes g (goal.at.returns-clause-sound g c).After-set_previous)
 
 pub returns-clause-parting : goal.returns-clause-parting
 returns-clause-parting g c = parts _ _ _ (returns-clause-sound g c)
 
 pub returns-clause-lists : goal.returns-clause-lists
-returns-clause-lists g c = let at = goal.at.returns-clause-lists g c in rows_of_is (changes g at.After-set_previous at.After-put (holds g at.After-put) (read g at.After-put))
+returns-clause-lists g c = rows_of_is (changes g (goal.at.returns-clause-lists g c).After-set_previous)
 
 pub returns-clause-freed : goal.returns-clause-freed
 returns-clause-freed g c =
-    let at = goal.at.returns-clause-freed g c in
-    ap (holder c.args.node) (rows_of_is (changes g at.After-set_previous at.After-put (holds g at.After-put) (read g at.After-put)))
-    ∙ holder-remove (rows_in c.args.self.now) (apart_all c.requires.sound) c.args.node c.args.node ∙ cond-true _ _ _ (eq-eqb c.args.node c.args.node refl)
+    ap (holder c.args.node) (returns-clause-lists g c) ∙ holder-remove (rows_in c.args.self.now) (apart_all c.requires.sound) c.args.node c.args.node ∙ cond-true _ _ _ (eq-eqb c.args.node c.args.node refl)
 
 pub returns-clause-others : goal.returns-clause-others
 returns-clause-others g c k other =
-    let at = goal.at.returns-clause-others g c in
-    ap (holder k) (rows_of_is (changes g at.After-set_previous at.After-put (holds g at.After-put) (read g at.After-put)))
-    ∙ holder-remove (rows_in c.args.self.now) (apart_all c.requires.sound) c.args.node k ∙ cond-false _ _ _ (ne_eqb c.args.node k (λ same. other (sym same)))
+    ap (holder k) (returns-clause-lists g c) ∙ holder-remove (rows_in c.args.self.now) (apart_all c.requires.sound) c.args.node k ∙ cond-false _ _ _ (ne_eqb c.args.node k (λ same. other (sym same)))
