@@ -47,7 +47,7 @@ some_of_ok None is = absurd cc
 some_of_ok (Some b) {x} is = let same : b ≡ x = cc in ap (λ (c : Block). Some c) same
 
 pub found_at : (a : Arena) (h k : ℕ) {x : Block} → block_found h k a ≡ Ok x → slice_get (message_at a h) k ≡ Some x
-found_at a h k {x} is = some_of_ok (slice_get (message_at a h) k) is
+found_at a h k is = some_of_ok (slice_get (message_at a h) k) is
 
 pub suits_found : (a : Arena) (h k : ℕ) {x : Block} → slice_get (message_at a h) k ≡ Some x → (f : Fields) → f.data_number ≡ x.data_number → f.offset + f.len ≤ capacity_of a.store f.data_number → f.band < 2 ^ 8
     → Suits a x.number f
@@ -79,7 +79,7 @@ module _ (a : Arena) (h k : ℕ) {x : Block} (own : own_block h k a ≡ Ok x) wh
 module _ {id : ℕ} {s : CountedStore} {fields : List Fields} {v : ChainLists} (filled : IsFilled s fields v (arena_of id s.store fields v)) {a : Arena} (is : arena_of id s.store fields v ≡ a)
     (n h k : ℕ) (b : Block) (found : slice_get (message_at a h) k ≡ Some b) (number : b.number ≡ n) where
   is_at : IsAt s fields v a h k n (nodes_at v h)
-  is_at = subst (λ m. IsAt s fields v a h k m (nodes_at v h)) number (block_given id s fields v filled a is h k found)
+  is_at = subst (λ m. IsAt s fields v a h k m (nodes_at v h)) number (block_given filled is h k found)
 
   pub number_there : n < length fields
   number_there = is_at.there
@@ -91,12 +91,12 @@ module _ {id : ℕ} {s : CountedStore} {fields : List Fields} {v : ChainLists} (
   module _ (x : Fields) where
     pub fields_show : arena_of id s.store (set fields n x) v ≡ with_block h k (block_of n x) a
     fields_show =
-        written_shows id s fields v filled h k is_at.held is_at.at s.store x
+        written_shows filled h k is_at.held is_at.at s.store x
         ∙ (λ i. with_message h (set (sym is_at.message i) k (block_of n (get_or-set_same fields n x no_fields is_at.there i))) (is i))
 
     pub fields_filled : x.data_number ≡ b.data_number → IsPlaced s.store x → IsFilled s (set fields n x) v (arena_of id s.store (set fields n x) v)
     fields_filled same placed =
-        rewrite_filled id s fields v filled h k is_at.held is_at.at filled.kept refl (record { many = refl; room = λ d. refl }) placed
+        rewrite_filled filled h k is_at.held is_at.at filled.kept refl (record { many = refl; room = λ d. refl }) placed
         (same ∙ ap (λ (c : Block). c.data_number) (sym block_is))
 
     -- its data block is there
@@ -300,6 +300,10 @@ alters_overwritten a {b} t had at bytes few none now =
 pub shape_at : {X : Type 0} (f : X → Shape) (xs : List X) (k : ℕ) {x : X} {s : Shape} → k < length xs → x ≡ get_or xs k x → s ≡ f x → slice_get (map f xs) k ≡ Some s
 shape_at f xs k {x} within is of = slice_get-map f xs k ∙ ap (option_map f) (slice_get-get_or xs k x within ∙ ap Some (sym is)) ∙ ap Some (sym of)
 
+-- the fields once block n got this shape
+abbrev with_shape : Shape → ℕ → List Fields → List Fields
+with_shape x n fields = set fields n (fields_shaped x (fields_at fields n))
+
 -- one step of a walk
 module _ (xs : List Shape) (k : ℕ) {x : Shape} (is : slice_get xs k ≡ Some x) where
   pub fits_next : (a : Arena) (m : Message) {b : Block} → slice_get m k ≡ Some b
@@ -307,7 +311,7 @@ module _ (xs : List Shape) (k : ℕ) {x : Shape} (is : slice_get xs k ≡ Some x
   fits_next a m {b} at = λ i. shapes_fit a (drop_from xs k x is i) (drop_from m k b at i)
 
   pub shaped_next : (ns : List ℕ) {n : ℕ} (fields : List Fields) → slice_get ns k ≡ Some n
-      → with_shapes (drop k xs) (drop k ns) fields ≡ with_shapes (drop (k + 1) xs) (drop (k + 1) ns) (set fields n (fields_shaped x (fields_at fields n)))
+      → with_shapes (drop k xs) (drop k ns) fields ≡ with_shapes (drop (k + 1) xs) (drop (k + 1) ns) (with_shape x n fields)
   shaped_next ns {n} fields at = λ i. with_shapes (drop_from xs k x is i) (drop_from ns k n at i) fields
 
   pub retyped_next : (m : Message) {b : Block} (s : DataStore) → slice_get m k ≡ Some b
@@ -350,21 +354,21 @@ fit_parts (Err why) s is = absurd cc
 length-shaped : (xs : List Shape) (ns : List ℕ) (fields : List Fields) → length (with_shapes xs ns fields) ≡ length fields
 length-shaped [] ns fields = refl
 length-shaped (x ∷ xs) [] fields = refl
-length-shaped (x ∷ xs) (n ∷ ns) fields = length-shaped xs ns (set fields n (fields_shaped x (fields_at fields n))) ∙ length-set fields n _
+length-shaped (x ∷ xs) (n ∷ ns) fields = length-shaped xs ns (with_shape x n fields) ∙ length-set fields n _
 
 -- each block uses the data block that it used
-pub named_one : (x : Shape) (n : ℕ) (fields : List Fields) (j : ℕ) → (fields_at (set fields n (fields_shaped x (fields_at fields n))) j).data_number ≡ (fields_at fields j).data_number
+pub named_one : (x : Shape) (n : ℕ) (fields : List Fields) (j : ℕ) → (fields_at (with_shape x n fields) j).data_number ≡ (fields_at fields j).data_number
 named_one x n fields j = grind (arith, common_steps, get_or-set_same, set_past, get_or-set_other)
 
 -- and has a band
 pub banded_one : (x : Shape) (n : ℕ) (fields : List Fields) → x.band < 2 ^ 8 → ((j : ℕ) → j < length fields → (fields_at fields j).band < 2 ^ 8)
-    → (j : ℕ) → j < length (set fields n (fields_shaped x (fields_at fields n))) → (fields_at (set fields n (fields_shaped x (fields_at fields n))) j).band < 2 ^ 8
+    → (j : ℕ) → j < length (with_shape x n fields) → (fields_at (with_shape x n fields) j).band < 2 ^ 8
 banded_one x n fields small old j within = grind (arith, common_steps, get_or-set_same, get_or-set_other, length-set, small, old)
 
 shaped_named : (xs : List Shape) (ns : List ℕ) (fields : List Fields) (j : ℕ) → (fields_at (with_shapes xs ns fields) j).data_number ≡ (fields_at fields j).data_number
 shaped_named [] ns fields j = refl
 shaped_named (x ∷ xs) [] fields j = refl
-shaped_named (x ∷ xs) (n ∷ ns) fields j = shaped_named xs ns (set fields n (fields_shaped x (fields_at fields n))) j ∙ named_one x n fields j
+shaped_named (x ∷ xs) (n ∷ ns) fields j = shaped_named xs ns (with_shape x n fields) j ∙ named_one x n fields j
 
 -- blocks of other messages say what they said
 shaped_apart : (xs : List Shape) (ns : List ℕ) (fields : List Fields) (j : ℕ) → times j ns ≡ 0 → fields_at (with_shapes xs ns fields) j ≡ fields_at fields j
@@ -373,11 +377,11 @@ shaped_apart (x ∷ xs) [] fields j none = refl
 shaped_apart (x ∷ xs) (n ∷ ns) fields j none =
     elim (cases_eq j n) [
       | inl same ↦ absurd (omega (arith, none, times_here j n ns (sym same)))
-      | inr other ↦ shaped_apart xs ns (set fields n (fields_shaped x (fields_at fields n))) j (omega (arith, none, times-cons j n ns)) ∙ get_or-set_other fields n j _ no_fields other
+      | inr other ↦ shaped_apart xs ns (with_shape x n fields) j (omega (arith, none, times-cons j n ns)) ∙ get_or-set_other fields n j _ no_fields other
     ]
 
 -- the blocks of a message after its first got another shape
-rest_alike : (x : Shape) (n : ℕ) (ns : List ℕ) (fields : List Fields) → times n (n ∷ ns) ≤ 1 → message_of (set fields n (fields_shaped x (fields_at fields n))) ns ≡ message_of fields ns
+rest_alike : (x : Shape) (n : ℕ) (ns : List ℕ) (fields : List Fields) → times n (n ∷ ns) ≤ 1 → message_of (with_shape x n fields) ns ≡ message_of fields ns
 rest_alike x n ns fields once = message-alike fields _ ns (alike_off fields n _ ns (omega (arith, once, times_here n n ns refl)))
 
 nodes_shaped : (xs : List Shape) (ns : List ℕ) (fields : List Fields) → ((j : ℕ) → times j ns ≤ 1) → ((j : ℕ) → 0 < times j ns → j < length fields)
@@ -385,7 +389,7 @@ nodes_shaped : (xs : List Shape) (ns : List ℕ) (fields : List Fields) → ((j 
 nodes_shaped [] ns fields once there = refl
 nodes_shaped (x ∷ xs) [] fields once there = refl
 nodes_shaped (x ∷ xs) (n ∷ ns) fields once there =
-    let now = set fields n (fields_shaped x (fields_at fields n)) in
+    let now = with_shape x n fields in
     let here : fields_at (with_shapes xs ns now) n ≡ fields_shaped x (fields_at fields n) =
     shaped_apart xs ns now n (omega (arith, once n, times_here n n ns refl)) ∙ get_or-set_same fields n _ no_fields (there n (omega (arith, times_here n n ns refl))) in
     let rest : message_of (with_shapes xs ns now) ns ≡ blocks_shaped xs (message_of fields ns) =
@@ -410,7 +414,7 @@ shaped_within : (a : Arena) (xs : List Shape) (ns : List ℕ) (fields : List Fie
 shaped_within a [] ns fields once fits old j within = old j within
 shaped_within a (x ∷ xs) [] fields once fits old j within = old j within
 shaped_within a (x ∷ xs) (n ∷ ns) fields once fits old j within =
-    let now = set fields n (fields_shaped x (fields_at fields n)) in
+    let now = with_shape x n fields in
     let parts = fit_parts (shape_fits a x (block_at fields n)) (shapes_fit a xs (message_of fields ns)) fits in
     subst (λ d. (fields_at (with_shapes xs ns now) j).offset + (fields_at (with_shapes xs ns now) j).len ≤ capacity_of a.store d) (named_one x n fields j)
     (shaped_within a xs ns now (λ i. omega (arith, once i, times-cons i n ns)) (ap (shapes_fit a xs) (rest_alike x n ns fields (once n)) ∙ parts.1)
@@ -418,8 +422,8 @@ shaped_within a (x ∷ xs) (n ∷ ns) fields once fits old j within =
     (omega (arith, within, length-set fields n (fields_shaped x (fields_at fields n)))))
   where
     one : x.at + x.len ≤ capacity_of a.store (fields_at fields n).data_number → (i : ℕ) → i < length fields
-        → (fields_at (set fields n (fields_shaped x (fields_at fields n))) i).offset + (fields_at (set fields n (fields_shaped x (fields_at fields n))) i).len
-        ≤ capacity_of a.store (fields_at (set fields n (fields_shaped x (fields_at fields n))) i).data_number
+        → (fields_at (with_shape x n fields) i).offset + (fields_at (with_shape x n fields) i).len
+        ≤ capacity_of a.store (fields_at (with_shape x n fields) i).data_number
     one room i inside = grind (arith, common_steps, get_or-set_same, get_or-set_other, room, old)
 
 -- a type that is given again

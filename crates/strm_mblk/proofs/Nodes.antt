@@ -1,9 +1,8 @@
 -- Numbers of message blocks that are free, or of a block of a held message.
-use Rattle.std.proofs.Common.{◌≡◌, ◌≢◌, ℕ, suc, ◌+◌, ◌<◌, ◌≤◌, List, [], ◌∷◌, set, Option, Some, None, IsSome, sym, ◌∙◌, ap, subst, arith, get_or-set_other, length, if◌then◌else◌, ◌++◌, ◌==◌, refl}
+use Rattle.std.proofs.Common.{◌≡◌, ◌≢◌, ℕ, suc, ◌+◌, ◌<◌, ◌≤◌, List, [], ◌∷◌, set, Option, Some, None, sym, ◌∙◌, ap, subst, arith, get_or-set_other, length, if◌then◌else◌, ◌++◌, ◌==◌, refl}
 use Rattle.std.specs.Prelude.{slice_get, nat_lt, unwrap_or}
 use Rattle.std.specs.List.{flat_map}
 use Rattle.std.specs.Option.{IfSome}
-use Rattle.std.proofs.lemmas.Bool.{false≢true}
 use Rattle.std.proofs.lemmas.Grind.{common_steps}
 use Rattle.std.proofs.lemmas.List.{get_or_past}
 use Rattle.std.proofs.lemmas.Option.{none-some, same_Some}
@@ -37,7 +36,7 @@ held_room v h held = grind (arith, common_steps, none-some, get_or_past)
 
 -- how often a number is in a held message, and in the others
 pub held_parts : (v : ChainLists) (h n : ℕ) {ns : List ℕ} → held_in v.held h ≡ Some ns → times n (blocks_held (set v.held h None)) + times n ns ≡ times n (blocks_held v.held)
-held_parts v h n {ns} held =
+held_parts v h n held =
     omega (arith, flat_map-set_adds (count_adds (λ x. x == n)) blocks_of v.held h None None (held_room v h held), ap (λ o. times n (blocks_of o)) held, (count_adds (λ x. x == n)).none)
 
 -- and in all

@@ -109,9 +109,9 @@ module _ {id : ℕ} {s : CountedStore} {fields : List Fields} {v : ChainLists} (
   bytes_each : (k : ℕ) (b : Block) → slice_get (message_at a t.head) k ≡ Some b → length (bytes_of_block a.store b) ≡ b.len
   bytes_each k b at =
       elim (slice_get (nodes_at v t.head) k) as (λ o. slice_get (nodes_at v t.head) k ≡ o → length (bytes_of_block a.store b) ≡ b.len) [
-        | None ↦ λ none. absurd (none-some b (sym (block_none id s fields v filled a is t.head k none) ∙ at))
+        | None ↦ λ none. absurd (none-some b (sym (block_none filled is t.head k none) ∙ at))
         | Some n ↦ λ some.
-            let here = block_some id s fields v filled a is t.head k t refl had some in
+            let here = block_some filled is t.head k t refl had some in
             let same : block_at fields n ≡ b = same_Some (block_at fields n) b (sym here.block ∙ at) in
             ap (λ c. length (bytes_of_block a.store c)) (sym same)
             ∙ ap (λ (x : Arena). length (bytes_of_block x.store (block_at fields n))) (sym is)

@@ -399,7 +399,7 @@ some_is : (o : Option ℕ) → is_some o ≡ true → (x : ℕ) × (o ≡ Some x
 some_is None some = absurd (false≢true some)
 some_is (Some x) some = (x, refl)
 
-module _ (id : ℕ) (s : CountedStore) (fields : List Fields) (v : ChainLists) (filled : IsFilled s fields v (arena_of id s.store fields v)) where
+module _ {id : ℕ} {s : CountedStore} {fields : List Fields} {v : ChainLists} (filled : IsFilled s fields v (arena_of id s.store fields v)) where
   heads_there : (h : ℕ) → is_some (shelf_of (arena_of id s.store fields v) h) ≡ true → IsHead s fields v (arena_of id s.store fields v) h
   heads_there h some =
       let a = arena_of id s.store fields v in
@@ -437,9 +437,9 @@ among_rows [] q k = omega arith
 among_rows (ms ∷ shelves) zero k = omega (arith, among_row ms k, length-append (flat_map (λ m. m) ms) (blocks_on shelves))
 among_rows (ms ∷ shelves) (suc q) k = omega (arith, among_rows shelves q k, length-append (flat_map (λ m. m) ms) (blocks_on shelves))
 
-module _ (id : ℕ) (s : CountedStore) (fields : List Fields) {v : ChainLists} (filled : IsFilled s fields v (arena_of id s.store fields v)) {a : Arena} (is : arena_of id s.store fields v ≡ a) (h : ℕ) (some : is_some (shelf_of a h) ≡ true) where
+module _ {id : ℕ} {s : CountedStore} {fields : List Fields} {v : ChainLists} (filled : IsFilled s fields v (arena_of id s.store fields v)) {a : Arena} (is : arena_of id s.store fields v ≡ a) (h : ℕ) (some : is_some (shelf_of a h) ≡ true) where
   head : IsHead s fields v a h
-  head = is_head id s fields v filled is h some
+  head = is_head filled is h some
 
   -- no message on a shelf has more blocks than all
   few_blocks : length (shelved_message a h) ≤ length (shelved_blocks a)

@@ -151,7 +151,7 @@ module _ (from_tail : Bool) (s : DataStore) (fields : List Fields) where
     pub all_measured : {i : ℕ} {r : Run} → IsMeasured from_tail s fields ns i r → drop i ns ≡ [] → IsRun from_tail s fields ns r
     all_measured at none = grind (arith, common_steps)
 
-    module _ (i : ℕ) {n : ℕ} {r : Run} (at : IsMeasured from_tail s fields ns i r) (here : slice_get ns i ≡ Some n) where
+    module _ {i : ℕ} {n : ℕ} {r : Run} (at : IsMeasured from_tail s fields ns i r) (here : slice_get ns i ≡ Some n) where
       abbrev b : Block
       b = block_at fields n
 
@@ -340,7 +340,7 @@ pub record IsAdjusted (a : Arena) (s : CountedStore) (fields : List Fields) (v :
   pub shelved : shelved_blocks (arena_of id s.store fields v) ≡ shelved_blocks a
   pub had : has (arena_of id s.store fields v) t ≡ true
 
-module _ (id : ℕ) (s : CountedStore) (fields : List Fields) (v : ChainLists) (filled : IsFilled s fields v (arena_of id s.store fields v)) (t : TokenValue) (has : has (arena_of id s.store fields v) t ≡ true) where
+module _ {id : ℕ} {s : CountedStore} {fields : List Fields} {v : ChainLists} (filled : IsFilled s fields v (arena_of id s.store fields v)) (t : TokenValue) (has : has (arena_of id s.store fields v) t ≡ true) where
   abbrev old : Arena
   old = arena_of id s.store fields v
 
@@ -388,4 +388,4 @@ module _ (id : ℕ) (s : CountedStore) (fields : List Fields) (v : ChainLists) (
     -- it was cut from the run on
     pub run_adjusts : {r : Run} → IsRun (is_negative z) s.store fields nodes r → unsigned_abs z ≤ r.size
         → IsAdjusted old s (with_bytes_cut (is_negative z) (ahead (is_negative z) (unsigned_abs z) r.size) (drop (length nodes - r.blocks) nodes) fields) v id z t
-    run_adjusts {r} run enough = subst (λ fs. IsAdjusted old s fs v id z t) (sym (cut_run (is_negative z) run (unsigned_abs z) enough)) (adjusts (omega (arith, run.size)))
+    run_adjusts run enough = subst (λ fs. IsAdjusted old s fs v id z t) (sym (cut_run (is_negative z) run (unsigned_abs z) enough)) (adjusts (omega (arith, run.size)))

@@ -8,7 +8,7 @@ use Rattle.strm_mblk.specs.declared.token.TokenValue.{TokenValue}
 use Rattle.strm_mblk.specs.Arena.{Arena, has, held_at, message_at, token_of}
 use Rattle.strm_mblk.specs.Block.{Block, Message}
 use Rattle.strm_mblk.specs.BlockCalls.{own_block, with_block}
-use Rattle.strm_mblk.specs.Calls.{Alters, Flushes, Gives, LeavesBlocks, Lends, Puts, Takes, TakesAny, itself}
+use Rattle.strm_mblk.specs.Calls.{Alters, Gives, Lends, Puts, Takes, itself}
 use Rattle.strm_mblk.specs.Given.{Given, answer_of, value_after}
 use Rattle.strm_mblk.specs.Messages.{blocks_of}
 use Rattle.strm_mblk.proofs.arena.Frame.{Leaves, Making, leaves_given, leaves_fields, leaves_same, leaves_with_block, leaves_with_store}

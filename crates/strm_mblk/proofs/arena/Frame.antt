@@ -226,7 +226,7 @@ leaves_given a b n gives is token = subst (λ h. Leaves (h ∷ []) a b) (ap (λ 
 module _ (a : Arena) where
   -- only what is held at some heads changes
   leaves_held : {heads : List ℕ} (held : List (Option Message)) → LeavesOthers heads a (record a { held = held }) → Leaves heads a (record a { held = held })
-  leaves_held {heads} held others = leaves_named others refl (λ d some. refl)
+  leaves_held held others = leaves_named others refl (λ d some. refl)
 
   leaves_one : (h : ℕ) (o : Option Message) → Leaves (h ∷ []) a (record a { held = set a.held h o })
   leaves_one h o = leaves_held (set a.held h o) (others_one a _ h o refl refl)

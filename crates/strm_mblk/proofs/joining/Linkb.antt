@@ -61,7 +61,7 @@ pub record IsJoined (a : Arena) (s : CountedStore) (fields : List Fields) (w : C
   pub shelved : shelved_blocks (arena_of id s.store fields w) ≡ shelved_blocks a
   pub after : arena_of id s.store fields w ≡ linkb h g a
 
-module _ (id : ℕ) (s : CountedStore) (fields : List Fields) {v w : ChainLists} (filled : IsFilled s fields v (arena_of id s.store fields v)) (h g : ℕ) (other : h ≢ g)
+module _ {id : ℕ} {s : CountedStore} {fields : List Fields} {v w : ChainLists} (filled : IsFilled s fields v (arena_of id s.store fields v)) (h g : ℕ) (other : h ≢ g)
     (w_is : w ≡ record v { held = chains_joined h g v.held }) (parted : IsLawful w) where
   abbrev old : Arena
   old = arena_of id s.store fields v

@@ -38,7 +38,7 @@ pub record IsTakenOut (a : Arena) (s : CountedStore) (fields : List Fields) (w :
   pub absent : held_at a n ≡ None
   pub apart : n ≢ h
 
-module _ (id : ℕ) (s : CountedStore) {fields : List Fields} {v w : ChainLists} (filled : IsFilled s fields v (arena_of id s.store fields v)) (h k : ℕ) {n : ℕ}
+module _ {id : ℕ} {s : CountedStore} {fields : List Fields} {v w : ChainLists} (filled : IsFilled s fields v (arena_of id s.store fields v)) (h k : ℕ) {n : ℕ}
     (held : held_in v.held h ≡ Some (nodes_at v h)) (at : slice_get (nodes_at v h) k ≡ Some n) (behind_first : 0 < k)
     (w_is : w ≡ record v { held = set (set v.held h (Some (take k (nodes_at v h) ++ drop (k + 1) (nodes_at v h)))) n (Some (n ∷ [])) }) (parted : IsLawful w) where
   abbrev old : Arena
@@ -113,7 +113,7 @@ module _ {id : ℕ} {s : CountedStore} {fields : List Fields} {v : ChainLists} (
       → IsTakenOut a s fields w id t.head k n
   is_taken_out {w} w_is parted =
       subst (λ x. IsTakenOut x s fields w id t.head k n) is
-      (takes_out id s filled t.head k (token_held s fields v is t t refl had) (ap (λ h. slice_get (nodes_at v h) k) (sym e_is) ∙ at) behind
+      (takes_out filled t.head k (token_held s fields v is t t refl had) (ap (λ h. slice_get (nodes_at v h) k) (sym e_is) ∙ at) behind
       (w_is ∙ ap (λ h. record v { held = set (set v.held h (Some (take k (nodes_at v h) ++ drop (k + 1) (nodes_at v h)))) n (Some (n ∷ [])) }) e_is) parted)
 
 -- what is answered where a call is refused

@@ -5,7 +5,6 @@ use Rattle.std.proofs.lemmas.Option.{same_Some, none-some, slice_get-get_or, sli
 use Rattle.std.specs.Option.{IsSome, is_some}
 use Rattle.std.proofs.lemmas.List.{get_or_past, length-map}
 use Rattle.std.proofs.Math.Seq.{take-length}
-use Rattle.strm_links.specs.Rows.{first}
 use Rattle.strm_data.specs.CountedStore.{CountedStore, IsKept, count_of}
 use Rattle.strm_data.specs.DataStore.{DataStore, times}
 use Rattle.strm_links.proofs.lists.Counting.{times_here, times_other}
@@ -92,7 +91,7 @@ module _ {id : ℕ} {s : CountedStore} {fields : List Fields} {v : ChainLists} (
 
 -- ---- one of them
 
-module _ (id : ℕ) (s : CountedStore) (fields : List Fields) (v : ChainLists) (filled : IsFilled s fields v (arena_of id s.store fields v))
+module _ {id : ℕ} {s : CountedStore} {fields : List Fields} {v : ChainLists} (filled : IsFilled s fields v (arena_of id s.store fields v))
     (h k : ℕ) {n : ℕ} {ns : List ℕ} (held : held_in v.held h ≡ Some ns) (at : slice_get ns k ≡ Some n) where
   -- the block itself is one of those that there are
   pub node_room : n < length fields
@@ -168,7 +167,7 @@ pub record IsAt (s : CountedStore) (fields : List Fields) (v : ChainLists) (a : 
   pub placed : IsPlaced s.store (fields_at fields n)
   pub named : count_of s (fields_at fields n).data_number ≡ references_to a (fields_at fields n).data_number
 
-module _ (id : ℕ) (s : CountedStore) (fields : List Fields) (v : ChainLists) (filled : IsFilled s fields v (arena_of id s.store fields v)) (a : Arena) (is : arena_of id s.store fields v ≡ a) (h k : ℕ) where
+module _ {id : ℕ} {s : CountedStore} {fields : List Fields} {v : ChainLists} (filled : IsFilled s fields v (arena_of id s.store fields v)) {a : Arena} (is : arena_of id s.store fields v ≡ a) (h k : ℕ) where
   -- the block at place k, if the message has more than k
   block-get : slice_get (message_at a h) k ≡ option_map (block_at fields) (slice_get (nodes_at v h) k)
   block-get = grind (arith, common_steps, message_at-seen, slice_get-map)
@@ -183,7 +182,7 @@ module _ (id : ℕ) (s : CountedStore) (fields : List Fields) (v : ChainLists) (
       let message = had_message a t had in
       let nodes = held_nodes id s.store fields v t.head (ap (λ x. Rattle.strm_mblk.specs.Arena.held_at x t.head) is ∙ message.1.held) in
       let held : held_in v.held h ≡ Some (nodes_at v h) = ap (held_in v.held) (sym head) ∙ nodes.1.held ∙ ap Some (sym (ap (λ o. Rattle.strm_mblk.specs.Messages.blocks_of o) (ap (held_in v.held) (sym head) ∙ nodes.1.held))) in
-      let there : n < length fields = node_room id s fields v filled h k held found in
+      let there : n < length fields = node_room filled h k held found in
       record {
         held = held;
         at = found;
@@ -234,7 +233,7 @@ seen_head filled h is some = grind (arith, common_steps, held_nodes, held_is, at
 -- a walk begins at the head
 pub reached_head : {id : ℕ} {s : CountedStore} {fields : List Fields} {v : ChainLists} → IsFilled s fields v (arena_of id s.store fields v) → {a : Arena} → arena_of id s.store fields v ≡ a
     → (t : TokenValue) → has a t ≡ true → {n : ℕ} → n ≡ t.head → IsReached v t.head 0 n
-reached_head {id} {s} {fields} {v} filled {a} is t had same =
+reached_head filled {a} is t had same =
     let head = seen_head filled t.head is (ap is_some (had_message a t had).1.held) in
     record { here = λ some. head.first ∙ ap Some (sym same); in_range = λ some. omega (arith, head.there, filled.listed, same) }
 

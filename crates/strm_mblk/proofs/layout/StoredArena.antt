@@ -7,11 +7,9 @@ use Rattle.std.proofs.lemmas.List.{map-append, ext_get_or, get_or_past, length-m
 use Rattle.std.proofs.lemmas.List.FromFn.{get_or-map-range_with_len, length-map-range_with_len}
 use Rattle.std.specs.Option.{IfSome}
 use Rattle.std.proofs.lemmas.List.Elements.{All-map}
-use Rattle.std.proofs.lemmas.Option.{same_Some}
 use Rattle.std.proofs.lemmas.List.Sums.{sum_by-append}
 use Rattle.strm_data.specs.DataStore.{DataStore, times, class_of}
 use Rattle.strm_links.proofs.lists.Counting.{times-cons, times_here}
-use Rattle.strm_links.specs.Rows.{first}
 use Rattle.strm_data.specs.CountedStore.{CountedStore, IsKept, count_of}
 use Rattle.strm_data.proofs.store.Kept.{capacity_range}
 use Rattle.strm_data.specs.Limits.{most_data_block_bytes}
@@ -216,7 +214,7 @@ size_most fields (n ∷ ns) few = omega (arith, sum_by-append (λ (c : Block). c
 
 -- message blocks as they lie in memory are parted
 pub parted_inside : {i : Inside} → IsSound i → {a : Arena} → arena_in i ≡ a → IsParted a
-parted_inside {i} whole is = subst IsParted is (law_parted whole.filled)
+parted_inside whole is = subst IsParted is (law_parted whole.filled)
 
 -- they still are, where no block comes on a shelf or leaves one
 pub still_whole : {i : Inside} (j : Inside) {a : Arena} → IsSound i → arena_in i ≡ a → j.queued ≡ i.queued → IsFilled j.data j.chains.loads j.chains.lists (arena_in j) → shelved_blocks (arena_in j) ≡ shelved_blocks a → IsSound j

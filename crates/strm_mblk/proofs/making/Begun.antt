@@ -203,7 +203,7 @@ pub record IsAllocated (a : Arena) (t : CountedStore) (fields : List Fields) (w 
   pub begun : IsBegunAll a t fields w id n (new_block n d ∷ [])
   pub done : allocb size a ≡ Ok (n, arena_of id t.store fields w)
 
-module _ (id : ℕ) (s : CountedStore) (fields : List Fields) (v : ChainLists) (filled : IsFilled s fields v (arena_of id s.store fields v)) {n : ℕ} (begun : first v.free ≡ Some n)
+module _ {id : ℕ} {s : CountedStore} {fields : List Fields} {v : ChainLists} (filled : IsFilled s fields v (arena_of id s.store fields v)) {n : ℕ} (begun : first v.free ≡ Some n)
     (d : ℕ) (t : CountedStore) (w : ChainLists) (x : Fields) (fresh : IsUnused s d) (kept : IsKept t) (t_is : t ≡ after_take s (Ok d)) (w_is : w ≡ with_begun v n 1) (parted : IsLawful w)
     (x_is : x ≡ record { data_number = d; offset = 0; len = 0; band = 0 }) where
   rooms : HasRooms s.store t.store

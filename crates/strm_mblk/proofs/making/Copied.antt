@@ -1,5 +1,5 @@
 -- Messages copied, block by block.
-use Rattle.std.proofs.Common.{◌≡◌, ℕ, ◌+◌, ◌^◌, ◌<◌, ◌≤◌, true, eqb, List, [], ◌∷◌, ◌++◌, map, drop, take, get_or, set, length, Option, Some, Ok, refl, sym, ap, ◌∙◌, arith, length-append, None, Err, subst}
+use Rattle.std.proofs.Common.{◌≡◌, ℕ, ◌+◌, ◌^◌, ◌<◌, ◌≤◌, true, eqb, List, [], ◌∷◌, ◌++◌, map, drop, take, set, length, Option, Some, Ok, refl, sym, ap, ◌∙◌, arith, length-append, None, Err, subst}
 use Rattle.std.specs.Prelude.{count_by, slice_get}
 use Rattle.std.specs.List.{All}
 use Rattle.std.specs.Result.{is_ok}
@@ -144,14 +144,14 @@ pub record IsCopied (a : Arena) (t : CountedStore) (fields : List Fields) (w : C
   pub is : IsMade None (take count (message_at a token.head)) a t fields w id h
   pub source : has (arena_of id t.store fields w) token ≡ true
 
-module _ (id : ℕ) (s : CountedStore) (fields : List Fields) (v : ChainLists) (filled : IsFilled s fields v (arena_of id s.store fields v)) (token : TokenValue) (had : has (arena_of id s.store fields v) token ≡ true)
-    (count : ℕ) (some : 0 < count) (most : count ≤ token.blocks) (free : count ≤ length v.free) (h : ℕ) (begun : first v.free ≡ Some h) (w : ChainLists) (w_is : w ≡ with_begun v h count) (parted : IsLawful w)
+module _ {id : ℕ} {s : CountedStore} {fields : List Fields} {v : ChainLists} (filled : IsFilled s fields v (arena_of id s.store fields v)) (token : TokenValue) (had : has (arena_of id s.store fields v) token ≡ true)
+    (count : ℕ) (part : (0 < count) × (count ≤ token.blocks)) (free : count ≤ length v.free) (h : ℕ) (begun : first v.free ≡ Some h) (w : ChainLists) (w_is : w ≡ with_begun v h count) (parted : IsLawful w)
     (t : CountedStore) (new : List Fields) (kept : IsKept t) (are_now : AreCopied None (take count (message_of fields (nodes_at w token.head))) (nodes_at w h) fields new s t) where
   abbrev old : Arena
   old = arena_of id s.store fields v
 
   both : IsBeside v w token.head h count
-  both = beside id s fields v filled token had count some most free begun w_is
+  both = beside filled token had count part free begun w_is
 
   abbrev bs : List Block
   bs = take count (message_of fields (nodes_at v token.head))
@@ -161,7 +161,7 @@ module _ (id : ℕ) (s : CountedStore) (fields : List Fields) (v : ChainLists) (
 
   made : IsMade None bs old t new w id h
   made =
-      is_made None bs blocks_many filled some free h begun w w_is both.into.is parted t new kept
+      is_made None bs blocks_many filled part.0 free h begun w w_is both.into.is parted t new kept
       (subst (λ ns. AreCopied None (take count (message_of fields ns)) (nodes_at w h) fields new s t) both.from_is are_now)
 
   pub copied_all : IsCopied old t new w id h count token

@@ -39,7 +39,7 @@ pub record IsTold (s : DataStore) (c : ℕ) (info : ClassInfo) : Type 0 where
   pub size : info.size ≡ (class_spec_at s c).size
   pub free : info.free ≡ length (free_of s c)
 
-module _ (s : CountedStore) (kept : IsKept s) (c : ℕ) where
+module _ {s : CountedStore} (kept : IsKept s) (c : ℕ) where
   pub told : {info : ClassInfo} → slice_get (class_infos s.store) c ≡ Some info → IsTold s.store c info
   told {info} is =
       let there : c < length s.store.classes = omega (arith, slice_get_within (class_infos s.store) c info is, length-class_infos s kept) in
@@ -245,7 +245,7 @@ fits_own kept d there = grind (arith, common_steps, list_any_at, le-leb)
 -- so a class fits each block of a message in the same store
 pub fits_each : {s : CountedStore} → IsKept s → (bs : List Block) → ((k : ℕ) (b : Block) → slice_get bs k ≡ Some b → b.data_number < length s.store.blocks) → fits_classes s.store bs s.store ≡ true
 fits_each kept [] there = refl
-fits_each {s} kept (b ∷ bs) there = λ i. fits_own kept b.data_number (there 0 b refl) i && fits_each kept bs (λ k x at. there (suc k) x at) i
+fits_each kept (b ∷ bs) there = λ i. fits_own kept b.data_number (there 0 b refl) i && fits_each kept bs (λ k x at. there (suc k) x at) i
 
 -- what would be left after copies of the blocks before i, which are `made`
 pub record IsAhead (o : Option DataStore) (bs : List Block) (i : ℕ) (s t : CountedStore) (left : List ℕ) : Type 0 where
@@ -272,7 +272,7 @@ left_less {o} {b} {s} {d} {c} left kept copy are some k =
           ∙ sym (ap (λ (fs : List (List ℕ)). length (get_or fs k [])) lists ∙ ap length (get_or-set_other s.store.free c k (drop 1 (free_of s.store c)) [] other))
     ]
 
-module _ (o : Option DataStore) (bs : List Block) (i : ℕ) (s t : CountedStore) (left : List ℕ) (ahead : IsAhead o bs i s t left) (b : Block) (next : drop i bs ≡ b ∷ drop (i + 1) bs)
+module _ {o : Option DataStore} {bs : List Block} {i : ℕ} {s t : CountedStore} {left : List ℕ} (ahead : IsAhead o bs i s t left) (b : Block) (next : drop i bs ≡ b ∷ drop (i + 1) bs)
     (inside : IsInside (copied_from o s.store) b) (wide : fits_a_class (capacity_of (copied_from o s.store) b.data_number) s.store.classes ≡ true) where
   -- the capacity to look up
   abbrev asked : ℕ
@@ -324,7 +324,7 @@ module _ (size : ℕ) (classes : List ClassSpec) (left : List ℕ) where
 
   first_from : (steps c : ℕ) {last : ℕ} → c + steps ≡ last → IsLeft size classes left last → ((k : ℕ) → k < c → IsLeft size classes left k → ⊥) → (f : ℕ) × IsFirstLeft size classes left f
   first_from zero c {last} at is none = (c, record { is = subst (IsLeft size classes left) (let e : last ≡ c = omega (arith, at) in e) is; first = none })
-  first_from (suc steps) c {last} at is none =
+  first_from (suc steps) c at is none =
       elim (is_left c) [
         | inl here ↦ (c, record { is = here; first = none })
         | inr not ↦

@@ -198,13 +198,13 @@ pub record IsBeside (v w : ChainLists) (g h count : ℕ) : Type 0 where
   pub apart : (n : ℕ) → times n (nodes_at w g) + times n (nodes_at w h) ≤ 1
   pub other : g ≢ h
 
-module _ (id : ℕ) (s : CountedStore) (fields : List Fields) (v : ChainLists) (filled : IsFilled s fields v (arena_of id s.store fields v)) (token : TokenValue) (had : has (arena_of id s.store fields v) token ≡ true)
-    (count : ℕ) (some : 0 < count) (enough : count ≤ token.blocks) (free : count ≤ length v.free) {h : ℕ} (begun : first v.free ≡ Some h) {w : ChainLists} (w_is : w ≡ with_begun v h count) where
+module _ {id : ℕ} {s : CountedStore} {fields : List Fields} {v : ChainLists} (filled : IsFilled s fields v (arena_of id s.store fields v)) (token : TokenValue) (had : has (arena_of id s.store fields v) token ≡ true)
+    (count : ℕ) (part : (0 < count) × (count ≤ token.blocks)) (free : count ≤ length v.free) {h : ℕ} (begun : first v.free ≡ Some h) {w : ChainLists} (w_is : w ≡ with_begun v h count) where
   abbrev g : ℕ
   g = token.head
 
   new : IsInto v w h count
-  new = into_is filled.parted count some free begun w_is
+  new = into_is filled.parted count part.0 free begun w_is
 
   held_there : (held_in v.held g ≡ Some (nodes_at v g)) × (token.blocks ≡ length (nodes_at v g))
   held_there = token_nodes id s fields v token had
@@ -218,7 +218,7 @@ module _ (id : ℕ) (s : CountedStore) (fields : List Fields) (v : ChainLists) (
   pub beside : IsBeside v w g h count
   beside = record {
     into = new;
-    enough = omega (arith, enough, held_there.1);
+    enough = omega (arith, part.1, held_there.1);
     from_is = from_same;
     from = at_first (nodes_at v g) (begins_with filled.parted g held_there.0);
     apart = λ n.
@@ -266,8 +266,8 @@ pub record IsDuplicated (a : Arena) (t : CountedStore) (fields : List Fields) (w
   pub done : message_duplicated bs a ≡ Ok (h, arena_of id t.store fields w)
   pub source : has (arena_of id t.store fields w) token ≡ true
 
-module _ (id : ℕ) (s : CountedStore) (fields : List Fields) (v : ChainLists) (filled : IsFilled s fields v (arena_of id s.store fields v)) (token : TokenValue) (had : has (arena_of id s.store fields v) token ≡ true)
-    (n : ℕ) (some : 0 < n) (most : n ≤ token.blocks) where
+module _ {id : ℕ} {s : CountedStore} {fields : List Fields} {v : ChainLists} (filled : IsFilled s fields v (arena_of id s.store fields v)) (token : TokenValue) (had : has (arena_of id s.store fields v) token ≡ true)
+    (n : ℕ) (part : (0 < n) × (n ≤ token.blocks)) where
   abbrev old : Arena
   old = arena_of id s.store fields v
 
@@ -282,7 +282,7 @@ module _ (id : ℕ) (s : CountedStore) (fields : List Fields) (v : ChainLists) (
   held = (token_nodes id s fields v token had).0
 
   long : n ≤ length ns
-  long = omega (arith, most, (token_nodes id s fields v token had).1)
+  long = omega (arith, part.1, (token_nodes id s fields v token had).1)
 
   -- their first, and what these name
   abbrev bs : List Block
@@ -324,7 +324,7 @@ module _ (id : ℕ) (s : CountedStore) (fields : List Fields) (v : ChainLists) (
     -- the first free blocks are a message, held at h
     module _ (h : ℕ) (begun : first v.free ≡ Some h) (w : ChainLists) (w_is : w ≡ with_begun v h n) (parted : IsLawful w) where
       both : IsBeside v w token.head h n
-      both = beside id s fields v filled token had n some most free begun w_is
+      both = beside filled token had n part free begun w_is
 
       module _ (t : CountedStore) (now : List Fields) (kept : IsKept t) (few : exceeds_counts ds s ≡ false) (t_is : t ≡ with_references_given ds s)
           (now_is : now ≡ with_fields (nodes_at w h) (map (fields_at fields) (take n (nodes_at w token.head))) fields) where
@@ -340,7 +340,7 @@ module _ (id : ℕ) (s : CountedStore) (fields : List Fields) (v : ChainLists) (
             (λ k d inside.
             let at : slice_get ns k ≡ Some (get_or (take n ns) k d) = sym (slice_get-take n k ns (omega (arith, inside, length-take-le n ns long))) ∙ slice_get-get_or (take n ns) k d inside in
             subst (λ (store : DataStore). IsPlaced store (fields_at fields (get_or (take n ns) k d))) (sym same_store)
-            (filled.placed (get_or (take n ns) k d) (node_room id s fields v filled token.head k held at)))
+            (filled.placed (get_or (take n ns) k d) (node_room filled token.head k held at)))
 
         counts : (k : ℕ) → count_of t k ≡ count_of s k + count_by (uses_data k) bs
         counts k = ap (λ c. count_of c k) t_is ∙ counts_given ds s (used_part n (data_used_by fields ns) s used) k ∙ ap (λ c. count_of s k + c) (sym (named k))
@@ -351,7 +351,7 @@ module _ (id : ℕ) (s : CountedStore) (fields : List Fields) (v : ChainLists) (
         all_begun : IsBegunAll old t now w id h bs
         all_begun =
             subst (λ fs. IsBegunAll old t fs w id h bs) fields_are
-            (begins_all id s fields v filled h begun bs (omega (arith, some, many)) (omega (arith, free, many)) kept (w_is ∙ ap (with_begun v h) (sym many)) parted rooms placed counts)
+            (begins_all id s fields v filled h begun bs (omega (arith, part.0, many)) (omega (arith, free, many)) kept (w_is ∙ ap (with_begun v h) (sym many)) parted rooms placed counts)
 
         pub duplicates : IsDuplicated old t now w id h (take n (message_at old token.head)) token
         duplicates = grind (arith, common_steps, bs_is, all_begun, cond-false, room, exceed_is, same_store, had_again, message, both, held)

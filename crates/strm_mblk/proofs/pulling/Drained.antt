@@ -66,7 +66,7 @@ freed_id (b ∷ bs) a = freed_id bs (with_block_freed b bs a)
 
 -- ---- as the code stores it
 
-module _ (id : ℕ) (s : CountedStore) (fields : List Fields) (v : ChainLists) (filled : IsFilled s fields v (arena_of id s.store fields v)) (h : ℕ) (held : held_in v.held h ≡ Some (nodes_at v h)) (count i : ℕ) where
+module _ {id : ℕ} {s : CountedStore} {fields : List Fields} {v : ChainLists} (filled : IsFilled s fields v (arena_of id s.store fields v)) (h : ℕ) (held : held_in v.held h ≡ Some (nodes_at v h)) (count i : ℕ) where
   abbrev old : Arena
   old = arena_of id s.store fields v
 
@@ -169,7 +169,7 @@ module _ (id : ℕ) (s : CountedStore) (fields : List Fields) (v : ChainLists) (
 
     frees_now : {t : CountedStore} {w : ChainLists} → t ≡ with_references_dropped (take i (data_used_by fields (drop 1 ns))) s → IsKept t → w ≡ with_behind_freed h i ns v → IsLawful w
         → IsFreed old (with_bytes_drained h count (message_at old h) old) t now w id
-    frees_now {t} {w} t_is kept w_is parted =
+    frees_now t_is kept w_is parted =
         let names : take i (data_used_by fields (drop 1 ns)) ≡ data_used_by now out =
         take-map (λ n. (fields_at fields n).data_number) i (drop 1 ns) ∙ sym (named-same fields now change.named out) in
         let freed = frees_some id s now v filled_now h held (Some (take 1 ns ++ rest)) out parts (t_is ∙ ap (λ ds. with_references_dropped ds s) names) kept w_is parted in
@@ -258,13 +258,13 @@ pub record IsPulled (h n : ℕ) (a : Arena) (call : Given Arena (Unit {0})) (new
   pub held : held_at new h ≡ Some (message_at new h)
   pub id : new.id ≡ a.id
 
-module _ (h n : ℕ) (b : Block) (bs : List Block) (a : Arena) (held : held_at a h ≡ Some (b ∷ bs)) (count : ℤ) (asked : bytes_asked count (run_of a.store (message_at a h)) ≡ Some n)
+module _ (h : ℕ) {n : ℕ} (b : Block) (bs : List Block) (a : Arena) (held : held_at a h ≡ Some (b ∷ bs)) (count : ℤ) (asked : bytes_asked count (run_of a.store (message_at a h)) ≡ Some n)
     (enough : n ≤ size_of (run_of a.store (message_at a h))) (many : b.len < n) where
   -- the first block's answer is the call's
   pub pull_front_answer : answer_of (pull_front h n a) ≡ answer_of (pullupmsg h count a)
   pull_front_answer = grind (arith, common_steps, same_answer)
 
-  module _ (first : Arena) (first_is : first ≡ value_after a (pull_front h n a)) (u : Unit {0}) (given : answer_of (pull_front h n a) ≡ Ok u) where
+  module _ {first : Arena} (first_is : first ≡ value_after a (pull_front h n a)) {u : Unit {0}} (given : answer_of (pull_front h n a) ≡ Ok u) where
     pub taken : (d : ℕ) × (take_data n a.store ≡ Ok d)
     taken = taken_where (front_pulled h n (message_at a h) a) (take_data n a.store) given
 

@@ -44,7 +44,7 @@ pub record IsFrontCopied (s : CountedStore) (m : List Block) (into count k done 
   pub after : t ≡ with_front_copied into done m s
   pub left : take (count - done) (drop done (bytes_of s.store m)) ≡ take (count - done) (bytes_of s.store (drop k m))
 
-module _ (s : CountedStore) (m : List Block) (into count : ℕ) {k done : ℕ} {t : CountedStore} (copied : IsFrontCopied s m into count k done t) (enough : count ≤ length (bytes_of s.store m)) where
+module _ {s : CountedStore} {m : List Block} {into count : ℕ} {k done : ℕ} {t : CountedStore} (copied : IsFrontCopied s m into count k done t) (enough : count ≤ length (bytes_of s.store m)) where
   abbrev all : List ℕ
   all = bytes_of s.store m
 
@@ -107,7 +107,7 @@ module _ (s : CountedStore) (m : List Block) (into count : ℕ) {k done : ℕ} {
         ]
 
     pub next_copied : {u : CountedStore} → u ≡ record t { store = with_bytes_copied f.data_number f.offset into done len t.store } → IsFrontCopied s m into count (k + 1) (done + len) u
-    next_copied {u} is = record { few = omega (arith, len_is, copied.few); after = next_after is; left = next_left }
+    next_copied is = record { few = omega (arith, len_is, copied.few); after = next_after is; left = next_left }
 
 -- ==== the first block of a held message takes a data block that has the first bytes of the message
 
@@ -127,7 +127,7 @@ pub record IsFrontPulled (a : Arena) (t : CountedStore) (fields : List Fields) (
 one_more : (s : CountedStore) (store : DataStore) (d k : ℕ) → d < length s.counts → count_of s d ≡ 0 → count_of (record { store = store; counts = set s.counts d 1 }) k ≡ count_of s k + one_if (eqb d k)
 one_more s store d k inside none = grind (arith, common_steps, count_of-set, eqb_tells)
 
-module _ (id : ℕ) (s : CountedStore) (fields : List Fields) (v : ChainLists) (filled : IsFilled s fields v (arena_of id s.store fields v)) {h : ℕ} (is : IsHeldHead fields v h) where
+module _ {id : ℕ} {s : CountedStore} {fields : List Fields} {v : ChainLists} (filled : IsFilled s fields v (arena_of id s.store fields v)) {h : ℕ} (is : IsHeldHead fields v h) where
   abbrev old : Arena
   old = arena_of id s.store fields v
 
@@ -218,7 +218,7 @@ module _ (id : ℕ) (s : CountedStore) (fields : List Fields) (v : ChainLists) (
 
       shows : arena_of id t.store now v ≡ record named { store = t.store }
       shows =
-          written_shows id s fields v filled h 0 is.held is.first t.store x
+          written_shows filled h 0 is.held is.first t.store x
           ∙ ap (λ (ns : List ℕ). record old { store = t.store; held = set old.held h (Some (set (message_of fields ns) 0 (block_at now h))) }) nodes_are
           ∙ ap (λ b. record old { store = t.store; held = set old.held h (Some (b ∷ rest)) }) block_is
 

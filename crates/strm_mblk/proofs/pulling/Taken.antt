@@ -58,7 +58,7 @@ left_others n (b ∷ bs) = grind (arith, common_steps, (left_others (n - b.len) 
 size_next : (cs : List Block) (k : ℕ) {c : Block} → slice_get cs k ≡ Some c → size_of (take (k + 1) cs) ≡ size_of (take k cs) + c.len
 size_next [] k {c} at = absurd (none-some c at)
 size_next (x ∷ cs) zero {c} at = omega (arith, size_front x [], ap (λ (y : Block). y.len) (same_Some x c at))
-size_next (x ∷ cs) (suc k) {c} at =
+size_next (x ∷ cs) (suc k) at =
     let e : suc k + 1 ≡ suc (k + 1) = omega arith in
     omega (arith, ap (λ j. size_of (take j (x ∷ cs))) e, size_front x (take (k + 1) cs), size_front x (take k cs), size_next cs k at)
 

@@ -32,7 +32,7 @@ cut-requires-clause-first c =
     omega (
       arith,
       c.self.invariant.filled.listed,
-      (block_some i.id i.data i.chains.loads i.chains.lists c.self.invariant.filled c.args.self.now c.self.view_is c.head.result (length (nodes_at i.chains.lists c.head.result) - c.run_in-run.result.blocks)
+      (block_some c.self.invariant.filled c.self.view_is c.head.result (length (nodes_at i.chains.lists c.head.result) - c.run_in-run.result.blocks)
           c.args.token.now (sym c.head.ensures) c.requires run.begins).there,
     )
 
@@ -65,7 +65,7 @@ module _ (c : After-cut) where
   is_adjusted =
       let i = c.self.inside in
       subst (λ (p : Arena × (List Fields × ChainLists)). IsAdjusted p.0 i.data p.1.0 p.1.1 i.id c.args.count c.args.token.now) (λ j. (c.self.view_is j, (sym now_is j, sym c.cut.ensures.lists j)))
-      (run_adjusts i.id i.data i.chains.loads i.chains.lists c.self.invariant.filled c.args.token.now (subst (λ a. has a c.args.token.now ≡ true) (sym c.self.view_is) c.requires) c.args.count run
+      (run_adjusts c.self.invariant.filled c.args.token.now (subst (λ a. has a c.args.token.now ≡ true) (sym c.self.view_is) c.requires) c.args.count run
       (omega (arith, c.if-run-bytes.false, bytes_is)))
 
 pub invariant_of-self : goal.invariant_of-self

@@ -7,7 +7,7 @@ use Rattle.strm_mblk.specs.declared.blocks.Supply.{Supply}
 use Rattle.strm_mblk.specs.Arena.{Arena}
 use Rattle.strm_mblk.specs.Block.{new_block}
 use Rattle.strm_mblk.specs.BlockCalls.{IsSupplied, blocks_renumbered}
-use Rattle.strm_mblk.specs.BlocksLayout.{arena_in, arena_of}
+use Rattle.strm_mblk.specs.BlocksLayout.{arena_of}
 use Rattle.strm_mblk.specs.Messages.{blocks_of}
 use Rattle.strm_links.specs.ChainLists.{ChainLists}
 use Rattle.strm_mblk.proofs.Lists.{first_rest}
@@ -48,7 +48,7 @@ is_allocated c =
     let loads : set c.self.inside.chains.loads n c.over.result ≡ c.set_load.new.self.loads = sym (c.set_load.ensures.loads ∙ ap (λ fields. set fields n c.over.result) c.begin_all-head.ensures.loads) in
     subst (λ (p : Arena × (List Fields × ChainLists)). IsAllocated p.0 c.take_from-data_number.new.self p.1.0 p.1.1 c.self.inside.id c.args.size n d)
     (λ i. (c.self.view_is i, (loads i, sym c.set_load.ensures.lists i)))
-    (allocates c.self.inside.id c.self.inside.data c.self.inside.chains.loads c.self.inside.chains.lists c.self.invariant.filled c.begin_all-head.ensures.answer
+    (allocates c.self.invariant.filled c.begin_all-head.ensures.answer
     d c.take_from-data_number.new.self c.begin_all-head.new.self.lists c.over.result c.take_from-data_number.ensures.unused c.take_from-data_number.ensures.kept (c.take_from-data_number.ensures.after ∙ ap (after_take c.self.inside.data) c.take_from-data_number.ensures.answer)
     c.begin_all-head.ensures.after c.begin_all-head.ensures.parted c.over.ensures
     c.args.size (taken_fits c.args.size c.self.inside.data.store c.take_from-data_number.ensures.answer) c.take_from-data_number.ensures.answer)

@@ -6,7 +6,7 @@ use Rattle.strm_mblk.proofs.blocks.Blocks.before.Goals as goal
 
 pub before-requires : goal.before-requires
 before-requires c =
-    let is = is_head c.self.inside.id c.self.inside.data c.self.inside.chains.loads c.self.inside.chains.lists c.self.invariant.filled c.self.view_is c.args.head c.requires in
+    let is = is_head c.self.invariant.filled c.self.view_is c.args.head c.requires in
     omega (arith, is.there, c.self.invariant.filled.listed)
 
 pub returns : goal.returns

@@ -28,7 +28,7 @@ module _ (c : After-begin_all-head) where
 
   is_beside : IsBeside c.self.inside.chains.lists c.begin_all-head.new.self.lists c.args.token.now.head c.begin_all-head.result c.args.count
   is_beside =
-      beside c.self.inside.id c.self.inside.data c.self.inside.chains.loads c.self.inside.chains.lists c.self.invariant.filled c.args.token.now had c.args.count (of_blocks (parted_inside c.self.invariant c.self.view_is) c.args.token.now c.requires.had c.args.count c.requires.count).0 (of_blocks (parted_inside c.self.invariant c.self.view_is) c.args.token.now c.requires.had c.args.count c.requires.count).1
+      beside c.self.invariant.filled c.args.token.now had c.args.count (of_blocks (parted_inside c.self.invariant c.self.view_is) c.args.token.now c.requires.had c.args.count c.requires.count)
       (omega (arith, c.if-free_len-count.false, c.free_len.ensures)) c.begin_all-head.ensures.answer c.begin_all-head.ensures.after
 
 pub copies_fit-requires-clause-classed : goal.copies_fit-requires-clause-classed
@@ -74,8 +74,8 @@ module _ (c : After-copy_blocks) where
   is_copied : IsCopied c.args.self.now c.copy_blocks.new.stored said lists c.self.inside.id c.begin_all-head.result c.args.count c.args.token.now
   is_copied =
       subst (λ (p : Arena × ChainLists). IsCopied p.0 c.copy_blocks.new.stored said p.1 c.self.inside.id c.begin_all-head.result c.args.count c.args.token.now) (λ i. (c.self.view_is i, sym c.copy_blocks.ensures.lists i))
-      (copied_all c.self.inside.id c.self.inside.data c.self.inside.chains.loads c.self.inside.chains.lists c.self.invariant.filled c.args.token.now (subst (λ a. has a c.args.token.now ≡ true) (sym c.self.view_is) c.requires.had)
-      c.args.count (of_blocks (parted_inside c.self.invariant c.self.view_is) c.args.token.now c.requires.had c.args.count c.requires.count).0 (of_blocks (parted_inside c.self.invariant c.self.view_is) c.args.token.now c.requires.had c.args.count c.requires.count).1 (omega (arith, c.if-free_len-count.false, c.free_len.ensures))
+      (copied_all c.self.invariant.filled c.args.token.now (subst (λ a. has a c.args.token.now ≡ true) (sym c.self.view_is) c.requires.had)
+      c.args.count (of_blocks (parted_inside c.self.invariant c.self.view_is) c.args.token.now c.requires.had c.args.count c.requires.count) (omega (arith, c.if-free_len-count.false, c.free_len.ensures))
       c.begin_all-head.result c.begin_all-head.ensures.answer c.begin_all-head.new.self.lists c.begin_all-head.ensures.after c.begin_all-head.ensures.parted
       c.copy_blocks.new.stored said c.copy_blocks.ensures.kept
       (subst (λ (p : List Fields × ℕ).

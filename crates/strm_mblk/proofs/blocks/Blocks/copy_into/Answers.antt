@@ -43,7 +43,7 @@ module _ (c : In-loop-block) where
   -- the block that is copied at this step
   is_at : IsAt c.self.inside.data c.self.inside.chains.loads c.self.inside.chains.lists c.args.self.now c.args.token.now.head k c.loop-block.read (nodes_at c.self.inside.chains.lists c.args.token.now.head)
   is_at =
-      block_reached c.self.inside.id c.self.inside.data c.self.inside.chains.loads c.self.inside.chains.lists c.self.invariant.filled c.args.self.now c.self.view_is c.args.token.now.head k
+      block_reached c.self.invariant.filled c.self.view_is c.args.token.now.head k
       c.args.token.now refl c.requires.had c.loop-block.invariant.read few
 
   written_at : slice_get (nodes_at c.args.chains.now.lists c.args.head) k ≡ Some c.loop-block.written

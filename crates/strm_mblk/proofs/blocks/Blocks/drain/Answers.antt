@@ -23,7 +23,7 @@ take_bytes-used-requires-clause-within c i n at =
     let i' = c.self.inside in
     omega (
       arith,
-      node_room i'.id i'.data i'.chains.loads i'.chains.lists c.self.invariant.filled c.args.head i (head (goal.at.take_bytes-used-requires-clause-within c).After-self).held at,
+      node_room c.self.invariant.filled c.args.head i (head (goal.at.take_bytes-used-requires-clause-within c).After-self).held at,
     )
 
 pub take_bytes-used-requires-clause-small : goal.take_bytes-used-requires-clause-small
@@ -51,7 +51,7 @@ is_freed : (c : After-free_behind) → IsHeldHead c.self.inside.chains.loads c.s
 is_freed c is taken =
     let i = c.self.inside in
     subst (λ a. IsFreed a (with_bytes_drained c.args.head c.args.count (message_at a c.args.head) a) c.take_bytes-used.new.stored c.free_behind.new.self.loads c.free_behind.new.self.lists i.id) c.self.view_is
-    (drains i.id i.data i.chains.loads i.chains.lists c.self.invariant.filled c.args.head is.held c.args.count c.take_bytes-used.result
+    (drains c.self.invariant.filled c.args.head is.held c.args.count c.take_bytes-used.result
     (subst (λ fields. AreTaken i.chains.loads (nodes_at i.chains.lists c.args.head) c.args.count i.data c.take_bytes-used.result fields c.take_bytes-used.new.stored) (sym c.free_behind.ensures.loads) taken)
     c.take_bytes-used.ensures.kept (c.free_behind.ensures.after ∙ ap (λ v. with_behind_freed c.args.head c.take_bytes-used.result (nodes_at v c.args.head) v) c.take_bytes-used.ensures.lists) c.free_behind.ensures.parted)
 

@@ -29,7 +29,7 @@ module _ (c : After-head-from) where
   in_use : (d : ℕ) → 0 < times d (data_used_by c.self.inside.chains.loads (nodes_at c.self.inside.chains.lists c.head-from.result)) → 0 < count_of c.self.inside.data d
   in_use =
       subst (λ ds. (d : ℕ) → 0 < times d ds → 0 < count_of c.self.inside.data d) (sym named_is)
-      (used c.self.inside.id c.self.inside.data c.self.inside.chains.loads c.self.inside.chains.lists c.self.invariant.filled c.args.token.now had c.args.count (of_blocks (parted_inside c.self.invariant c.self.view_is) c.args.token.now c.requires.had c.args.count c.requires.count).0 (of_blocks (parted_inside c.self.invariant c.self.view_is) c.args.token.now c.requires.had c.args.count c.requires.count).1)
+      (used c.self.invariant.filled c.args.token.now had c.args.count (of_blocks (parted_inside c.self.invariant c.self.view_is) c.args.token.now c.requires.had c.args.count c.requires.count))
 
 pub give_references-requires-clause-used : goal.give_references-requires-clause-used
 give_references-requires-clause-used c = in_use (goal.at.give_references-requires-clause-used c).After-head-from
@@ -47,7 +47,7 @@ too_many : (c : Then-not-give_references) → message_duplicated (take c.args.co
 too_many c =
     let at = (goal.at.returns-then-not-give_references c).After-head-from in
     subst (λ a. message_duplicated (take c.args.count (message_at a c.args.token.now.head)) a ≡ Err RefMax) c.self.view_is
-    (refused c.self.inside.id c.self.inside.data c.self.inside.chains.loads c.self.inside.chains.lists c.self.invariant.filled c.args.token.now (had at) c.args.count (of_blocks (parted_inside c.self.invariant c.self.view_is) c.args.token.now c.requires.had c.args.count c.requires.count).0 (of_blocks (parted_inside c.self.invariant c.self.view_is) c.args.token.now c.requires.had c.args.count c.requires.count).1
+    (refused c.self.invariant.filled c.args.token.now (had at) c.args.count (of_blocks (parted_inside c.self.invariant c.self.view_is) c.args.token.now c.requires.had c.args.count c.requires.count)
     (omega (arith, c.if-free_len-count.false, c.free_len.ensures))
     (refused_by _ (c.if-not-give_references.ensures.answer ∙ ap (λ ds. not (exceeds_counts (take c.args.count ds) c.self.inside.data)) (named_is at))))
 
@@ -59,8 +59,8 @@ returns-then-not-give_references c =
 
 is_beside : (c : After-begin_all-head) → IsBeside c.self.inside.chains.lists c.begin_all-head.new.self.lists c.args.token.now.head c.begin_all-head.result c.args.count
 is_beside c =
-    beside c.self.inside.id c.self.inside.data c.self.inside.chains.loads c.self.inside.chains.lists c.self.invariant.filled c.args.token.now (subst (λ a. has a c.args.token.now ≡ true) (sym c.self.view_is) c.requires.had)
-    c.args.count (of_blocks (parted_inside c.self.invariant c.self.view_is) c.args.token.now c.requires.had c.args.count c.requires.count).0 (of_blocks (parted_inside c.self.invariant c.self.view_is) c.args.token.now c.requires.had c.args.count c.requires.count).1 (omega (arith, c.if-free_len-count.false, c.free_len.ensures)) c.begin_all-head.ensures.answer c.begin_all-head.ensures.after
+    beside c.self.invariant.filled c.args.token.now (subst (λ a. has a c.args.token.now ≡ true) (sym c.self.view_is) c.requires.had)
+    c.args.count (of_blocks (parted_inside c.self.invariant c.self.view_is) c.args.token.now c.requires.had c.args.count c.requires.count) (omega (arith, c.if-free_len-count.false, c.free_len.ensures)) c.begin_all-head.ensures.answer c.begin_all-head.ensures.after
 
 pub copy_fields-requires-clause-to : goal.copy_fields-requires-clause-to
 copy_fields-requires-clause-to c = (is_beside (goal.at.copy_fields-requires-clause-to c).After-begin_all-head).into.begun
@@ -89,8 +89,8 @@ module _ (c : After-copy_fields) where
       let names : data_used_by c.self.inside.chains.loads (nodes_at c.self.inside.chains.lists c.head-from.result) ≡ data_used_by c.self.inside.chains.loads (nodes_at c.self.inside.chains.lists c.args.token.now.head) =
       λ i. data_used_by (c.self.inside.chains.loads) (nodes_at c.self.inside.chains.lists (c.head-from.ensures i)) in
       subst (λ (p : Arena × ChainLists). IsDuplicated p.0 c.give_references.new.stored said p.1 c.self.inside.id c.begin_all-head.result (take c.args.count (message_at p.0 c.args.token.now.head)) c.args.token.now) (λ i. (c.self.view_is i, sym c.copy_fields.ensures.lists i))
-      (duplicates c.self.inside.id c.self.inside.data c.self.inside.chains.loads c.self.inside.chains.lists c.self.invariant.filled c.args.token.now (subst (λ a. has a c.args.token.now ≡ true) (sym c.self.view_is) c.requires.had)
-      c.args.count (of_blocks (parted_inside c.self.invariant c.self.view_is) c.args.token.now c.requires.had c.args.count c.requires.count).0 (of_blocks (parted_inside c.self.invariant c.self.view_is) c.args.token.now c.requires.had c.args.count c.requires.count).1 (omega (arith, c.if-free_len-count.false, c.free_len.ensures))
+      (duplicates c.self.invariant.filled c.args.token.now (subst (λ a. has a c.args.token.now ≡ true) (sym c.self.view_is) c.requires.had)
+      c.args.count (of_blocks (parted_inside c.self.invariant c.self.view_is) c.args.token.now c.requires.had c.args.count c.requires.count) (omega (arith, c.if-free_len-count.false, c.free_len.ensures))
       c.begin_all-head.result c.begin_all-head.ensures.answer c.begin_all-head.new.self.lists c.begin_all-head.ensures.after c.begin_all-head.ensures.parted
       c.give_references.new.stored said c.if-not-give_references.ensures.kept
       (given_by _ (c.if-not-give_references.ensures.answer ∙ ap (λ ds. not (exceeds_counts (take c.args.count ds) c.self.inside.data)) names))

@@ -5,7 +5,7 @@ use Rattle.strm_mblk.specs.Block.{bytes_of_block}
 use Rattle.strm_mblk.specs.BlockCalls.{with_bytes}
 use Rattle.strm_mblk.specs.BlocksLayout.{block_of_found}
 use Rattle.strm_mblk.specs.Given.{answer_map}
-use Rattle.strm_mblk.specs.InPlace.{bytes_to_edit, edit}
+use Rattle.strm_mblk.specs.InPlace.{edit}
 use Rattle.strm_mblk.proofs.arena.Calls.{alters_store, lends}
 use Rattle.strm_mblk.proofs.arena.Frame.{other_data}
 use Rattle.strm_mblk.proofs.blocks.Blocks.edit.Goals as goal

@@ -7,7 +7,7 @@ use Rattle.strm_mblk.specs.Block.{Block}
 use Rattle.strm_mblk.specs.BlockCalls.{own_block, with_block}
 use Rattle.strm_mblk.specs.BlocksLayout.{block_of_found}
 use Rattle.strm_mblk.specs.Given.{answer_map}
-use Rattle.strm_mblk.specs.InPlace.{block_filled, bytes_behind, bytes_to_fill, fill}
+use Rattle.strm_mblk.specs.InPlace.{block_filled, bytes_behind, fill}
 use Rattle.strm_mblk.proofs.Altering.{found_written, suits_written}
 use Rattle.strm_mblk.proofs.arena.Calls.{alters_block, lends}
 use Rattle.strm_mblk.proofs.arena.Frame.{other_data}

@@ -21,7 +21,7 @@ module _ (g : _) (c : After-fields_at-data_number g) where
   -- the block at this step
   is_at : IsAt c.self.inside.data c.self.inside.chains.loads c.self.inside.chains.lists c.args.self.now c.args.token.now.head c.loop-shaped.shaped-index c.loop-shaped.node (nodes_at c.self.inside.chains.lists c.args.token.now.head)
   is_at =
-      block_reached c.self.inside.id c.self.inside.data c.self.inside.chains.loads c.self.inside.chains.lists c.self.invariant.filled c.args.self.now c.self.view_is c.args.token.now.head c.loop-shaped.shaped-index
+      block_reached c.self.invariant.filled c.self.view_is c.args.token.now.head c.loop-shaped.shaped-index
       c.args.token.now refl c.requires.had c.loop-shaped.invariant.at (omega (arith, c.loop-shaped-test.true, c.requires.count))
 
   read : c.fields_at-data_number.result ≡ fields_at c.self.inside.chains.loads c.loop-shaped.node

@@ -18,7 +18,7 @@ module _ (c : In-loop-block) where
   -- the block at this step
   is_at : IsAt c.self.inside.data c.self.inside.chains.loads c.self.inside.chains.lists c.args.self.now c.args.token.now.head c.loop-block._block c.loop-block.node (nodes_at c.self.inside.chains.lists c.args.token.now.head)
   is_at =
-      block_reached c.self.inside.id c.self.inside.data c.self.inside.chains.loads c.self.inside.chains.lists c.self.invariant.filled c.args.self.now c.self.view_is c.args.token.now.head c.loop-block._block
+      block_reached c.self.invariant.filled c.self.view_is c.args.token.now.head c.loop-block._block
       c.args.token.now refl c.requires c.loop-block.invariant.at (omega (arith, c.loop-block-test.true, c.blocks-block-end.ensures))
 
 read : (c : After-fields_at) → c.loop-block.node < length c.self.inside.chains.loads → c.fields_at.result ≡ fields_at c.self.inside.chains.loads c.loop-block.node

@@ -10,13 +10,13 @@ use Rattle.strm_mblk.proofs.blocks.Blocks.found.Goals as goal
 pub returns-in_default-clause-answer : goal.returns-in_default-clause-answer
 returns-in_default-clause-answer c =
     sym (ap (λ o. ok_or o NoSuchBlock)
-    (block_none c.self.inside.id c.self.inside.data c.self.inside.chains.loads c.self.inside.chains.lists c.self.invariant.filled c.args.self.now c.self.view_is c.args.token.now.head c.args.place
+    (block_none c.self.invariant.filled c.self.view_is c.args.token.now.head c.args.place
     (ap (λ h. slice_get (nodes_at c.self.inside.chains.lists h) c.args.place) (sym c.head.ensures) ∙ sym c.node_at.ensures.value ∙ c.in_default.is)))
 
 pub returns-clause-answer : goal.returns-clause-answer
 returns-clause-answer c =
     let at =
-    block_some c.self.inside.id c.self.inside.data c.self.inside.chains.loads c.self.inside.chains.lists c.self.invariant.filled c.args.self.now c.self.view_is c.args.token.now.head c.args.place
+    block_some c.self.invariant.filled c.self.view_is c.args.token.now.head c.args.place
     c.args.token.now refl c.requires
     (ap (λ h. slice_get (nodes_at c.self.inside.chains.lists h) c.args.place) (sym c.head.ensures) ∙ sym c.node_at.ensures.value ∙ c.in-Some.is) in
     let read = c.fields_at-fields.ensures in

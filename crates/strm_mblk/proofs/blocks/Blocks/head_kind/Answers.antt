@@ -10,11 +10,11 @@ use Rattle.strm_mblk.proofs.blocks.Blocks.head_kind.Goals.{After-fields_at}
 use Rattle.strm_mblk.proofs.blocks.Blocks.head_kind.Goals as goal
 
 is : (c : After-fields_at) → IsHead c.self.inside.data c.self.inside.chains.loads c.self.inside.chains.lists c.args.self.now c.args.head
-is c = is_head c.self.inside.id c.self.inside.data c.self.inside.chains.loads c.self.inside.chains.lists c.self.invariant.filled c.self.view_is c.args.head c.requires
+is c = is_head c.self.invariant.filled c.self.view_is c.args.head c.requires
 
 pub fields_at-requires : goal.fields_at-requires
 fields_at-requires c =
-    omega (arith, (is_head c.self.inside.id c.self.inside.data c.self.inside.chains.loads c.self.inside.chains.lists c.self.invariant.filled c.self.view_is c.args.head c.requires).there)
+    omega (arith, (is_head c.self.invariant.filled c.self.view_is c.args.head c.requires).there)
 
 -- what was read is what the block says
 read : (c : After-fields_at) → c.fields_at.result ≡ fields_at c.self.inside.chains.loads c.args.head

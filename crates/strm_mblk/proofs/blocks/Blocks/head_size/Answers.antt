@@ -11,7 +11,7 @@ use Rattle.strm_mblk.proofs.blocks.Blocks.head_size.Goals.{After-finds_chains}
 module _ (c : After-finds_chains) where
   -- the message
   head : IsHead c.self.inside.data c.self.inside.chains.loads c.self.inside.chains.lists c.args.self.now c.args.head
-  head = is_head c.self.inside.id c.self.inside.data c.self.inside.chains.loads c.self.inside.chains.lists c.self.invariant.filled c.self.view_is c.args.head c.requires
+  head = is_head c.self.invariant.filled c.self.view_is c.args.head c.requires
 
   chain_is : chain_of c.self.inside.chains.lists c.args.head ≡ head.nodes
   chain_is = c.finds_chains.ensures.shelved head.shelf head.place c.args.head (ap (λ ns. slice_get ns 0) head.at ∙ head.begins) ∙ head.at
@@ -21,7 +21,7 @@ sum_of_lengths-requires c =
     let i = c.self.inside in
     let is = head c in
     summable c.self.invariant.filled (chain_is c) is.begins (omega (arith, is.there, c.self.invariant.filled.listed))
-    (omega (arith, small i.id i.data i.chains.loads c.self.invariant.filled c.self.view_is c.args.head c.requires, ap size_of is.message))
+    (omega (arith, small c.self.invariant.filled c.self.view_is c.args.head c.requires, ap size_of is.message))
 
 pub returns : goal.returns
 returns c =

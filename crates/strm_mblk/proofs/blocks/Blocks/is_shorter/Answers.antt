@@ -4,7 +4,7 @@ use Rattle.std.proofs.lemmas.Bool.{cases_lt, le-ltb, lt-ltb}
 use Rattle.strm_mblk.specs.declared.blocks.Fields.{Fields}
 use Rattle.strm_mblk.specs.Arena.{message_at}
 use Rattle.strm_mblk.specs.Block.{Block, size_of}
-use Rattle.strm_mblk.specs.BlocksLayout.{block_at, fields_at}
+use Rattle.strm_mblk.specs.BlocksLayout.{fields_at}
 use Rattle.strm_links.specs.ChainLists.{nodes_at}
 use Rattle.strm_mblk.proofs.layout.HeldBlocks.{IsAt, block_reached, reached_head}
 use Rattle.strm_mblk.proofs.Reading.{past_last, sum_from}
@@ -28,7 +28,7 @@ loop-block-init c = record {
 
 is_at : (c : In-loop-block) → IsAt c.self.inside.data c.self.inside.chains.loads c.self.inside.chains.lists c.args.self.now c.args.token.now.head c.loop-block._block c.loop-block.node (nodes_at c.self.inside.chains.lists c.args.token.now.head)
 is_at c =
-    block_reached c.self.inside.id c.self.inside.data c.self.inside.chains.loads c.self.inside.chains.lists c.self.invariant.filled c.args.self.now c.self.view_is c.args.token.now.head c.loop-block._block
+    block_reached c.self.invariant.filled c.self.view_is c.args.token.now.head c.loop-block._block
     c.args.token.now refl c.requires c.loop-block.invariant.at (omega (arith, c.loop-block-test.true, c.blocks-block-end.ensures))
 
 module _ (c : In-loop-block) {f : Fields} (read : f ≡ fields_at c.self.inside.chains.loads c.loop-block.node) where

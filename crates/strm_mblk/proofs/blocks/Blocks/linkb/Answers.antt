@@ -18,7 +18,7 @@ is_joined c =
     let after : c.join.new.self.lists ≡ lists c.args.token.now.head c.args.tail.head =
     c.join.ensures.after ∙ ap (λ h. lists h c.spend-tail.result.head) c.head-then-head-tail.ensures ∙ ap (lists c.args.token.now.head) tail in
     subst (λ a. IsJoined a c.self.inside.data c.join.new.self.loads c.join.new.self.lists c.self.inside.id c.args.token.now.head c.args.tail.head) (reviewed c.self.inside.data.store c.self.inside.chains.lists c.join.ensures.loads c.self.view_is)
-    (joins c.self.inside.id c.self.inside.data c.join.new.self.loads (reloaded c.join.ensures.loads c.self.invariant.filled) c.args.token.now.head c.args.tail.head other after c.join.ensures.parted)
+    (joins (reloaded c.join.ensures.loads c.self.invariant.filled) c.args.token.now.head c.args.tail.head other after c.join.ensures.parted)
 
 pub invariant_of-self : goal.invariant_of-self
 invariant_of-self c = still_whole _ c.self.invariant c.self.view_is refl (is_joined c).filled (is_joined c).shelved

@@ -10,7 +10,7 @@ use Rattle.strm_mblk.specs.declared.blocks.Fields.{Fields}
 use Rattle.strm_mblk.specs.Arena.{Arena, message_at, references_to}
 use Rattle.strm_mblk.specs.Block.{Block, Message, size_of}
 use Rattle.strm_mblk.specs.BlockCalls.{with_bytes}
-use Rattle.strm_mblk.specs.BlocksLayout.{IsPlaced, IsStart, block_at, fields_at, message_of}
+use Rattle.strm_mblk.specs.BlocksLayout.{IsStart, block_at, fields_at, message_of}
 use Rattle.strm_mblk.specs.InPlace.{overwrite, store_overwritten, touches_shared}
 use Rattle.strm_mblk.proofs.Altering.{alters_overwritten, one_long, one_overwritten, one_touched}
 use Rattle.strm_mblk.proofs.arena.Calls.{alters_none}
@@ -55,7 +55,7 @@ module _ (c : After-find_byte-start) (chain_is : chain_of c.self.inside.chains.l
 
   at : IsAt c.self.inside.data c.self.inside.chains.loads c.self.inside.chains.lists c.args.self.now h k node (nodes_at c.self.inside.chains.lists h)
   at =
-      block_some c.self.inside.id c.self.inside.data c.self.inside.chains.loads c.self.inside.chains.lists c.self.invariant.filled c.args.self.now c.self.view_is h k
+      block_some c.self.invariant.filled c.self.view_is h k
       c.args.token.now refl c.requires (ap (λ ns. slice_get ns k) (sym chain_is) ∙ start.begins)
 
   before : size_of (take k (message_at c.args.self.now h)) + c.find_byte-start.result.at ≡ c.args.at

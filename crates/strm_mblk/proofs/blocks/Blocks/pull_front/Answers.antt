@@ -89,7 +89,7 @@ copied : (c : After-copy_front) → IsHeldHead c.self.inside.chains.loads c.self
       counts = set c.self.inside.data.counts c.in_ok-data_number.data_number 1;
     }
 copied c is kind typed =
-    pulled_is c.self.inside.id c.self.inside.data c.self.inside.chains.loads c.self.inside.chains.lists c.self.invariant.filled is c.args.count c.in_ok-data_number.data_number kind typed
+    pulled_is c.self.invariant.filled is c.args.count c.in_ok-data_number.data_number kind typed
     (c.copy_front.ensures.after
     ∙ (λ i. with_front_copied c.in_ok-data_number.data_number c.args.count (message_of c.self.inside.chains.loads (nodes_at c.self.inside.chains.lists (c.head-head.ensures i))) c.set_kind.new.self))
 
@@ -98,7 +98,7 @@ drop_name-requires-clause-there c =
     let before = (goal.at.drop_name-requires-clause-there c).After-fields_at-fields in
     let set = (goal.at.drop_name-requires-clause-there c).After-set_kind in
     subst (λ (f : Fields). f.data_number < length c.copy_front.new.stored.store.blocks) (sym (read before))
-    (still_there c.self.inside.id c.self.inside.data c.self.inside.chains.loads c.self.inside.chains.lists c.self.invariant.filled (head before)
+    (still_there c.self.invariant.filled (head before)
     c.args.count c.in_ok-data_number.data_number c.in_ok-data_number.ensures.unused c.in_ok-data_number.ensures.room c.copy_front.new.stored
     (copied (goal.at.drop_name-requires-clause-there c).After-copy_front (head before) (kind_is set (read before)) (typed set)))
 
@@ -107,7 +107,7 @@ drop_name-requires-clause-used c =
     let before = (goal.at.drop_name-requires-clause-used c).After-fields_at-fields in
     let set = (goal.at.drop_name-requires-clause-used c).After-set_kind in
     subst (λ (f : Fields). 0 < count_of c.copy_front.new.stored f.data_number) (sym (read before))
-    (still_used c.self.inside.id c.self.inside.data c.self.inside.chains.loads c.self.inside.chains.lists c.self.invariant.filled (head before)
+    (still_used c.self.invariant.filled (head before)
     c.args.count c.in_ok-data_number.data_number c.in_ok-data_number.ensures.unused c.in_ok-data_number.ensures.room c.copy_front.new.stored
     (copied (goal.at.drop_name-requires-clause-used c).After-copy_front (head before) (kind_is set (read before)) (typed set)))
 
@@ -124,7 +124,7 @@ is_front_pulled c =
     let h = c.args.token.now.head in
     subst (λ (p : Arena × (List Fields × ChainLists)). IsFrontPulled p.0 c.drop_name.new.self p.1.0 p.1.1 c.self.inside.id h d c.args.count) (λ i. (c.self.view_is i, (sym c.set_load.ensures.loads i, sym c.set_load.ensures.lists i)))
     (subst (λ k. IsFrontPulled (arena_in c.self.inside) c.drop_name.new.self (set c.self.inside.chains.loads k (new_fields c)) c.self.inside.chains.lists c.self.inside.id h d c.args.count) (sym c.head-head.ensures)
-    (pulls_front c.self.inside.id c.self.inside.data c.self.inside.chains.loads c.self.inside.chains.lists c.self.invariant.filled (head before)
+    (pulls_front c.self.invariant.filled (head before)
     c.args.count d c.in_ok-data_number.ensures.unused c.in_ok-data_number.ensures.room c.copy_front.new.stored
     (copied (goal.at.invariant_of-self-2 c).After-copy_front (head before) (kind_is typed_now (read before)) (typed typed_now))
     c.drop_name.new.self (new_fields c) c.drop_name.ensures.kept

@@ -44,7 +44,7 @@ module _ (c : After-fields_at-front) where
   head = grind (arith, common_steps, seen_head, had_message)
 
   held : held_at c.args.self.now h ≡ Some (b ∷ bs)
-  held = ap (λ a. held_at a h) (sym c.self.view_is) ∙ head_held c.self.inside.id c.self.inside.data items c.self.inside.chains.lists c.self.invariant.filled head
+  held = ap (λ a. held_at a h) (sym c.self.view_is) ∙ head_held c.self.invariant.filled head
 
   -- what was read is what the first block says
   read : c.fields_at-front.result ≡ fields_at items h
@@ -86,7 +86,7 @@ returns-in_err-pull_front c =
     let first = sym c.pull_front.ensures.answer ∙ c.in_err-pull_front.was in
     let is =
     refused_is call
-    (sym (pull_front_answer (h d) c.in-Some.wanted (b d) (bs d) a (held d) c.args.count (asked d) (enough d) (more d c.if-wanted-front.false)) ∙ first) in
+    (sym (pull_front_answer (h d) (b d) (bs d) a (held d) c.args.count (asked d) (enough d) (more d c.if-wanted-front.false)) ∙ first) in
     subst (Alters itself t t call a c.pull_front.new.self) (sym (refused (goal.at.returns-in_err-pull_front c).After-from_residual))
     (alters_none a c.pull_front.new.self t call why is (c.pull_front.ensures.after ∙ ap (value_after a) (refused_is (pull_front t.head c.in-Some.wanted a) first)) c.requires)
 
@@ -97,12 +97,12 @@ module _ (c : After-fields_at-front) (many : c.fields_at-front.result.len < c.in
   still_held : is_some (held_at first c.head-head.result) ≡ true
   still_held =
       ap (λ k. is_some (held_at first k)) c.head-head.ensures
-      ∙ ap is_some (front_pulled_held (h c) c.in-Some.wanted (b c) (bs c) c.args.self.now (held c) c.args.count (asked c) (enough c) (more c many) first first_is u given)
+      ∙ ap is_some (front_pulled_held (h c) (b c) (bs c) c.args.self.now (held c) c.args.count (asked c) (enough c) (more c many) first_is given)
 
   is_pulled : {new : Arena} → new ≡ with_bytes_drained c.head-head.result (c.in-Some.wanted - c.fields_at-front.result.len) (message_at first c.head-head.result) first
       → IsPulled (h c) c.in-Some.wanted c.args.self.now (pullupmsg (h c) c.args.count c.args.self.now) new
-  is_pulled {new} is =
-      pulls (h c) c.in-Some.wanted (b c) (bs c) c.args.self.now (held c) c.args.count (asked c) (enough c) (more c many) first first_is u given
+  is_pulled is =
+      pulls (h c) (b c) (bs c) c.args.self.now (held c) c.args.count (asked c) (enough c) (more c many) first_is given
       (is ∙ (λ i. with_bytes_drained (c.head-head.ensures i) (c.in-Some.wanted - len_is c i) (message_at first (c.head-head.ensures i)) first))
 
 pub drain-requires : goal.drain-requires

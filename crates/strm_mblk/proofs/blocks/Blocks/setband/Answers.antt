@@ -28,7 +28,7 @@ module _ (c : After-fields_at-fields) where
 
   at : IsAt c.self.inside.data c.self.inside.chains.loads c.self.inside.chains.lists c.args.self.now c.args.token.now.head 0 c.args.token.now.head (nodes_at c.self.inside.chains.lists c.args.token.now.head)
   at =
-      block_some c.self.inside.id c.self.inside.data c.self.inside.chains.loads c.self.inside.chains.lists c.self.invariant.filled c.args.self.now c.self.view_is c.args.token.now.head 0
+      block_some c.self.invariant.filled c.self.view_is c.args.token.now.head 0
       c.args.token.now refl c.requires head.first
 
   read : c.fields_at-fields.result ≡ fields_at c.self.inside.chains.loads c.args.token.now.head

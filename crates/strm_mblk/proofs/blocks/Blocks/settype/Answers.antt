@@ -2,7 +2,7 @@ use Rattle.std.proofs.Common.{sym, ap, ◌∙◌}
 use Rattle.strm_data.specs.CountedStore.{CountedStore}
 use Rattle.strm_data.specs.DataStore.{with_kind}
 use Rattle.strm_mblk.specs.Arena.{Arena}
-use Rattle.strm_mblk.specs.BlocksLayout.{arena_of, block_of_found}
+use Rattle.strm_mblk.specs.BlocksLayout.{arena_of}
 use Rattle.strm_mblk.specs.Given.{answer_map}
 use Rattle.strm_mblk.proofs.arena.Calls.{alters_store}
 use Rattle.strm_mblk.proofs.arena.Frame.{other_data}

@@ -13,7 +13,7 @@ returns-then-head-node_count c = sym (none (shelf_of c.args.self.now c.args.head
     none : (o : Option ℕ) → shelf_of c.args.self.now c.args.head ≡ o → o ≡ None
     none None is = refl
     none (Some shelf) is =
-        let there = (is_head c.self.inside.id c.self.inside.data c.self.inside.chains.loads c.self.inside.chains.lists c.self.invariant.filled c.self.view_is c.args.head (ap is_some is)).there in
+        let there = (is_head c.self.invariant.filled c.self.view_is c.args.head (ap is_some is)).there in
         absurd (omega (arith, there, c.if-head-node_count.true, c.node_count.ensures))
 
 pub returns : goal.returns

@@ -1,4 +1,4 @@
-use Rattle.std.proofs.Common.{◌≡◌, ℕ, ◌<◌, IfSome, None, Ok, Option, Some, arith, length, ap, sym, subst, ◌∙◌}
+use Rattle.std.proofs.Common.{◌≡◌, ℕ, Ok, Option, Some, arith, ap, sym, ◌∙◌}
 use Rattle.std.specs.Prelude.{ok_or, option_map, slice_get}
 use Rattle.std.proofs.lemmas.Option.{slice_get-map}
 use Rattle.strm_data.specs.declared.refusal.Refusal.TheVariants.{NoSuchBlock}
@@ -16,7 +16,7 @@ use Rattle.strm_mblk.proofs.blocks.Blocks.shelved_bytes.Goals as goal
 
 module _ (c : After-finds_chains) where
   head : IsHead c.self.inside.data c.self.inside.chains.loads c.self.inside.chains.lists c.args.self.now c.args.head
-  head = is_head c.self.inside.id c.self.inside.data c.self.inside.chains.loads c.self.inside.chains.lists c.self.invariant.filled c.self.view_is c.args.head c.requires
+  head = is_head c.self.invariant.filled c.self.view_is c.args.head c.requires
 
   chain_is : chain_of c.self.inside.chains.lists c.args.head ≡ head.nodes
   chain_is = c.finds_chains.ensures.shelved head.shelf head.place c.args.head (ap (λ ns. slice_get ns 0) head.at ∙ head.begins) ∙ head.at

@@ -22,7 +22,7 @@ loop-block-init c = record {
 
 is_at : (c : In-loop-block) → IsAt c.self.inside.data c.self.inside.chains.loads c.self.inside.chains.lists c.args.self.now c.args.token.now.head c.loop-block._block c.loop-block.node (nodes_at c.self.inside.chains.lists c.args.token.now.head)
 is_at c =
-    block_reached c.self.inside.id c.self.inside.data c.self.inside.chains.loads c.self.inside.chains.lists c.self.invariant.filled c.args.self.now c.self.view_is c.args.token.now.head c.loop-block._block
+    block_reached c.self.invariant.filled c.self.view_is c.args.token.now.head c.loop-block._block
     c.args.token.now refl c.requires c.loop-block.invariant.at (omega (arith, c.loop-block-test.true, c.blocks-block-end.ensures))
 
 pub fields_at-fields-requires : goal.fields_at-fields-requires

@@ -74,7 +74,7 @@ returns-in_err-rest c =
     let lists = c.divide.ensures.after ∙ ap (λ held. record i.chains.lists { held = held }) (alone (λ n. n) c.head.result (nodes_at i.chains.lists c.head.result) i.chains.lists.held none) in
     let same : arena_of i.id i.data.store c.divide.new.self.loads c.divide.new.self.lists ≡ a = (λ j. arena_of i.id i.data.store (c.divide.ensures.loads j) (lists j)) ∙ c.self.view_is in
     let single : slice_get (message_at a t.head) 1 ≡ None =
-    block_none i.id i.data i.chains.loads i.chains.lists c.self.invariant.filled a c.self.view_is t.head 1 (ap (λ h. slice_get (nodes_at i.chains.lists h) 1) (sym c.head.ensures) ∙ none) in
+    block_none c.self.invariant.filled c.self.view_is t.head 1 (ap (λ h. slice_get (nodes_at i.chains.lists h) 1) (sym c.head.ensures) ∙ none) in
     let call : unlinkb t.head a ≡ (None, a) = λ j. (none_given (message_at a t.head) single j, record a { held = alone (λ (b : Block). b.number) t.head (message_at a t.head) a.held single j }) in
     subst (λ b. Unlinks itself t t (Ok (unlinkb t.head a)) a b (Ok c.from_residual.result)) (sym same) (record {
       after = sym (ap (λ (p : Option ℕ × Arena). p.1) call);

@@ -17,7 +17,7 @@ loop-done-init c =
     record {
       at =
           subst (λ k. IsReached c.self.inside.chains.lists c.args.token.now.head k c.unwrap_or-node.result) start
-          (starts_at c.self.inside.id c.self.inside.data c.self.inside.chains.loads c.self.inside.chains.lists c.self.invariant.filled c.args.self.now c.self.view_is c.args.token.now.head c.args.from
+          (starts_at c.self.invariant.filled c.self.view_is c.args.token.now.head c.args.from
           c.args.token.now refl c.requires 4294967295
           (c.unwrap_or-node.ensures ∙ ap (λ o. unwrap_or o 4294967295) (c.node_at.ensures.value ∙ ap (λ h. slice_get (nodes_at c.self.inside.chains.lists h) c.args.from) c.head.ensures)));
       told = refl;
@@ -30,7 +30,7 @@ module _ (c : In-loop-done) where
   -- the block at this step
   is_at : IsAt c.self.inside.data c.self.inside.chains.loads c.self.inside.chains.lists c.args.self.now c.args.token.now.head (c.args.from + c.loop-done.done) c.loop-done.node (nodes_at c.self.inside.chains.lists c.args.token.now.head)
   is_at =
-      block_reached c.self.inside.id c.self.inside.data c.self.inside.chains.loads c.self.inside.chains.lists c.self.invariant.filled c.args.self.now c.self.view_is c.args.token.now.head (c.args.from + c.loop-done.done)
+      block_reached c.self.invariant.filled c.self.view_is c.args.token.now.head (c.args.from + c.loop-done.done)
       c.args.token.now refl c.requires c.loop-done.invariant.at few
 
 pub fields_at-requires : goal.fields_at-requires

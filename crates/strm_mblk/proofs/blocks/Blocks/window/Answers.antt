@@ -5,7 +5,7 @@ use Rattle.strm_data.specs.DataStore.{bytes_at, data_block_at, with_bytes_writte
 use Rattle.strm_mblk.specs.BlockCalls.{with_bytes}
 use Rattle.strm_mblk.specs.BlocksLayout.{block_of_found}
 use Rattle.strm_mblk.specs.Given.{answer_map}
-use Rattle.strm_mblk.specs.InPlace.{bytes_of_window, window}
+use Rattle.strm_mblk.specs.InPlace.{window}
 use Rattle.strm_mblk.proofs.arena.Calls.{alters_store, lends}
 use Rattle.strm_mblk.proofs.arena.Frame.{other_data}
 use Rattle.strm_mblk.proofs.blocks.Blocks.window.Goals as goal

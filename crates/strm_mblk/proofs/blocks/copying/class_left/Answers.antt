@@ -6,7 +6,7 @@ use Rattle.std.proofs.lemmas.Grind.{common_steps}
 
 -- what `class_info` returns at this step
 tells : (c : In-Some) → IsTold c.args.stored.now.store c.loop-class.class c.in-Some.info
-tells c = told c.args.stored.now c.requires c.loop-class.class (sym c.class_info.ensures.answer ∙ c.in-Some.is)
+tells c = told c.requires c.loop-class.class (sym c.class_info.ensures.answer ∙ c.in-Some.is)
 
 pub returns-in_default-clause-first : goal.returns-in_default-clause-first
 returns-in_default-clause-first c k _ is = grind (arith, common_steps, untold)

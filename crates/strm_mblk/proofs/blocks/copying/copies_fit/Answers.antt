@@ -85,7 +85,7 @@ module _ (c : After-class_left) where
   -- no class serves
   refused : ((k : ℕ) → IsLeft c.cap-size.result c.args.stored.now.store.classes c.loop-block.left k → ⊥) → blocks_copied o bs c.args.stored.now.store ≡ Err NoData
   refused none =
-      none_ahead o bs c.loop-block._block c.args.stored.now c.loop-block.invariant.ahead.0 c.loop-block.left c.loop-block.invariant.ahead.1 b next here.0 here.1
+      none_ahead c.loop-block.invariant.ahead.1 b next here.0 here.1
       (λ k is. none k (subst (λ n. IsLeft n c.args.stored.now.store.classes c.loop-block.left k) (sym size_is) is))
 
 pub returns-in_default-clause-fit : goal.returns-in_default-clause-fit
@@ -102,7 +102,7 @@ loop-block-preserved c =
       len = length-set c.loop-block.left c.from.result _ ∙ c.loop-block.invariant.len;
       ahead =
           subst (λ j. (t : CountedStore) × IsAhead (o before) (bs before) (c.loop-block._block + 1) c.args.stored.now t (set c.loop-block.left j (get_or c.loop-block.left j 0 - 1))) (sym c.from.ensures)
-          (next_ahead (o before) (bs before) c.loop-block._block c.args.stored.now c.loop-block.invariant.ahead.0 c.loop-block.left c.loop-block.invariant.ahead.1 (b before) (next before) (here before).0 (here before).1
+          (next_ahead c.loop-block.invariant.ahead.1 (b before) (next before) (here before).0 (here before).1
           c.in-Some.class (sized c.in-Some.class c.in-Some.ensures.found)
           (λ k below is. c.in-Some.ensures.first k below (subst (λ n. IsLeft n c.args.stored.now.store.classes c.loop-block.left k) (sym (size_is before)) is)));
     }

@@ -16,7 +16,7 @@ names fields ns count = take count (data_used_by fields ns)
 
 -- a block of the message uses one of them
 at_block : (fields : List Fields) (ns : List ℕ) (count i : ℕ) {n : ℕ} → i < count → slice_get ns i ≡ Some n → slice_get (names fields ns count) i ≡ Some (fields_at fields n).data_number
-at_block fields ns count i {n} within is = slice_get-take count i _ within ∙ named-get fields ns i is
+at_block fields ns count i within is = slice_get-take count i _ within ∙ named-get fields ns i is
 
 -- ---- the first block
 

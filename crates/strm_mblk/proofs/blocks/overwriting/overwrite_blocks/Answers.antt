@@ -5,7 +5,7 @@ use Rattle.std.proofs.lemmas.Option.{slice_get-map}
 use Rattle.strm_data.specs.CountedStore.{CountedStore}
 use Rattle.strm_data.specs.DataStore.{capacity_of, with_bytes_written}
 use Rattle.strm_mblk.specs.Block.{Message}
-use Rattle.strm_mblk.specs.BlocksLayout.{IsPlaced, block_at, fields_at, message_of, block_of}
+use Rattle.strm_mblk.specs.BlocksLayout.{IsPlaced, block_at, message_of, block_of}
 use Rattle.strm_mblk.specs.InPlace.{bytes_within, store_overwritten}
 use Rattle.strm_links.specs.ChainLists.{nodes_at}
 use Rattle.strm_mblk.proofs.Altering.{overwritten_next, overwritten_nothing, written_within}

@@ -3,7 +3,7 @@ use Rattle.std.proofs.lemmas.Option.{slice_get-map}
 use Rattle.std.specs.Prelude.{option_map, slice_get}
 use Rattle.strm_data.specs.DataStore.{times}
 use Rattle.strm_mblk.specs.declared.blocks.Fields.{Fields}
-use Rattle.strm_mblk.specs.BlocksLayout.{block_at, fields_at, message_of, data_used_by, block_of, IsPlaced}
+use Rattle.strm_mblk.specs.BlocksLayout.{block_at, fields_at, data_used_by, block_of, IsPlaced}
 use Rattle.strm_links.specs.ChainLists.{nodes_at}
 use Rattle.strm_mblk.proofs.pulling.FrontPulled.{next_copied}
 use Rattle.strm_mblk.proofs.Lists.{times_at}
@@ -26,7 +26,7 @@ loop-block-preserved c =
     record {
       at = c.onward-node.ensures c.args.head k c.loop-block.invariant.at;
       copied =
-          next_copied c.args.stored.now (message_of blocks ns) c.args.into c.args.count c.loop-block.invariant.copied c.requires.enough c.requires.there
+          next_copied c.loop-block.invariant.copied c.requires.enough c.requires.there
           n (slice_get-map (block_at blocks) ns k ∙ ap (option_map (block_at blocks)) at ∙ ap (λ f. Some (block_of n f)) (sym c.fields_at-fields.ensures))
           (subst (IsPlaced c.args.stored.now.store) (sym c.fields_at-fields.ensures) (c.requires.placed n there)) (subst (λ (f : Fields). f.data_number ≢ c.args.into) (sym c.fields_at-fields.ensures) (apart c.args.into blocks ns k c.requires.unnamed at)) c.min-len.ensures c.copy.ensures.after;
       kept = c.copy.ensures.kept;

@@ -15,7 +15,7 @@ use Rattle.strm_mblk.proofs.blocks.reading.sum_of_lengths.Goals.{After-unwrap_or
 -- the sum from block k on is its length, and that of the blocks after it
 adds : (data_alone : Bool) (s : DataStore) (fields : List Fields) (ns : List ℕ) (k : ℕ) {n : ℕ} → slice_get ns k ≡ Some n → {len : ℕ} → len ≡ len_counted data_alone s (block_at fields n)
     → sum_by (len_counted data_alone s) (drop k (message_of fields ns)) ≡ len + sum_by (len_counted data_alone s) (drop (k + 1) (message_of fields ns))
-adds data_alone s fields ns k {n} at is =
+adds data_alone s fields ns k at is =
     sum_from (len_counted data_alone s) (message_of fields ns) k (slice_get-map (block_at fields) ns k ∙ ap (option_map (block_at fields)) at)
     ∙ ap (λ j. j + sum_by (len_counted data_alone s) (drop (k + 1) (message_of fields ns))) (sym is)
 

@@ -29,7 +29,7 @@ pub returns-then-ne : goal.returns-then-ne
 unfolding same_kind
 returns-then-ne c =
     let inv = c.loop-block.invariant in
-    other_measured c.args.from_tail c.args.stored.now.store c.args.chains.now.loads (nodes_at c.args.chains.now.lists c.args.head) c.loop-block.block inv.measured
+    other_measured c.args.from_tail c.args.stored.now.store c.args.chains.now.loads (nodes_at c.args.chains.now.lists c.args.head) inv.measured
     (here (goal.at.returns-then-ne c).In-loop-block) c.if-not-from_tail.true (not-true _ (sym (c.ne.ensures ∙ ap (λ k. not (same_kind k c.loop-block.run.kind)) (c.kind-kind.ensures ∙ ap (λ (f : Fields). (data_block_at c.args.stored.now.store f.data_number).kind) c.fields_at-fields.ensures)) ∙ c.if-ne.true))
 
 pub with-run-requires : goal.with-run-requires
@@ -53,5 +53,5 @@ loop-block-preserved c =
       at = c.onward-node.ensures c.args.head c.loop-block.block inv.at;
       measured =
           subst (IsMeasured c.args.from_tail s c.args.chains.now.loads ns (c.loop-block.block + 1)) (sym (c.with-run.ensures ∙ (λ i. run_with c.loop-block.node (c.requires.count i - c.loop-block.block) (kind i) (c.fields_at-fields.ensures i).len c.loop-block.run)))
-          (next_measured c.args.from_tail s c.args.chains.now.loads ns c.loop-block.block inv.measured (here (goal.at.loop-block-preserved c).In-loop-block) goes);
+          (next_measured c.args.from_tail s c.args.chains.now.loads ns inv.measured (here (goal.at.loop-block-preserved c).In-loop-block) goes);
     }
