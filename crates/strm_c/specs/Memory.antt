@@ -17,7 +17,7 @@ bytes_of_class c = 24 + in_lines (c.count * c.size) + c.count * 16
 
 -- the bytes for a pool: for itself, each message block, each queue, and its size classes
 abbrev pub bytes_of : Config → ℕ
-bytes_of c = 820 + 56 * c.mblks + 5288 * length c.queues + sum_by bytes_of_class c.classes
+bytes_of c = 820 + 48 * c.mblks + 5288 * length c.queues + sum_by bytes_of_class c.classes
 
 -- the same, or the configuration's first fault
 abbrev pub bytes_or_fault : Config → Option Which → Answer ℕ

@@ -15,7 +15,7 @@ use strm_pool::{ClassSpec, Config};
 // The bytes for a pool itself, and for each message block, queue, and, beside its own bytes, size class and data block.
 const POOL: usize = 820;
 
-const MESSAGE_BLOCK: usize = 56;
+const MESSAGE_BLOCK: usize = 48;
 
 const QUEUE: usize = 5288;
 

@@ -265,6 +265,16 @@ impl<T> Chained<T> {
         self.least = self.free_len;
     }
 
+    /// Says whether a held chain begins with this node. Changes nothing.
+    #[inline(always)]
+    pub fn is_held(&self, head: u32) -> bool
+        requires { head < length self.now.lists.held }
+        ensures { result ≡ is_some (chain_in self.now.lists.held head) }
+    {
+        let node = &self.table.nodes[head as usize];
+        node.link.span.len > 0 && node.place.list.get().is_none()
+    }
+
     /// Says whether a held chain of this many nodes, one at least, begins with this node. Changes nothing.
     #[inline(always)]
     pub fn holds(&self, head: u32, len: u32) -> bool

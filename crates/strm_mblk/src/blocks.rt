@@ -1,5 +1,5 @@
 //! Message blocks by number, the messages that they make, and the calls on them.
-ghost use Rattle.std.specs.Prelude.{◌≡◌, ℕ, ◌+◌, ◌-◌, ◌^◌, ◌<◌, ◌≤◌, IfErr, IfOk, IfSome, IsSome, IsTrue, Err, Ok, Some, None, is_some, length, option_copied, slice_get};
+ghost use Rattle.std.specs.Prelude.{◌≡◌, ℕ, ◌+◌, ◌-◌, ◌^◌, ◌<◌, ◌≤◌, ◌==◌, ◌&&◌, IfErr, IfOk, IfSome, IsSome, IsTrue, Err, Ok, Some, None, is_some, length, option_copied, slice_get};
 ghost use Rattle.std.specs.List.{All};
 ghost use Rattle.strm_data.specs.Classes.{are_lawful, fits_a_class};
 ghost use Rattle.strm_data.specs.DataStore.{class_infos, class_region};
@@ -211,6 +211,24 @@ impl Blocks {
         token.pool() == self.id
             && (head as usize) < self.chains.node_count()
             && self.chains.holds(head, token.blocks())
+    }
+
+    /// Returns the id that these blocks' tokens carry. Changes nothing.
+    #[inline(always)]
+    pub fn id(&self) -> u32
+        ensures { result ≡ self.now.id }
+    {
+        self.id
+    }
+
+    /// Says whether these blocks have this id, and hold a message with this head; a message on a shelf is not held. This is for
+    /// callers that keep heads instead of tokens: they ask it before they make a token with `token`. Any two numbers will do.
+    /// Takes constant time. Changes nothing.
+    #[inline(always)]
+    pub fn is_held(&self, pool: u32, head: u32) -> bool
+        ensures { result ≡ (pool == self.now.id && is_some (held_at self.now head)) }
+    {
+        pool == self.id && (head as usize) < self.chains.node_count() && self.chains.is_held(head)
     }
 
     /// Returns a class's size and numbers of data blocks, as [`Data::class_info`] of strm_data. Changes nothing.

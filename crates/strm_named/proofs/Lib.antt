@@ -1,4 +1,4 @@
-mod Fitted
+mod Held
 mod Renamed
 mod Shaped
 mod Taken

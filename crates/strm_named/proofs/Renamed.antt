@@ -6,13 +6,17 @@ use Rattle.strm_links.specs.Rows.{IsApart}
 use Rattle.strm_links.specs.Rows as rows
 use Rattle.strm_mblk.specs.Arena.{held_at}
 use Rattle.strm_named.specs.NamedValue.{NamedValue, Renames, stamp_after, stamp_at, stamps_given}
-use Rattle.strm_named.proofs.Fitted.{Turns, within_some}
+use Rattle.strm_named.proofs.Held.{Turns, within_some}
 
 -- ---- stamps
 
 -- a stamp that was raised is another
 raised-other : (n : ℕ) → stamp_after n ≡ n → ⊥
 raised-other n same = omega arith
+
+pub length-stamps_given : (hs stamps : List ℕ) → length (stamps_given hs stamps) ≡ length stamps
+length-stamps_given [] stamps = refl
+length-stamps_given (h ∷ hs) stamps = length-stamps_given hs (set stamps h (stamp_after (get_or stamps h 0))) ∙ length-set stamps h (stamp_after (get_or stamps h 0))
 
 -- the stamps of other heads stay
 pub stamps_other : (hs stamps : List ℕ) (h : ℕ) → rows.has h hs ≡ false → get_or (stamps_given hs stamps) h 0 ≡ get_or stamps h 0

@@ -1,8 +1,7 @@
 -- The shapes of calls: what a call of the pool does to tokens, that of the named pool does to names.
-use Rattle.std.proofs.Common.{◌≡◌, ◌≢◌, ℕ, Bool, true, false, ◌&&◌, ◌==◌, List, [], ◌∷◌, ◌++◌, get_or-set_other, Option, Some, None, Result, Ok, Err, refl, sym, ap, ◌∙◌, subst, if◌then◌else◌}
+use Rattle.std.proofs.Common.{◌≡◌, ◌≢◌, ℕ, Bool, true, false, ◌&&◌, ◌==◌, List, [], ◌∷◌, ◌++◌, length, Option, Some, None, Result, Ok, Err, refl, sym, ap, ◌∙◌, subst, if◌then◌else◌}
 use Rattle.std.specs.Prelude.{is_some, not, option_map}
 use Rattle.std.proofs.lemmas.Bool.{and_parts, cond-true, eq-eqb, false≢true, ne_eqb, or_from}
-use Rattle.std.proofs.lemmas.List.{length-map}
 use Rattle.strm_data.specs.declared.refusal.Refusal.{Refusal}
 use Rattle.strm_links.specs.Rows as rows
 use Rattle.strm_mblk.specs.declared.rejected.Rejected.{Rejected}
@@ -12,30 +11,29 @@ use Rattle.strm_mblk.specs.Calls.{Alters, Flushes, Frees, Gives, Joins, Lends, P
 use Rattle.strm_mblk.specs.Given.{Given, answer_of, given_nothing, value_after, without_token}
 use Rattle.strm_mblk.proofs.arena.Counts.{had_message}
 use Rattle.strm_pool.specs.PoolValue.{PoolValue, arena}
-use Rattle.strm_pool.proofs.Tokens.{Each, Moves, err_not_ok, heads_of, moves_beside, moves_gone, moves_joined, moves_new, moves_none, moves_parted, moves_rest, moves_stay, lone, moves_swapped, same_err, same_ok, same_some, some_not_none}
+use Rattle.strm_pool.proofs.Tokens.{Moves, err_not_ok, heads_of, moves_beside, moves_gone, moves_joined, moves_new, moves_none, moves_parted, moves_rest, moves_stay, lone, moves_swapped, same_err, same_ok, same_some, some_not_none}
 use Rattle.strm_named.specs.declared.fault.Fault.{Fault}
 use Rattle.strm_named.specs.declared.fault.Fault.TheVariants.{Invalid, Refused}
 use Rattle.strm_named.specs.declared.name.Name.{Name}
-use Rattle.strm_named.specs.declared.records.NameRecord.{NameRecord}
 use Rattle.strm_named.specs.NamedCalls.{as_named_result, asked, on_name, on_names, Does, LeavesNames, LendsNamed, Outcome, Shape, any_message, one_message, outcome_of, no_message, result_map, two_messages}
-use Rattle.strm_named.specs.NamedLayout.{Fits, pool_with, stamps_in}
-use Rattle.strm_named.specs.NamedValue.{NamedValue, Renames, is_valid, name_of, stamp_after, stamp_at, stamps_given, with_pool}
-use Rattle.strm_named.specs.Records.{IsTokenOf, key_of, name_in, no_record, parted_in, record_at, token_answered, tokens_answered, tokens_in, with_given, with_parted, with_put, with_tokens, without_key}
-use Rattle.strm_named.proofs.Fitted.{fits_turned, stamp_is, stamps_after, turns, without_keys}
-use Rattle.strm_named.proofs.Renamed.{renames}
+use Rattle.strm_named.specs.NamedLayout.{Fits, pool_with}
+use Rattle.strm_named.specs.NamedValue.{NamedValue, Renames, is_valid, name_of, stamp_at, stamps_given, with_pool}
+use Rattle.strm_named.specs.Stamps.{IsTokenOf, name_in, parted_in, token_answered, tokens_answered, tokens_in, tokens_parted, with_tokens}
+use Rattle.strm_named.proofs.Held.{turns}
+use Rattle.strm_named.proofs.Renamed.{length-stamps_given, renames, stamps_other}
 
--- A call was made: records and message blocks fit together again, and it does what its definition says.
-pub record Called {X Y : Type 0} (s : Shape X Y) (outcome : Outcome X) (spent : List ℕ) (v : NamedValue) (r : PoolValue) (qs : List NameRecord) (answer : Result Y Fault) : Type 0 where
+-- A call was made: there is a stamp for each message block again, and it does what its definition says.
+pub record Called {X Y : Type 0} (s : Shape X Y) (outcome : Outcome X) (spent : List ℕ) (v : NamedValue) (r : PoolValue) (qs : List ℕ) (answer : Result Y Fault) : Type 0 where
   pub fits : Fits r.arena qs
   pub does : Does s outcome spent v (pool_with r qs) answer
 
 -- a call as the value of the named pool says it
-pub seen : {X Y : Type 0} {s : Shape X Y} {spent : List ℕ} {u v : NamedValue} {r : PoolValue} {qs : List NameRecord} {answer : Result Y Fault} (call : NamedValue → Given PoolValue X)
+pub seen : {X Y : Type 0} {s : Shape X Y} {spent : List ℕ} {u v : NamedValue} {r : PoolValue} {qs : List ℕ} {answer : Result Y Fault} (call : NamedValue → Given PoolValue X)
     → u ≡ v → Called s (outcome_of (call u)) spent u r qs answer → Called s (outcome_of (call v)) spent v r qs answer
 seen {X} {Y} {s} {spent} {u} {v} {r} {qs} {answer} call view is = subst (λ x. Called s (outcome_of (call x)) spent x r qs answer) view is
 
 -- and on one name or two that pass the test
-pub tested : {X Y : Type 0} {s : Shape X Y} {valid : Bool} {spent : List ℕ} {v : NamedValue} {r : PoolValue} {qs : List NameRecord} {answer : Result Y Fault} {outcome : Outcome X}
+pub tested : {X Y : Type 0} {s : Shape X Y} {valid : Bool} {spent : List ℕ} {v : NamedValue} {r : PoolValue} {qs : List ℕ} {answer : Result Y Fault} {outcome : Outcome X}
     → valid ≡ true → Called s outcome spent v r qs answer → Called s (if valid then outcome else Err Invalid) spent v r qs answer
 tested {X} {Y} {s} {valid} {spent} {v} {r} {qs} {answer} {outcome} valid_is is = subst (λ (o : Outcome X). Called s o spent v r qs answer) (sym (cond-true valid outcome (Err Invalid) valid_is)) is
 
@@ -44,39 +42,37 @@ pub here : {u v : NamedValue} {n : Name} {t : TokenValue} → u ≡ v → IsToke
 here {n} {t} view of = subst (λ (x : NamedValue). IsTokenOf n x.pool.arena t) (sym view) of
 
 -- the name of a token that the pool has
-name_is : (r : PoolValue) (qs : List NameRecord) (t : TokenValue) → has r.arena t ≡ true → name_in qs t ≡ name_of (pool_with r qs) t.head
-name_is r qs t had = λ i. record { pool = (had_message r.arena t had).1.pool i; head = t.head; stamp = sym (stamp_is r qs t.head) i }
+name_is : (r : PoolValue) (qs : List ℕ) (t : TokenValue) → has r.arena t ≡ true → name_in qs t ≡ name_of (pool_with r qs) t.head
+name_is r qs t had = λ i. record { pool = (had_message r.arena t had).1.pool i; head = t.head; stamp = stamp_at (pool_with r qs) t.head }
 
-module _ (p r : PoolValue) (ps qs : List NameRecord) (fits : Fits p.arena ps) where
+module _ (p r : PoolValue) (ps qs : List ℕ) (fits : Fits p.arena ps) where
   -- It was done, and messages moved: of the heads before, some stay and some are spent; of those afterwards, some stay and those of
   -- some tokens are given.
   pub made : {X Y : Type 0} (s : Shape X Y) {outcome : Outcome X} {answer : Result Y Fault} (x : X) (kept spent : List ℕ) (ts : List TokenValue) {before after : List TokenValue} → Moves p.arena r.arena before after
       → heads_of before ≡ kept ++ spent → heads_of after ≡ kept ++ heads_of ts → ((h : ℕ) → rows.has h spent ≡ true → rows.has h kept ≡ false) → heads_of ts ≡ s.heads x
-      → Each (λ (t : TokenValue). has r.arena t ≡ true) ts → outcome ≡ Ok (x, r) → qs ≡ with_tokens ts (without_keys spent ps) → answer ≡ Ok (s.told (pool_with r qs) x)
-      → Called s outcome spent (pool_with p ps) r qs answer
-  made {X} s {outcome} {answer} x kept spent ts moves were are other heads had is records told =
-      let turned = turns kept spent (heads_of ts) moves were are other in
-      let stamps : stamps_in qs ≡ stamps_given (s.heads x) (stamps_in ps) = ap stamps_in records ∙ stamps_after spent ts ps ∙ ap (λ hs. stamps_given hs (stamps_in ps)) heads in
+      → outcome ≡ Ok (x, r) → qs ≡ with_tokens ts ps → answer ≡ Ok (s.told (pool_with r qs) x) → Called s outcome spent (pool_with p ps) r qs answer
+  made {X} s {outcome} {answer} x kept spent ts moves were are other heads is stamps told =
+      let given : qs ≡ stamps_given (s.heads x) ps = stamps ∙ ap (λ hs. stamps_given hs ps) heads in
       record {
-        fits = fits_turned ts fits turned had records;
+        fits = ap length stamps ∙ length-stamps_given (heads_of ts) ps ∙ fits ∙ sym moves.size;
         does =
             subst (λ (o : Outcome X). Does s o spent (pool_with p ps) (pool_with r qs) answer) (sym is)
             (let d : Does s (Ok (x, r)) spent (pool_with p ps) (pool_with r qs) answer = record {
-              after = λ i. let w : NamedValue = record { pool = r; stamps = stamps i } in w;
+              after = ap (pool_with r) given;
               told = told;
               names = subst (λ hs. let o : Outcome X = Ok (x, r) in Renames spent hs (pool_with p ps) (pool_with r qs)) heads
-                  (renames (pool_with p ps) (pool_with r qs) spent (heads_of ts) turned (ap stamps_in records ∙ stamps_after spent ts ps) (length-map ps (λ (n : NameRecord). n.stamp) ∙ fits.size));
+                  (renames (pool_with p ps) (pool_with r qs) spent (heads_of ts) (turns kept spent (heads_of ts) moves were are other) stamps fits);
             } in d);
       }
 
   -- it was refused
   pub refused : {X Y : Type 0} (s : Shape X Y) {answer : Result Y Fault} {spent : List ℕ} {fault : Fault} → r ≡ p → qs ≡ ps → answer ≡ Err fault → Called s (Err fault) spent (pool_with p ps) r qs answer
   refused s same kept told = record {
-    fits = subst (λ (x : PoolValue). Fits x.arena qs) (sym same) (subst (Fits p.arena) (sym kept) fits);
+    fits = ap length kept ∙ fits ∙ ap (λ (x : PoolValue). length x.arena.held) (sym same);
     does = record { after = λ i. pool_with (same i) (kept i); told = told; names = tt };
   }
 
-module _ {p r : PoolValue} {ps qs : List NameRecord} (fits : Fits p.arena ps) where
+module _ {p r : PoolValue} {ps qs : List ℕ} (fits : Fits p.arena ps) where
   -- ---- a message is given, and no name is spent
 
   pub gives_one : {g : Given PoolValue ℕ} {given : Result TokenValue Refusal} {answer : Result Name Fault} → Takes arena g p r given → qs ≡ with_tokens (token_answered given) ps
@@ -85,14 +81,14 @@ module _ {p r : PoolValue} {ps qs : List NameRecord} (fits : Fits p.arena ps) wh
     where
       each : (g : Given PoolValue ℕ) (given : Result TokenValue Refusal) → Takes arena g p r given → qs ≡ with_tokens (token_answered given) ps → answer ≡ result_map (name_in qs) (as_named_result given)
           → Called one_message (outcome_of g) [] (pool_with p ps) r qs answer
-      each (Ok (n, u)) (Ok t) is records told =
+      each (Ok (n, u)) (Ok t) is stamps told =
           let head : n ≡ t.head = sym (ap (λ (y : TokenValue). y.head) (same_ok is.token)) in
           let pool : u ≡ r = sym is.after in
-          made p r ps qs fits one_message t.head [] [] (t ∷ []) (moves_new is.had is.unheld is.others) refl refl (λ h none. refl) refl (is.had, tt) (λ i. Ok (head i, pool i)) records
+          made p r ps qs fits one_message t.head [] [] (t ∷ []) (moves_new is.had is.unheld is.others) refl refl (λ h none. refl) refl (λ i. Ok (head i, pool i)) stamps
           (told ∙ ap (λ (n : Name). Ok n) (name_is r qs t is.had))
-      each (Ok given) (Err why) is records told = absurd (err_not_ok is.token)
-      each (Err why) (Ok t) is records told = absurd (err_not_ok (sym is.token))
-      each (Err why) (Err other) is records told = refused p r ps qs fits one_message is.after records (told ∙ ap (λ (w : Refusal). Err (Refused w)) (same_err is.token))
+      each (Ok given) (Err why) is stamps told = absurd (err_not_ok is.token)
+      each (Err why) (Ok t) is stamps told = absurd (err_not_ok (sym is.token))
+      each (Err why) (Err other) is stamps told = refused p r ps qs fits one_message is.after stamps (told ∙ ap (λ (w : Refusal). Err (Refused w)) (same_err is.token))
 
   -- one, if there is one
   pub gives_any : {g : Given PoolValue (Option ℕ)} {given : Result (Option TokenValue) Refusal} {answer : Result (Option Name) Fault} → TakesAny arena g p r given → qs ≡ with_tokens (tokens_answered given) ps
@@ -101,24 +97,24 @@ module _ {p r : PoolValue} {ps qs : List NameRecord} (fits : Fits p.arena ps) wh
     where
       each : (g : Given PoolValue (Option ℕ)) (given : Result (Option TokenValue) Refusal) → TakesAny arena g p r given → qs ≡ with_tokens (tokens_answered given) ps
           → answer ≡ result_map (option_map (name_in qs)) (as_named_result given) → Called any_message (outcome_of g) [] (pool_with p ps) r qs answer
-      each (Ok (Some n, u)) (Ok (Some t)) is records told =
+      each (Ok (Some n, u)) (Ok (Some t)) is stamps told =
           let head : n ≡ t.head = sym (ap (λ (y : TokenValue). y.head) (same_some (same_ok is.token))) in
           let pool : u ≡ r = sym is.after in
-          made p r ps qs fits any_message (Some t.head) [] [] (t ∷ []) (moves_new is.had is.unheld is.others) refl refl (λ h none. refl) refl (is.had, tt) (λ i. Ok (Some (head i), pool i)) records
+          made p r ps qs fits any_message (Some t.head) [] [] (t ∷ []) (moves_new is.had is.unheld is.others) refl refl (λ h none. refl) refl (λ i. Ok (Some (head i), pool i)) stamps
           (told ∙ ap (λ (n : Name). Ok (Some n)) (name_is r qs t is.had))
-      each (Ok (Some n, u)) (Ok None) is records told = absurd (some_not_none (sym (same_ok is.token)))
-      each (Ok (None, u)) (Ok (Some t)) is records told = absurd (some_not_none (same_ok is.token))
-      each (Ok (None, u)) (Ok None) is records told =
+      each (Ok (Some n, u)) (Ok None) is stamps told = absurd (some_not_none (sym (same_ok is.token)))
+      each (Ok (None, u)) (Ok (Some t)) is stamps told = absurd (some_not_none (same_ok is.token))
+      each (Ok (None, u)) (Ok None) is stamps told =
           let pool : u ≡ r = sym is.after in
-          made p r ps qs fits any_message None [] [] [] (moves_none is.others) refl refl (λ h none. refl) refl tt (λ i. Ok (None, pool i)) records told
-      each (Ok given) (Err why) is records told = absurd (err_not_ok is.token)
-      each (Err why) (Ok t) is records told = absurd (err_not_ok (sym is.token))
-      each (Err why) (Err other) is records told = refused p r ps qs fits any_message is.after records (told ∙ ap (λ (w : Refusal). Err (Refused w)) (same_err is.token))
+          made p r ps qs fits any_message None [] [] [] (moves_none is.others) refl refl (λ h none. refl) refl (λ i. Ok (None, pool i)) stamps told
+      each (Ok given) (Err why) is stamps told = absurd (err_not_ok is.token)
+      each (Err why) (Ok t) is stamps told = absurd (err_not_ok (sym is.token))
+      each (Err why) (Err other) is stamps told = refused p r ps qs fits any_message is.after stamps (told ∙ ap (λ (w : Refusal). Err (Refused w)) (same_err is.token))
 
   -- a new one
   pub gives_new : {source : Option TokenValue} {g : Given PoolValue ℕ} {given : Result TokenValue Refusal} {answer : Result Name Fault} → Gives arena source g p r given → qs ≡ with_tokens (token_answered given) ps
       → answer ≡ result_map (name_in qs) (as_named_result given) → Called one_message (outcome_of g) [] (pool_with p ps) r qs answer
-  gives_new is records told = gives_one (record { after = is.after; token = is.token; had = is.had; unheld = is.unheld; others = is.others }) records told
+  gives_new is stamps told = gives_one (record { after = is.after; token = is.token; had = is.had; unheld = is.unheld; others = is.others }) stamps told
 
   -- ---- the message of a valid name
 
@@ -132,12 +128,12 @@ module _ {p r : PoolValue} {ps qs : List NameRecord} (fits : Fits p.arena ps) wh
     -- stays, and another message is given
     pub gives_beside : {source : Option TokenValue} (call : ℕ → NamedValue → Given PoolValue ℕ) {given : Result TokenValue Refusal} {answer : Result Name Fault} → Gives arena source (call t.head (pool_with p ps)) p r given
         → qs ≡ with_tokens (token_answered given) ps → answer ≡ result_map (name_in qs) (as_named_result given) → Called one_message (on_name v n (call n.head v)) [] v r qs answer
-    gives_beside call is records told = named (λ h. []) call (gives_new is records told)
+    gives_beside call is stamps told = named (λ h. []) call (gives_new is stamps told)
 
     -- a message is altered, and its token may have another number of blocks
     pub alters : {X : Type 0} (call : ℕ → NamedValue → Given PoolValue X) {s : TokenValue} {given : Result X Refusal} {answer : Result X Fault} → Alters arena t s (call t.head (pool_with p ps)) p r given
         → qs ≡ ps → answer ≡ as_named_result given → Called no_message (on_name v n (call n.head v)) [] v r qs answer
-    alters {X} call {s} {given} {answer} is records told = named (λ h. []) call (each (call t.head (pool_with p ps)) is.after (told ∙ ap as_named_result is.answer))
+    alters {X} call {s} {given} {answer} is stamps told = named (λ h. []) call (each (call t.head (pool_with p ps)) is.after (told ∙ ap as_named_result is.answer))
       where
         head : s.head ≡ t.head
         head = ap (λ (y : TokenValue). y.head) is.token
@@ -145,114 +141,114 @@ module _ {p r : PoolValue} {ps qs : List NameRecord} (fits : Fits p.arena ps) wh
         each : (g : Given PoolValue X) → r ≡ value_after p g → answer ≡ as_named_result (answer_of g) → Called no_message (outcome_of g) [] (pool_with p ps) r qs answer
         each (Ok (x, u)) after told =
             let pool : u ≡ r = sym after in
-            made p r ps qs fits no_message x (t.head ∷ []) [] [] (moves_stay head of.had is.had is.others) refl (ap (λ h. h ∷ []) head) (λ h none. absurd (false≢true none)) refl tt (λ i. Ok (x, pool i)) records told
-        each (Err why) after told = refused p r ps qs fits no_message after records told
+            made p r ps qs fits no_message x (t.head ∷ []) [] [] (moves_stay head of.had is.had is.others) refl (ap (λ h. h ∷ []) head) (λ h none. absurd (false≢true none)) refl (λ i. Ok (x, pool i)) stamps told
+        each (Err why) after told = refused p r ps qs fits no_message after stamps told
 
     -- goes, or comes back
     pub spends : (call : ℕ → NamedValue → Given PoolValue (Unit {0})) {put : Result (Unit {0}) Rejected} {answer : Result (Unit {0}) Fault} → Puts arena t (call t.head (pool_with p ps)) p r put
-        → qs ≡ with_put n.head put ps → answer ≡ as_named_result (without_token put) → Called no_message (on_name v n (call n.head v)) (n.head ∷ []) v r qs answer
-    spends call {put} {answer} is records told =
-        named (λ h. h ∷ []) call (each (call t.head (pool_with p ps)) put is (records ∙ ap (λ h. with_put h put ps) (sym of.head)) told)
+        → qs ≡ ps → answer ≡ as_named_result (without_token put) → Called no_message (on_name v n (call n.head v)) (n.head ∷ []) v r qs answer
+    spends call {put} {answer} is stamps told =
+        named (λ h. h ∷ []) call (each (call t.head (pool_with p ps)) put is stamps told)
       where
-        each : (g : Given PoolValue (Unit {0})) (put : Result (Unit {0}) Rejected) → Puts arena t g p r put → qs ≡ with_put t.head put ps → answer ≡ as_named_result (without_token put)
+        each : (g : Given PoolValue (Unit {0})) (put : Result (Unit {0}) Rejected) → Puts arena t g p r put → qs ≡ ps → answer ≡ as_named_result (without_token put)
             → Called no_message (outcome_of g) (t.head ∷ []) (pool_with p ps) r qs answer
-        each (Ok (x, u)) (Ok y) is records told =
+        each (Ok (x, u)) (Ok y) is stamps told =
             let pool : u ≡ r = sym is.after in
-            made p r ps qs fits no_message x [] (t.head ∷ []) [] (moves_gone of.had is.gone is.others) refl refl (λ h there. refl) refl tt (λ i. Ok (x, pool i)) records
+            made p r ps qs fits no_message x [] (t.head ∷ []) [] (moves_gone of.had is.gone is.others) refl refl (λ h there. refl) refl (λ i. Ok (x, pool i)) stamps
             (told ∙ ap (λ (z : Unit {0}). let q : Result (Unit {0}) Fault = Ok z in q) (same_ok is.answer))
-        each (Ok given) (Err rejected) is records told = absurd (err_not_ok is.answer)
-        each (Err why) (Ok y) is records told = absurd (err_not_ok (sym is.answer))
-        each (Err why) (Err rejected) is records told =
-            refused p r ps qs fits no_message is.after records (told ∙ ap (λ (x : Rejected). Err (Refused x.why)) (same_err is.answer))
+        each (Ok given) (Err rejected) is stamps told = absurd (err_not_ok is.answer)
+        each (Err why) (Ok y) is stamps told = absurd (err_not_ok (sym is.answer))
+        each (Err why) (Err rejected) is stamps told =
+            refused p r ps qs fits no_message is.after stamps (told ∙ ap (λ (x : Rejected). Err (Refused x.why)) (same_err is.answer))
 
     -- is freed
-    pub frees : (call : ℕ → NamedValue → PoolValue) {answer : Result (Unit {0}) Fault} → Spends arena t (call t.head (pool_with p ps)) p r → qs ≡ without_key n.head ps → answer ≡ Ok tt
+    pub frees : (call : ℕ → NamedValue → PoolValue) {answer : Result (Unit {0}) Fault} → Spends arena t (call t.head (pool_with p ps)) p r → qs ≡ ps → answer ≡ Ok tt
         → Called no_message (on_name v n (given_nothing (call n.head v))) (n.head ∷ []) v r qs answer
     frees call is = spends (λ h x. given_nothing (call h x)) {put = Ok tt} (record { after = is.after; answer = refl; gone = is.gone of.had; others = is.others })
 
     -- loses its first block, and what is left is a message, if anything is
     pub leaves_rest : (call : ℕ → NamedValue → Given PoolValue (Option ℕ)) {rest : Option TokenValue} {answer : Result (Option Name) Fault} → Frees arena t (call t.head (pool_with p ps)) p r (Ok rest)
-        → qs ≡ with_tokens (tokens_in rest) (without_key n.head ps) → answer ≡ Ok (option_map (name_in qs) rest) → Called any_message (on_name v n (call n.head v)) (n.head ∷ []) v r qs answer
-    leaves_rest call {rest} {answer} is records told =
-        named (λ h. h ∷ []) call (each rest (call t.head (pool_with p ps)) is (records ∙ ap (λ h. with_tokens (tokens_in rest) (without_key h ps)) (sym of.head)) told)
+        → qs ≡ with_tokens (tokens_in rest) ps → answer ≡ Ok (option_map (name_in qs) rest) → Called any_message (on_name v n (call n.head v)) (n.head ∷ []) v r qs answer
+    leaves_rest call {rest} {answer} is stamps told =
+        named (λ h. h ∷ []) call (each rest (call t.head (pool_with p ps)) is stamps told)
       where
-        each : (rest : Option TokenValue) (g : Given PoolValue (Option ℕ)) → Frees arena t g p r (Ok rest) → qs ≡ with_tokens (tokens_in rest) (without_key t.head ps) → answer ≡ Ok (option_map (name_in qs) rest)
+        each : (rest : Option TokenValue) (g : Given PoolValue (Option ℕ)) → Frees arena t g p r (Ok rest) → qs ≡ with_tokens (tokens_in rest) ps → answer ≡ Ok (option_map (name_in qs) rest)
             → Called any_message (outcome_of g) (t.head ∷ []) (pool_with p ps) r qs answer
-        each (Some s) (Ok (Some k, u)) is records told =
+        each (Some s) (Ok (Some k, u)) is stamps told =
             let head : k ≡ s.head = sym (ap (λ (y : TokenValue). y.head) (same_some (same_ok is.rest))) in
             let pool : u ≡ r = sym is.after in
-            made p r ps qs fits any_message (Some s.head) [] (t.head ∷ []) (s ∷ []) (moves_rest of.had is.gone is.had is.unheld is.others) refl refl (λ h there. refl) refl (is.had, tt) (λ i. Ok (Some (head i), pool i)) records
+            made p r ps qs fits any_message (Some s.head) [] (t.head ∷ []) (s ∷ []) (moves_rest of.had is.gone is.had is.unheld is.others) refl refl (λ h there. refl) refl (λ i. Ok (Some (head i), pool i)) stamps
             (told ∙ ap (λ (y : Name). Ok (Some y)) (name_is r qs s is.had))
-        each None (Ok (None, u)) is records told =
+        each None (Ok (None, u)) is stamps told =
             let pool : u ≡ r = sym is.after in
-            made p r ps qs fits any_message None [] (t.head ∷ []) [] (moves_gone of.had is.gone is.others) refl refl (λ h there. refl) refl tt (λ i. Ok (None, pool i)) records told
-        each (Some s) (Ok (None, u)) is records told = absurd (some_not_none (same_ok is.rest))
-        each None (Ok (Some k, u)) is records told = absurd (some_not_none (sym (same_ok is.rest)))
-        each rest (Err why) is records told = absurd (err_not_ok (sym is.rest))
+            made p r ps qs fits any_message None [] (t.head ∷ []) [] (moves_gone of.had is.gone is.others) refl refl (λ h there. refl) refl (λ i. Ok (None, pool i)) stamps told
+        each (Some s) (Ok (None, u)) is stamps told = absurd (some_not_none (same_ok is.rest))
+        each None (Ok (Some k, u)) is stamps told = absurd (some_not_none (sym (same_ok is.rest)))
+        each rest (Err why) is stamps told = absurd (err_not_ok (sym is.rest))
 
     -- keeps its first block, and what is left is a message, if anything is
     pub unlinks : (call : ℕ → NamedValue → Given PoolValue (Option ℕ)) {s : TokenValue} {rest : Option TokenValue} {answer : Result (Option Name) Fault} → Unlinks arena t s (call t.head (pool_with p ps)) p r (Ok rest)
         → qs ≡ with_tokens (tokens_in rest) ps → answer ≡ Ok (option_map (name_in qs) rest) → Called any_message (on_name v n (call n.head v)) [] v r qs answer
-    unlinks call {s} {rest} {answer} is records told = named (λ h. []) call (each rest (call t.head (pool_with p ps)) is records told)
+    unlinks call {s} {rest} {answer} is stamps told = named (λ h. []) call (each rest (call t.head (pool_with p ps)) is stamps told)
       where
         each : (rest : Option TokenValue) (g : Given PoolValue (Option ℕ)) → Unlinks arena t s g p r (Ok rest) → qs ≡ with_tokens (tokens_in rest) ps → answer ≡ Ok (option_map (name_in qs) rest)
             → Called any_message (outcome_of g) [] (pool_with p ps) r qs answer
-        each (Some k) (Ok (Some j, u)) is records told =
+        each (Some k) (Ok (Some j, u)) is stamps told =
             let first : j ≡ k.head = sym (ap (λ (y : TokenValue). y.head) (same_some (same_ok is.rest))) in
             let head : s.head ≡ t.head = ap (λ (y : TokenValue). y.head) is.token in
             let pool : u ≡ r = sym is.after in
             made p r ps qs fits any_message (Some k.head) (t.head ∷ []) [] (k ∷ []) (moves_beside head of.had is.had is.rest_had is.unheld is.others (λ h none. none)) refl (ap (λ h. h ∷ k.head ∷ []) head) (λ h none. absurd (false≢true none))
-            refl (is.rest_had, tt) (λ i. Ok (Some (first i), pool i)) records (told ∙ ap (λ (y : Name). Ok (Some y)) (name_is r qs k is.rest_had))
-        each None (Ok (None, u)) is records told =
+            refl (λ i. Ok (Some (first i), pool i)) stamps (told ∙ ap (λ (y : Name). Ok (Some y)) (name_is r qs k is.rest_had))
+        each None (Ok (None, u)) is stamps told =
             let head : s.head ≡ t.head = ap (λ (y : TokenValue). y.head) is.token in
             let pool : u ≡ r = sym is.after in
-            made p r ps qs fits any_message None (t.head ∷ []) [] [] (moves_stay head of.had is.had is.others) refl (ap (λ h. h ∷ []) head) (λ h none. absurd (false≢true none)) refl tt (λ i. Ok (None, pool i)) records told
-        each (Some k) (Ok (None, u)) is records told = absurd (some_not_none (same_ok is.rest))
-        each None (Ok (Some j, u)) is records told = absurd (some_not_none (sym (same_ok is.rest)))
-        each rest (Err why) is records told = absurd (err_not_ok (sym is.rest))
+            made p r ps qs fits any_message None (t.head ∷ []) [] [] (moves_stay head of.had is.had is.others) refl (ap (λ h. h ∷ []) head) (λ h none. absurd (false≢true none)) refl (λ i. Ok (None, pool i)) stamps told
+        each (Some k) (Ok (None, u)) is stamps told = absurd (some_not_none (same_ok is.rest))
+        each None (Ok (Some j, u)) is stamps told = absurd (some_not_none (sym (same_ok is.rest)))
+        each rest (Err why) is stamps told = absurd (err_not_ok (sym is.rest))
 
     -- is parted: a block is a message, and the others are one, if there are any
     pub parts : (call : ℕ → NamedValue → Given PoolValue (ℕ × Option ℕ)) {parted : Result (TokenValue × Option TokenValue) Rejected} {answer : Result (Name × Option Name) Fault} → Parts arena t (call t.head (pool_with p ps)) p r parted
-        → qs ≡ with_parted n.head parted ps → answer ≡ parted_in n.head ps qs parted → Called two_messages (on_name v n (call n.head v)) (n.head ∷ []) v r qs answer
-    parts call {parted} {answer} is records told =
+        → qs ≡ with_tokens (tokens_parted parted) ps → answer ≡ parted_in ps qs parted → Called two_messages (on_name v n (call n.head v)) (n.head ∷ []) v r qs answer
+    parts call {parted} {answer} is stamps told =
         named (λ h. h ∷ []) call
-        (each (call t.head (pool_with p ps)) parted is (records ∙ ap (λ h. with_parted h parted ps) (sym of.head)) (told ∙ ap (λ h. parted_in h ps qs parted) (sym of.head)))
+        (each (call t.head (pool_with p ps)) parted is stamps told)
       where
         heads_of_rest : (o : Option ℕ) → option_map (λ (y : TokenValue). y.head) (option_map (token_of r.arena) o) ≡ o
         heads_of_rest None = refl
         heads_of_rest (Some k) = refl
 
         split : (b : TokenValue) (rest : Option TokenValue) {g : Given PoolValue (ℕ × Option ℕ)} {outcome : Outcome (ℕ × Option ℕ)} → Parts arena t g p r (Ok (b, rest)) → outcome ≡ Ok ((b.head, option_map (λ (y : TokenValue). y.head) rest), r)
-            → qs ≡ with_parted t.head (Ok (b, rest)) ps → answer ≡ parted_in t.head ps qs (Ok (b, rest)) → Called two_messages outcome (t.head ∷ []) (pool_with p ps) r qs answer
-        split b None is gives records told =
-            made p r ps qs fits two_messages (b.head, None) [] (t.head ∷ []) (b ∷ []) (moves_parted None of.had is) refl refl (λ h there. refl) refl (is.had, tt) gives records
-            (told ∙ ap (λ (rs : List NameRecord). Ok (name_in rs b, None)) (sym records) ∙ ap (λ (y : Name). Ok (y, None)) (name_is r qs b is.had))
-        split b (Some s) is gives records told =
-            let mid : List NameRecord = with_given b (without_key t.head ps) in
+            → qs ≡ with_tokens (b ∷ tokens_in rest) ps → answer ≡ parted_in ps qs (Ok (b, rest)) → Called two_messages outcome (t.head ∷ []) (pool_with p ps) r qs answer
+        split b None is gives stamps told =
+            made p r ps qs fits two_messages (b.head, None) [] (t.head ∷ []) (b ∷ []) (moves_parted None of.had is) refl refl (λ h there. refl) refl gives stamps
+            (told ∙ ap (λ (rs : List ℕ). Ok (name_in rs b, None)) (sym stamps) ∙ ap (λ (y : Name). Ok (y, None)) (name_is r qs b is.had))
+        split b (Some s) is gives stamps told =
+            let mid = with_tokens (b ∷ []) ps in
             let one : name_in mid b ≡ name_of (pool_with r qs) b.head =
-            (λ i. let n : Name = record { pool = b.pool; head = b.head; stamp = (sym (get_or-set_other mid s.head b.head (record { key = key_of s.pool s.head; stamp = stamp_after (record_at mid s.head).stamp }) no_record (λ same. is.apart (sym same))) i).stamp } in n)
-            ∙ ap (λ (rs : List NameRecord). name_in rs b) (sym records) ∙ name_is r qs b is.had in
-            made p r ps qs fits two_messages (b.head, Some s.head) [] (t.head ∷ []) (b ∷ s ∷ []) (moves_swapped (moves_parted (Some s) of.had is)) refl refl (λ h there. refl) refl (is.had, (is.rest_had, tt)) gives records
+            (λ i. let n : Name = record { pool = b.pool; head = b.head; stamp = sym (stamps_other (s.head ∷ []) mid b.head (or_from (s.head == b.head) false (ne_eqb s.head b.head is.apart) refl)) i } in n)
+            ∙ ap (λ ss. name_in ss b) (sym stamps) ∙ name_is r qs b is.had in
+            made p r ps qs fits two_messages (b.head, Some s.head) [] (t.head ∷ []) (b ∷ s ∷ []) (moves_swapped (moves_parted (Some s) of.had is)) refl refl (λ h there. refl) refl gives stamps
             (told ∙ (λ i. Ok (one i, Some (name_is r qs s is.rest_had i))))
 
         each : (g : Given PoolValue (ℕ × Option ℕ)) (parted : Result (TokenValue × Option TokenValue) Rejected) → Parts arena t g p r parted
-            → qs ≡ with_parted t.head parted ps → answer ≡ parted_in t.head ps qs parted → Called two_messages (outcome_of g) (t.head ∷ []) (pool_with p ps) r qs answer
-        each (Ok given) (Err rejected) is records told = absurd (err_not_ok is.answer)
-        each (Err why) (Ok ts) is records told = absurd (err_not_ok (sym is.answer))
-        each (Err why) (Err rejected) is records told =
-            refused p r ps qs fits two_messages is.after records (told ∙ ap (λ (x : Rejected). Err (Refused x.why)) (same_err is.answer))
-        each (Ok ((k, o), u)) (Ok (b, rest)) is records told =
+            → qs ≡ with_tokens (tokens_parted parted) ps → answer ≡ parted_in ps qs parted → Called two_messages (outcome_of g) (t.head ∷ []) (pool_with p ps) r qs answer
+        each (Ok given) (Err rejected) is stamps told = absurd (err_not_ok is.answer)
+        each (Err why) (Ok ts) is stamps told = absurd (err_not_ok (sym is.answer))
+        each (Err why) (Err rejected) is stamps told =
+            refused p r ps qs fits two_messages is.after stamps (told ∙ ap (λ (x : Rejected). Err (Refused x.why)) (same_err is.answer))
+        each (Ok ((k, o), u)) (Ok (b, rest)) is stamps told =
             let both : ◌≡◌ {A = TokenValue × Option TokenValue} (b, rest) (token_of r.arena k, option_map (token_of r.arena) o) = same_ok is.answer in
             let first : k ≡ b.head = sym (ap (λ (x : TokenValue × Option TokenValue). x.0.head) both) in
             let heads : o ≡ option_map (λ (y : TokenValue). y.head) rest = sym (ap (λ (x : TokenValue × Option TokenValue). option_map (λ (y : TokenValue). y.head) x.1) both ∙ heads_of_rest o) in
             let pool : u ≡ r = sym is.after in
-            split b rest is (λ i. Ok ((first i, heads i), pool i)) records told
+            split b rest is (λ i. Ok ((first i, heads i), pool i)) stamps told
 
   -- gets the blocks of that of a second name, which goes
   pub links : {v : NamedValue} {n m : Name} → pool_with p ps ≡ v → (is_valid v n && (is_valid v m && not (n.head == m.head))) ≡ true → (call : ℕ → ℕ → NamedValue → PoolValue) {t u s : TokenValue} {answer : Result (Unit {0}) Fault}
-      → IsTokenOf n p.arena t → IsTokenOf m p.arena u → Joins arena t s u (call t.head u.head (pool_with p ps)) p r → qs ≡ without_key m.head ps → answer ≡ Ok tt
+      → IsTokenOf n p.arena t → IsTokenOf m p.arena u → Joins arena t s u (call t.head u.head (pool_with p ps)) p r → qs ≡ ps → answer ≡ Ok tt
       → Called no_message (on_names v n m (given_nothing (call n.head m.head v))) (m.head ∷ []) v r qs answer
-  links {v} {n} {m} view valid call {t} {u} {s} {answer} of also is records told =
+  links {v} {n} {m} view valid call {t} {u} {s} {answer} of also is stamps told =
       let pool : call t.head u.head (pool_with p ps) ≡ r = sym is.after in
       let head : s.head ≡ t.head = ap (λ (y : TokenValue). y.head) is.token in
       let apart : not (n.head == m.head) ≡ true = (and_parts (is_valid v m) _ (and_parts (is_valid v n) _ valid).1).1 in
@@ -261,8 +257,8 @@ module _ {p r : PoolValue} {ps qs : List NameRecord} (fits : Fits p.arena ps) wh
       (subst (λ h. Called no_message (outcome_of (given_nothing (call h m.head (pool_with p ps)))) (m.head ∷ []) (pool_with p ps) r qs answer) of.head
       (subst (λ k. Called no_message (outcome_of (given_nothing (call t.head k (pool_with p ps)))) (k ∷ []) (pool_with p ps) r qs answer) also.head
       (made p r ps qs fits no_message tt (t.head ∷ []) (u.head ∷ []) [] (moves_joined head of.had also.had is.had (is.gone two) is.others) refl (ap (λ h. h ∷ []) head)
-      (λ h there. or_from (t.head == h) false (ne_eqb t.head h (λ same. two (same ∙ sym (lone h u.head there)))) refl) refl tt (λ i. Ok (tt, pool i))
-      (records ∙ ap (λ h. without_key h ps) (sym also.head)) told))))
+      (λ h there. or_from (t.head == h) false (ne_eqb t.head h (λ same. two (same ∙ sym (lone h u.head there)))) refl) refl (λ i. Ok (tt, pool i))
+      stamps told))))
 
 -- ---- a call that leaves the held messages
 
@@ -275,14 +271,14 @@ leaves_names g v w result after answer id held = record {
 }
 
 -- a flush
-pub flushes_names : {v : NamedValue} {p r : PoolValue} (ps : List NameRecord) {result : Result (Unit {0}) Refusal} (call : PoolValue → Given PoolValue (Unit {0})) → pool_with p ps ≡ v → Flushes arena (call p) p r result
+pub flushes_names : {v : NamedValue} {p r : PoolValue} (ps : List ℕ) {result : Result (Unit {0}) Refusal} (call : PoolValue → Given PoolValue (Unit {0})) → pool_with p ps ≡ v → Flushes arena (call p) p r result
     → LeavesNames (call v.pool) v (pool_with r ps) result
 flushes_names {v} {p} {r} ps {result} call view is =
     subst (λ w. LeavesNames (call w.pool) w (pool_with r ps) result) view
     (leaves_names (call p) (pool_with p ps) (pool_with r ps) result (ap (λ (x : PoolValue). pool_with x ps) is.after) is.answer is.others.id (λ h. is.others.held h refl))
 
 -- bytes of the message of a name are lent to a closure, and it stays
-module _ {X R : Type 0} {p : PoolValue} {ps : List NameRecord} (fits : Fits p.arena ps) {v : NamedValue} {n : Name} (view : pool_with p ps ≡ v) (valid : is_valid v n ≡ true) {t : TokenValue} (of : IsTokenOf n p.arena t)
+module _ {X R : Type 0} {p : PoolValue} {ps : List ℕ} (fits : Fits p.arena ps) {v : NamedValue} {n : Name} (view : pool_with p ps ≡ v) (valid : is_valid v n ≡ true) {t : TokenValue} (of : IsTokenOf n p.arena t)
     (closure : List ℕ → R → List ℕ → Type 0) (lent : ℕ → NamedValue → Result (List ℕ) Refusal) (call : R → List ℕ → ℕ → NamedValue → Given PoolValue X) where
   abbrev LentTo : Result (List ℕ) Fault → PoolValue → Result X Fault → Type 0
   LentTo bytes r answer = Fits r.arena ps × LendsNamed closure bytes (λ x left. on_name v n (call x left n.head v)) v (pool_with r ps) answer

@@ -23,21 +23,20 @@ use Rattle.strm_pool.proofs.Tokens.{Each, Moves, err_not_ok, has_here, heads_of,
 use Rattle.strm_named.specs.declared.fault.Fault.{Fault}
 use Rattle.strm_named.specs.declared.name.Name.{Name}
 use Rattle.strm_named.specs.declared.naming.Naming.{Naming}
-use Rattle.strm_named.specs.declared.records.NameRecord.{NameRecord}
 use Rattle.strm_named.specs.NamedCalls.{TakesEachNamed, as_named_result, any_message, Does, names_of, outcome_of, some_messages, with_names, with_names_from}
 use Rattle.strm_named.specs.NamedLayout.{Fits, pool_with}
 use Rattle.strm_named.specs.NamedValue.{NamedValue, name_of}
-use Rattle.strm_named.specs.Records.{name_in, record_at, with_given, with_tokens}
+use Rattle.strm_named.specs.Stamps.{name_in, with_tokens}
 use Rattle.strm_named.specs.Receiving.{NamesToken}
-use Rattle.strm_named.proofs.Fitted.{given_other, stamp_is}
+use Rattle.strm_named.proofs.Renamed.{stamps_other}
 use Rattle.strm_named.proofs.Shaped.{Called, gives_any, made, refused}
 
 -- ---- what the receiver does with tokens
 
 -- the names of these tokens, given one after another
-abbrev names_given : List TokenValue → List NameRecord → List Name
-names_given [] rs = []
-names_given (t ∷ ts) rs = name_in (with_given t rs) t ∷ names_given ts (with_given t rs)
+abbrev names_given : List TokenValue → List ℕ → List Name
+names_given [] ss = []
+names_given (t ∷ ts) ss = name_in (with_tokens (t ∷ []) ss) t ∷ names_given ts (with_tokens (t ∷ []) ss)
 
 with_names_from-behind : (k : ℕ) (ns : List Name) (x : Name) (xs : List Name) → with_names_from (suc k) ns (x ∷ xs) ≡ x ∷ with_names_from k ns xs
 with_names_from-behind k [] x xs = refl
@@ -49,29 +48,29 @@ with_names_from-first (n ∷ ns) [] few = absurd (omega (arith, few))
 with_names_from-first (n ∷ ns) (x ∷ xs) few = with_names_from-behind 0 ns n xs ∙ ap (λ ys. n ∷ ys) (with_names_from-first ns xs (omega (arith, few)))
 
 -- it keeps what it was lent
-pub keeps_records : (ts : List TokenValue) (old new : Naming) → FoldsTo NamesToken old ts new → new.records.ghost_name ≡ old.records.ghost_name
-keeps_records [] old new is = ap (λ (x : Naming). x.records.ghost_name) (sym is)
-keeps_records (t ∷ ts) old new is = keeps_records ts is.0 new is.2 ∙ is.1.same_records
+pub keeps_stamps : (ts : List TokenValue) (old new : Naming) → FoldsTo NamesToken old ts new → new.stamps.ghost_name ≡ old.stamps.ghost_name
+keeps_stamps [] old new is = ap (λ (x : Naming). x.stamps.ghost_name) (sym is)
+keeps_stamps (t ∷ ts) old new is = keeps_stamps ts is.0 new is.2 ∙ is.1.same_stamps
 
 pub keeps_names : (ts : List TokenValue) (old new : Naming) → FoldsTo NamesToken old ts new → new.names.ghost_name ≡ old.names.ghost_name
 keeps_names [] old new is = ap (λ (x : Naming). x.names.ghost_name) (sym is)
 keeps_names (t ∷ ts) old new is = keeps_names ts is.0 new is.2 ∙ is.1.same_names
 
--- it records them
-records_tokens : (ts : List TokenValue) (old new : Naming) → FoldsTo NamesToken old ts new → new.records.now.items ≡ with_tokens ts old.records.now.items
-records_tokens [] old new is = ap (λ (x : Naming). x.records.now.items) (sym is)
-records_tokens (t ∷ ts) old new is = records_tokens ts is.0 new is.2 ∙ ap (with_tokens ts) is.1.records
+-- it raises their stamps
+stamps_tokens : (ts : List TokenValue) (old new : Naming) → FoldsTo NamesToken old ts new → new.stamps.now.items ≡ with_tokens ts old.stamps.now.items
+stamps_tokens [] old new is = ap (λ (x : Naming). x.stamps.now.items) (sym is)
+stamps_tokens (t ∷ ts) old new is = stamps_tokens ts is.0 new is.2 ∙ ap (with_tokens ts) is.1.stamps
 
 -- and stores their names
 stores_names : (ts : List TokenValue) (old new : Naming) → FoldsTo NamesToken old ts new → old.count + length ts ≤ length old.names.now
-    → new.names.now ≡ with_names_from old.count (names_given ts old.records.now.items) old.names.now
+    → new.names.now ≡ with_names_from old.count (names_given ts old.stamps.now.items) old.names.now
 stores_names [] old new is few = ap (λ (x : Naming). x.names.now) (sym is)
 stores_names (t ∷ ts) old new is few =
     let mid = is.0 in
     let count : mid.count ≡ suc old.count = is.1.count (omega (arith, few)) in
-    let long : length mid.names.now ≡ length old.names.now = ap length is.1.names ∙ length-set old.names.now old.count (name_in mid.records.now.items t) in
-    let names : mid.names.now ≡ set old.names.now old.count (name_in (with_given t old.records.now.items) t) = is.1.names ∙ ap (λ (rs : List NameRecord). set old.names.now old.count (name_in rs t)) is.1.records in
-    stores_names ts mid new is.2 (omega (arith, few, count, long)) ∙ (λ i. with_names_from (count i) (names_given ts (is.1.records i)) (names i))
+    let long : length mid.names.now ≡ length old.names.now = ap length is.1.names ∙ length-set old.names.now old.count (name_in mid.stamps.now.items t) in
+    let names : mid.names.now ≡ set old.names.now old.count (name_in (with_tokens (t ∷ []) old.stamps.now.items) t) = is.1.names ∙ ap (λ ss. set old.names.now old.count (name_in ss t)) is.1.stamps in
+    stores_names ts mid new is.2 (omega (arith, few, count, long)) ∙ (λ i. with_names_from (count i) (names_given ts (is.1.stamps i)) (names i))
 
 -- ---- messages with these heads
 
@@ -84,13 +83,13 @@ each_had a [] had = tt
 each_had a (h ∷ hs) had = (had h (has_here h hs), each_had a hs (λ k there. had k (or_right (h == k) (rows.has k hs) there)))
 
 -- the names that are given are those that the messages have afterwards
-names_told : (a : Arena) (hs : List ℕ) (rs : List NameRecord) → IsApart hs
-    → names_given (map (token_of a) hs) rs ≡ map (λ h. name_in (with_tokens (map (token_of a) hs) rs) (token_of a h)) hs
-names_told a [] rs apart = refl
-names_told a (h ∷ hs) rs apart =
-    let now = with_given (token_of a h) rs in
-    let stays : record_at now h ≡ record_at (with_tokens (map (token_of a) hs) now) h = sym (given_other (map (token_of a) hs) now h (ap (rows.has h) (heads-tokens a hs) ∙ apart.0)) in
-    λ i. (let n : Name = record { pool = a.id; head = h; stamp = (stays i).stamp } in n) ∷ names_told a hs now apart.1 i
+names_told : (a : Arena) (hs : List ℕ) (ss : List ℕ) → IsApart hs
+    → names_given (map (token_of a) hs) ss ≡ map (λ h. name_in (with_tokens (map (token_of a) hs) ss) (token_of a h)) hs
+names_told a [] ss apart = refl
+names_told a (h ∷ hs) ss apart =
+    let now = with_tokens (token_of a h ∷ []) ss in
+    let ts = map (token_of a) hs in
+    λ i. (let n : Name = record { pool = a.id; head = h; stamp = sym (stamps_other (heads_of ts) now h (ap (rows.has h) (heads-tokens a hs) ∙ apart.0)) i } in n) ∷ names_told a hs now apart.1 i
 
 -- no more are taken than the call was asked for
 module _ (p : PoolValue) (n : ℕ) (hs : List ℕ) (u : PoolValue) where
@@ -119,7 +118,7 @@ moved a b old new hs is =
       new = λ h was now. is.unheld h (ap (rows.has h) (sym heads) ∙ now);
     }
 
-module _ {p r : PoolValue} {ps qs : List NameRecord} (fits : Fits p.arena ps) {old new : Naming} (before : old.records.now.items ≡ ps) (after : qs ≡ new.records.now.items) where
+module _ {p r : PoolValue} {ps qs : List ℕ} (fits : Fits p.arena ps) {old new : Naming} (before : old.stamps.now.items ≡ ps) (after : qs ≡ new.stamps.now.items) where
   -- messages are taken and named
   pub takes_some : {g : Given PoolValue (List ℕ)} {taken : Result ℕ Refusal} {answer : Result ℕ Fault} → Hands arena NamesToken g p r old new taken → answer ≡ as_named_result taken
       → Called some_messages (outcome_of g) [] (pool_with p ps) r qs answer
@@ -129,10 +128,10 @@ module _ {p r : PoolValue} {ps qs : List NameRecord} (fits : Fits p.arena ps) {o
       each (Ok (hs, u)) is told =
           let pool : u ≡ r = sym is.left in
           let ts = map (token_of r.arena) hs in
-          made p r ps qs fits some_messages hs [] [] ts (moved p.arena r.arena old new hs is.tokens) refl refl (λ h none. refl) (heads-tokens r.arena hs) (each_had r.arena hs is.tokens.had) (λ i. Ok (hs, pool i))
-          (after ∙ records_tokens ts old new is.tokens.handed ∙ ap (with_tokens ts) before) (told ∙ ap as_named_result is.count)
+          made p r ps qs fits some_messages hs [] [] ts (moved p.arena r.arena old new hs is.tokens) refl refl (λ h none. refl) (heads-tokens r.arena hs) (λ i. Ok (hs, pool i))
+          (after ∙ stamps_tokens ts old new is.tokens.handed ∙ ap (with_tokens ts) before) (told ∙ ap as_named_result is.count)
       each (Err why) is told =
-          refused p r ps qs fits some_messages is.left (after ∙ ap (λ (x : Naming). x.records.now.items) (sym is.tokens.handed) ∙ before) (told ∙ ap as_named_result is.count)
+          refused p r ps qs fits some_messages is.left (after ∙ ap (λ (x : Naming). x.stamps.now.items) (sym is.tokens.handed) ∙ before) (told ∙ ap as_named_result is.count)
 
   -- and their names are stored in the slice that was lent, which ends as `slice`, if it has room for all
   pub stores_some : {g : Given PoolValue (List ℕ)} {taken : Result ℕ Refusal} {slice : List Name} → Hands arena NamesToken g p r old new taken → old.count ≡ 0
@@ -146,10 +145,9 @@ module _ {p r : PoolValue} {ps qs : List NameRecord} (fits : Fits p.arena ps) {o
       each (Ok (hs, u)) is first few =
           let a = r.arena in
           let ts = map (token_of a) hs in
-          let names : names_given ts old.records.now.items ≡ map (λ h. name_of (pool_with r qs) h) hs =
-          names_told a hs old.records.now.items is.tokens.apart
-          ∙ (λ i. map (λ h. name_in (sym (after ∙ records_tokens ts old new is.tokens.handed) i) (token_of a h)) hs)
-          ∙ (λ i. map (λ h. let n : Name = record { pool = a.id; head = h; stamp = sym (stamp_is r qs h) i } in n) hs) in
+          let names : names_given ts old.stamps.now.items ≡ map (λ h. name_of (pool_with r qs) h) hs =
+          names_told a hs old.stamps.now.items is.tokens.apart
+          ∙ (λ i. map (λ h. name_in (sym (after ∙ stamps_tokens ts old new is.tokens.handed) i) (token_of a h)) hs) in
           let enough = few hs u refl in
           stores_names ts old new is.tokens.handed (omega (arith, first, enough, length-map hs (token_of a)))
           ∙ (λ i. with_names_from (first i) (names i) old.names.now)
@@ -157,9 +155,9 @@ module _ {p r : PoolValue} {ps qs : List NameRecord} (fits : Fits p.arena ps) {o
 
 -- ---- messages that are taken one after another
 
-length-names_given : (ts : List TokenValue) (rs : List NameRecord) → length (names_given ts rs) ≡ length ts
-length-names_given [] rs = refl
-length-names_given (t ∷ ts) rs = ap suc (length-names_given ts (with_given t rs))
+length-names_given : (ts : List TokenValue) (ss : List ℕ) → length (names_given ts ss) ≡ length ts
+length-names_given [] ss = refl
+length-names_given (t ∷ ts) ss = ap suc (length-names_given ts (with_tokens (t ∷ []) ss))
 
 module _ (call : PoolValue → Given PoolValue (Option ℕ)) where
   -- one message is taken, and its token received
@@ -174,19 +172,19 @@ module _ (call : PoolValue → Given PoolValue (Option ℕ)) where
   received [] p r old new is = ap (λ (x : PoolValue × Naming). x.1) is
   received (t ∷ ts) p r old new is = (is.0.1, is.1.1, received ts is.0.0 r is.0.1 new is.2)
 
-  named : (ts : List TokenValue) (p r : PoolValue) (old new : Naming) → Fits p.arena old.records.now.items → FoldsTo one_received (p, old) ts (r, new)
-      → Fits r.arena new.records.now.items × FoldsTo one_named (pool_with p old.records.now.items) (names_given ts old.records.now.items) (pool_with r new.records.now.items)
-  named [] p r old new fits is = (subst (λ (x : PoolValue × Naming). Fits x.0.arena x.1.records.now.items) is fits, ap (λ (x : PoolValue × Naming). pool_with x.0 x.1.records.now.items) is)
+  named : (ts : List TokenValue) (p r : PoolValue) (old new : Naming) → Fits p.arena old.stamps.now.items → FoldsTo one_received (p, old) ts (r, new)
+      → Fits r.arena new.stamps.now.items × FoldsTo one_named (pool_with p old.stamps.now.items) (names_given ts old.stamps.now.items) (pool_with r new.stamps.now.items)
+  named [] p r old new fits is = (subst (λ (x : PoolValue × Naming). Fits x.0.arena x.1.stamps.now.items) is fits, ap (λ (x : PoolValue × Naming). pool_with x.0 x.1.stamps.now.items) is)
   named (t ∷ ts) p r old new fits is =
       let m = is.0.0 in
       let between = is.0.1 in
-      let answer : Result (Option Name) Fault = Ok (Some (name_in (with_given t old.records.now.items) t)) in
-      let one : Called any_message (outcome_of (call p)) [] (pool_with p old.records.now.items) m between.records.now.items answer =
-      gives_any fits is.1.0 is.1.1.records (ap (λ (rs : List NameRecord). Ok (Some (name_in rs t))) (sym is.1.1.records)) in
+      let answer : Result (Option Name) Fault = Ok (Some (name_in (with_tokens (t ∷ []) old.stamps.now.items) t)) in
+      let one : Called any_message (outcome_of (call p)) [] (pool_with p old.stamps.now.items) m between.stamps.now.items answer =
+      gives_any fits is.1.0 is.1.1.stamps (ap (λ ss. Ok (Some (name_in ss t))) (sym is.1.1.stamps)) in
       let rest = named ts m r between new one.fits is.2 in
-      (rest.0, (pool_with m between.records.now.items, (one.does, is.1.0.unheld), subst (λ q. FoldsTo one_named (pool_with m between.records.now.items) (names_given ts q) (pool_with r new.records.now.items)) is.1.1.records rest.1))
+      (rest.0, (pool_with m between.stamps.now.items, (one.does, is.1.0.unheld), subst (λ q. FoldsTo one_named (pool_with m between.stamps.now.items) (names_given ts q) (pool_with r new.stamps.now.items)) is.1.1.stamps rest.1))
 
-module _ (call : PoolValue → Given PoolValue (Option ℕ)) {p r : PoolValue} {qs : List NameRecord} {old new : Naming} (fits : Fits p.arena old.records.now.items) (after : qs ≡ new.records.now.items)
+module _ (call : PoolValue → Given PoolValue (Option ℕ)) {p r : PoolValue} {qs : List ℕ} {old new : Naming} (fits : Fits p.arena old.stamps.now.items) (after : qs ≡ new.stamps.now.items)
     {most taken : ℕ} (takes : TakesEach arena NamesToken call most p r old new taken) where
   abbrev ts : List TokenValue
   ts = takes.tokens
@@ -194,21 +192,21 @@ module _ (call : PoolValue → Given PoolValue (Option ℕ)) {p r : PoolValue} {
   handed : FoldsTo NamesToken old ts new
   handed = received call ts p r old new takes.each
 
-  pub each_keeps_records : new.records.ghost_name ≡ old.records.ghost_name
-  each_keeps_records = keeps_records ts old new handed
+  pub each_keeps_stamps : new.stamps.ghost_name ≡ old.stamps.ghost_name
+  each_keeps_stamps = keeps_stamps ts old new handed
 
   pub each_fits : Fits r.arena qs
   each_fits = subst (Fits r.arena) (sym after) (named call ts p r old new fits takes.each).0
 
   -- their names are stored in the slice that was lent, which ends as `slice`
-  pub each_named : {slice : List Name} {v : NamedValue} {result : ℕ} → pool_with p old.records.now.items ≡ v → result ≡ old.count + taken → old.count + most ≤ length old.names.now
+  pub each_named : {slice : List Name} {v : NamedValue} {result : ℕ} → pool_with p old.stamps.now.items ≡ v → result ≡ old.count + taken → old.count + most ≤ length old.names.now
       → (old.names.ghost_name ≡ new.names.ghost_name → slice ≡ new.names.now) → TakesEachNamed (λ w. outcome_of (call w.pool)) old.count v (pool_with r qs) old.names.now slice result
   each_named {slice} {v} {result} view is room ends = subst (λ w. TakesEachNamed (λ x. outcome_of (call x.pool)) old.count w (pool_with r qs) old.names.now slice result) view (record {
-    names = names_given ts old.records.now.items;
+    names = names_given ts old.stamps.now.items;
     each =
-        subst (λ q. FoldsTo (one_named call) (pool_with p old.records.now.items) (names_given ts old.records.now.items) (pool_with r q)) (sym after)
+        subst (λ q. FoldsTo (one_named call) (pool_with p old.stamps.now.items) (names_given ts old.stamps.now.items) (pool_with r q)) (sym after)
         (named call ts p r old new fits takes.each).1;
     stored = ends (sym (keeps_names ts old new handed)) ∙ stores_names ts old new handed (omega (arith, room, takes.count, takes.few));
-    count = omega (arith, is, takes.count, length-names_given ts old.records.now.items);
+    count = omega (arith, is, takes.count, length-names_given ts old.stamps.now.items);
     within = omega (arith, is, room, takes.few);
   })

@@ -1,5 +1,5 @@
 pub mod NamedValue
 pub mod NamedCalls
-pub mod Records
+pub mod Stamps
 pub mod NamedLayout
 pub mod Receiving

@@ -5,7 +5,7 @@ mod fault;
 mod name;
 mod named_pool;
 mod naming;
-mod records;
+mod stamps;
 
 pub use fault::Fault;
 pub use name::Name;

@@ -1,6 +1,4 @@
 //! Names: what callers hold instead of tokens.
-ghost use Rattle.std.specs.Prelude.{◌≡◌};
-ghost use Rattle.strm_named.specs.Records.{key_of};
 
 /// The name of a held message: a plain value, which can be copied, kept, compared, and made up.
 ///
@@ -18,14 +16,4 @@ pub struct Name {
     pub head: u32,
     /// The number of messages that were given so far and begin with this block, this one included.
     pub stamp: u64,
-}
-
-impl Name {
-    // The key of the name's message: the number of its first block above the pool's id.
-    #[inline(always)]
-    pub(crate) fn key(self) -> u64
-        ensures { result ≡ key_of self.pool self.head }
-    {
-        u64::from(self.head) << 32 | u64::from(self.pool)
-    }
 }

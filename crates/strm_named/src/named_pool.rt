@@ -4,7 +4,7 @@ ghost use Rattle.strm_mblk.specs.Arena.{with_least_reset};
 ghost use Rattle.strm_mblk.specs.Given.{given_nothing};
 ghost use Rattle.strm_named.specs.NamedCalls.{LeavesNames};
 ghost use Rattle.strm_named.specs.NamedValue.{HasNoNames, OpensNamed, is_valid, name_at};
-ghost use Rattle.strm_named.specs.Records.{IsTokenOf};
+ghost use Rattle.strm_named.specs.Stamps.{IsTokenOf};
 ghost use Rattle.strm_pool.specs.Lawful.{IsLawful};
 ghost use Rattle.strm_pool.specs.PoolValue.{on_arena};
 
@@ -15,7 +15,6 @@ mod queues;
 mod wishes;
 
 use crate::name::Name;
-use crate::records::{NO_KEY, NameRecord};
 use std::alloc::Global;
 use std::marker::Model;
 use strm_pool::{Config, NewFault, Pool, Token};
@@ -25,12 +24,12 @@ use strm_pool::{Config, NewFault, Pool, Token};
 /// Calls take and return names instead of tokens, and require nothing of them. A name that is not valid is refused as
 /// `Fault::Invalid`, and nothing changes then; `linkb` of a message to itself is refused so too. `has` returns false for it.
 /// Otherwise a call on a name does what the call does that its comment names, by a token that it makes. Only `new` allocates:
-/// what `Pool::new` does, and 16 bytes for each message block.
+/// what `Pool::new` does, and 8 bytes for each message block.
 #[derive(Drop)]
 pub struct NamedPool {
     pool: Pool,
-    // The record of each message block, by its number.
-    records: Vec<NameRecord>,
+    // The stamp of each message block, by its number.
+    stamps: Vec<u64>,
 }
 
 impl Model for NamedPool {
@@ -54,8 +53,8 @@ impl NamedPool {
     {
         let mblks = config.mblks;
         let pool = Pool::new(alloc, config)?;
-        match vec![in alloc; NameRecord::new(); mblks as usize] {
-            Ok(records) => Ok(NamedPool { pool, records }),
+        match vec![in alloc; 0; mblks as usize] {
+            Ok(stamps) => Ok(NamedPool { pool, stamps }),
             Err(_) => Err(NewFault::Memory),
         }
     }
@@ -89,10 +88,8 @@ impl NamedPool {
     pub fn has(&self, name: Name) -> bool
         ensures { result ≡ is_valid self.now name }
     {
-        match self.records.get(name.head as usize) {
-            Some(record) => record.is_of(name),
-            None => false,
-        }
+        self.pool.blocks().is_held(name.pool, name.head)
+            && name.stamp == self.stamps[name.head as usize]
     }
 
     /// Returns the name of the message that is held at a head, or none if no message is held there; a queued message is not
@@ -101,14 +98,15 @@ impl NamedPool {
     pub fn name_at(&self, head: u32) -> Option<Name>
         ensures { result ≡ name_at self.now head }
     {
-        let record = self.records.get(head as usize)?;
-        if record.key == NO_KEY {
+        let blocks = self.pool.blocks();
+        let pool = blocks.id();
+        if !blocks.is_held(pool, head) {
             return None;
         }
         Some(Name {
-            pool: record.pool(),
+            pool,
             head,
-            stamp: record.stamp,
+            stamp: self.stamps[head as usize],
         })
     }
 

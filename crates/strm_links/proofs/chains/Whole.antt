@@ -1,9 +1,9 @@
 -- A table of chains and shelves as a contract sees it, and how it stays whole.
-use Rattle.std.proofs.Common.{◌≡◌, ◌≢◌, ℕ, suc, ◌<◌, ◌≤◌, true, ◌&&◌, ◌==◌, List, [], ◌∷◌, ◌++◌, map, length, get_or, set, take, drop, Option, Some, None, IsSome, IfSome, is_some, refl, sym, ap, ◌∙◌, subst, inl, inr, arith, get_or-set_same, get_or-set_other, length-set, zero, Vec, Global, if◌then◌else◌}
+use Rattle.std.proofs.Common.{◌≡◌, ◌≢◌, ℕ, suc, ◌<◌, ◌≤◌, true, ◌&&◌, ◌==◌, List, [], ◌∷◌, ◌++◌, map, length, get_or, set, take, drop, Option, Some, None, IsSome, IfSome, is_some, refl, sym, ap, ◌∙◌, subst, inl, inr, arith, get_or-set_same, get_or-set_other, length-set, zero, Vec, Global, if◌then◌else◌, Bool, false}
 use Rattle.std.specs.Prelude.{nat_lt, not, slice_get, unwrap_or}
 use Rattle.std.specs.List.{All, flat_map}
 use Rattle.std.specs.Option.{option_map_or}
-use Rattle.std.proofs.lemmas.Bool.{cases_eq, false≢true, ne_eqb}
+use Rattle.std.proofs.lemmas.Bool.{cases_eq, false≢true, lt-ltb}
 use Rattle.std.proofs.Math.Bool.{and-false, and-true}
 use Rattle.std.proofs.lemmas.List.{get_or-map, length-map, map-set, set-get_or, set-set, take-append-drop}
 use Rattle.std.proofs.lemmas.Option.{none-some, same_Some, slice_get-get_or}
@@ -216,20 +216,29 @@ module _ {T : Type 0} {t : Table Link T} {front : Option ℕ} {free least : ℕ}
         at (x ∷ xs) there zero begins = ap (chain_at chains) (sym (first_get (chain_at chains x) begins) ∙ head_listed x s (there x (has_head x x xs refl)))
         at (x ∷ xs) there (suc j) begins = at xs (λ y found. there y (has_tail x y xs found)) j begins
 
-    pub holds_at : (h n : ℕ) → 0 < n → (is_some (chain_in v.lists.held h) && length (nodes_at v.lists h) == n) ≡ ((span_at (links_of t.nodes.items) h).len == n && not (is_some (holder h rows)))
-    holds_at h n some =
-        elim (holder h rows) as (λ o. holder h rows ≡ o → (is_some (chain_in v.lists.held h) && length (nodes_at v.lists h) == n) ≡ ((span_at (links_of t.nodes.items) h).len == n && not (is_some o))) [
+    -- whether a chain is held at h, and its number of nodes passes a test that 0 does not
+    pub held_with : (h : ℕ) (test : ℕ → Bool) → test 0 ≡ false → (is_some (chain_in v.lists.held h) && test (length (nodes_at v.lists h))) ≡ (test (span_at (links_of t.nodes.items) h).len && not (is_some (holder h rows)))
+    held_with h test none_at_0 =
+        elim (holder h rows) as (λ o. holder h rows ≡ o → (is_some (chain_in v.lists.held h) && test (length (nodes_at v.lists h))) ≡ (test (span_at (links_of t.nodes.items) h).len && not (is_some o))) [
           | None ↦ λ none.
-              (λ i. is_some (held_is h none i) && length (items_of (held_is h none i)) == n) ∙ alone (chain_in chains.chains h) (whole.chained.heads h)
-              ∙ sym (and-true ((span_at (links_of t.nodes.items) h).len == n))
+              (λ i. is_some (held_is h none i) && test (length (items_of (held_is h none i)))) ∙ alone (chain_in chains.chains h) (whole.chained.heads h)
+              ∙ sym (and-true (test (span_at (links_of t.nodes.items) h).len))
           | Some s ↦ λ is.
               let gone : chain_in v.lists.held h ≡ None = ap (λ (u : ChainLists). chain_in u.held h) (sym lists_are) ∙ held_on chains rows h (ap is_some is) in
-              (λ i. is_some (gone i) && length (items_of (gone i)) == n) ∙ sym (and-false ((span_at (links_of t.nodes.items) h).len == n))
+              (λ i. is_some (gone i) && test (length (items_of (gone i)))) ∙ sym (and-false (test (span_at (links_of t.nodes.items) h).len))
         ] refl
       where
-        alone : (m : Option (List ℕ)) → IsHeadOf (after_at (links_of t.nodes.items)) (span_at (links_of t.nodes.items) h) h m → (is_some m && length (items_of m) == n) ≡ ((span_at (links_of t.nodes.items) h).len == n)
-        alone None is = sym (ap (λ k. k == n) is ∙ ne_eqb 0 n (λ same. absurd (omega (arith, some, same))))
-        alone (Some xs) is = ap (λ k. k == n) (sym is.len)
+        alone : (m : Option (List ℕ)) → IsHeadOf (after_at (links_of t.nodes.items)) (span_at (links_of t.nodes.items) h) h m → (is_some m && test (length (items_of m))) ≡ test (span_at (links_of t.nodes.items) h).len
+        alone None is = sym (ap test is ∙ none_at_0)
+        alone (Some xs) is = ap test (sym is.len)
+
+    -- a held chain has a node
+    pub held_here : (h : ℕ) → is_some (chain_in v.lists.held h) ≡ (nat_lt 0 (span_at (links_of t.nodes.items) h).len && not (is_some (holder h rows)))
+    held_here h = sym (some_long (chain_in v.lists.held h) ((subst IsLawful lists_are IsLawful-whole).parts.heads h)) ∙ held_with h (nat_lt 0) refl
+      where
+        some_long : (m : Option (List ℕ)) → IfSome m (λ xs. (0 < length xs) × (head_node xs ≡ h)) → (is_some m && nat_lt 0 (length (items_of m))) ≡ is_some m
+        some_long None is = refl
+        some_long (Some xs) is = lt-ltb 0 (length xs) is.0
 
     -- the load of a node
     pub load_at : (k : ℕ) {x : Node Link T} → k < length t.nodes.items → x ≡ get_or t.nodes.items k x → slice_get v.loads k ≡ Some x.load

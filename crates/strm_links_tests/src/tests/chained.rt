@@ -63,7 +63,9 @@ impl Twin {
     fn is_held(&self, rt: &impl Abort, head: u32) -> bool {
         assert!(rt; head < NODES);
         let len = self.len(rt, head);
-        len > 0 && self.chained.holds(head, len)
+        let is_held = len > 0 && self.chained.holds(head, len);
+        assert!(rt; self.chained.is_held(head) == is_held);
+        is_held
     }
 
     // Asserts that a held chain begins with this node.
@@ -210,6 +212,7 @@ impl Twin {
         assert!(rt; !self.chained.holds(node, self.len(rt, node) + 1));
         if plain.is_empty() {
             assert!(rt; self.shelf_of(rt, node).is_none());
+            assert!(rt; !self.is_held(rt, node));
             assert!(rt; self.chained.len(node) == 0);
         } else {
             assert!(rt; self.is_held(rt, node) == self.shelf_of(rt, node).is_none());

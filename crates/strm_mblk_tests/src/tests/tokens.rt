@@ -35,6 +35,12 @@ impl Bench {
         assert!(rt; self.has(rt, message) && !other.has(rt, message));
     }
 
+    // Asserts whether the blocks have this id, and a held message with this head.
+    fn assert_held(&self, rt: &impl Abort, pool: u32, head: u32, held: bool) {
+        assert!(rt; self.blocks.id() == 7);
+        self.assert_is(rt, &self.blocks.is_held(pool, head), &held);
+    }
+
     // Spends a token of this value that these blocks do not have.
     pub(super) fn spend_forged(&mut self, rt: &impl Abort, value: TokenValue) {
         let token = forged(rt, self.alloc, value);
@@ -229,5 +235,25 @@ fn makes_a_token_anew(rt: HostRuntime) {
     assert!(rt; !bench.blocks.has(&second));
     second.forget();
     bench.assert_census(&rt, 8, 0, 0);
+    bench.end(&rt);
+}
+
+// A message is held from the call that gives it until it is freed or on a shelf. Any two numbers may be asked for.
+#[test]
+fn knows_a_held_message_by_its_head(rt: HostRuntime) {
+    let mut bench = Bench::opened(&rt, rt.alloc(), 7);
+    let message = bench.allocated(&rt, 1);
+    let head = message.head;
+    bench.assert_held(&rt, 7, head, true);
+    bench.assert_held(&rt, 8, head, false);
+    bench.assert_held(&rt, 7, 1, false);
+    bench.assert_held(&rt, 7, 8, false);
+    bench.assert_held(&rt, 7, u32::MAX, false);
+    bench.shelve(&rt, 0, None, message);
+    bench.assert_held(&rt, 7, head, false);
+    let taken = bench.unshelve(&rt, 0, head);
+    bench.assert_held(&rt, 7, head, true);
+    bench.free_last(&rt, taken);
+    bench.assert_held(&rt, 7, head, false);
     bench.end(&rt);
 }

@@ -12,7 +12,7 @@ ghost use Rattle.strm_queue.specs.QueueLooks.{info_of_message};
 use super::NamedPool;
 use crate::fault::{Fault, answered};
 use crate::name::Name;
-use crate::records::{give_any, part, take_away};
+use crate::stamps::{give_any, part};
 use strm_pool::{BlockInfo, MsgType, QueuedInfo};
 
 impl NamedPool {
@@ -75,7 +75,6 @@ impl NamedPool {
         let behind = self.token(tail);
         self.pool.linkb(&mut token, behind);
         token.forget();
-        take_away(&mut self.records, tail.head);
         Ok(())
     }
 
@@ -91,7 +90,7 @@ impl NamedPool {
         let mut token = self.token(name);
         let rest = self.pool.unlinkb(&mut token);
         token.forget();
-        Ok(give_any(&mut self.records, rest))
+        Ok(give_any(&mut self.stamps, rest))
     }
 
     /// Makes block `place` of a message, counted from 0, a message. Returns its name and that of the other blocks, if any; the
@@ -105,7 +104,7 @@ impl NamedPool {
         }
         let token = self.token(name);
         let parted = self.pool.rmvb(token, place);
-        part(&mut self.records, name.head, parted)
+        part(&mut self.stamps, parted)
     }
 
     /// Removes `count` bytes at the head of a message or, if `count` is below 0, -`count` bytes at its tail, from blocks of one

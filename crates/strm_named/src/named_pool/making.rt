@@ -8,9 +8,9 @@ ghost use Rattle.strm_named.specs.NamedCalls.{Does, TransfersNamed, any_message,
 ghost use Rattle.strm_pool.specs.PoolValue.{on_arena, with_arena};
 
 use super::NamedPool;
-use crate::fault::Fault;
+use crate::fault::{Fault, refused};
 use crate::name::Name;
-use crate::records::{answer, give, give_any, refused, take_away};
+use crate::stamps::{answer, give, give_any};
 use strm_pool::Supply;
 
 impl NamedPool {
@@ -38,7 +38,7 @@ impl NamedPool {
         ensures supply { IsSupplied size self.new.pool.arena (record supply { count = supply.count - 1 }) }
     {
         let token = self.pool.allocb_from(size, supply);
-        give(&mut self.records, token)
+        give(&mut self.stamps, token)
     }
 
     /// Makes a message of one block that references the data of this message's first block, and returns its name. Refused as
@@ -53,7 +53,7 @@ impl NamedPool {
         let token = self.token(name);
         let given = self.pool.dupb(&token);
         token.forget();
-        answer(&mut self.records, given)
+        answer(&mut self.stamps, given)
     }
 
     /// Makes a message whose blocks reference the data of this message's blocks, and returns its name. Refused as `Invalid`,
@@ -68,7 +68,7 @@ impl NamedPool {
         let token = self.token(name);
         let given = self.pool.dupmsg(&token);
         token.forget();
-        answer(&mut self.records, given)
+        answer(&mut self.stamps, given)
     }
 
     /// Makes a message of one block over a copy of the data of this message's first block, and returns its name. Refused as
@@ -83,7 +83,7 @@ impl NamedPool {
         let token = self.token(name);
         let given = self.pool.copyb(&token);
         token.forget();
-        answer(&mut self.records, given)
+        answer(&mut self.stamps, given)
     }
 
     /// Makes a message of blocks over copies of the data of this message's blocks, and returns its name. Refused as `Invalid`,
@@ -98,7 +98,7 @@ impl NamedPool {
         let token = self.token(name);
         let given = self.pool.copymsg(&token);
         token.forget();
-        answer(&mut self.records, given)
+        answer(&mut self.stamps, given)
     }
 
     /// Frees the first block of a message, and returns a new name for the others, if any; the old name is spent. Refused as
@@ -112,8 +112,7 @@ impl NamedPool {
         }
         let token = self.token(name);
         let rest = self.pool.freeb(token);
-        take_away(&mut self.records, name.head);
-        Ok(give_any(&mut self.records, rest))
+        Ok(give_any(&mut self.stamps, rest))
     }
 
     /// Frees a message, and spends its name. Refused as `Invalid`. As [`Blocks::freemsg`] of strm_mblk.
@@ -128,7 +127,6 @@ impl NamedPool {
         }
         let token = self.token(name);
         self.pool.free_held(token);
-        take_away(&mut self.records, name.head);
         Ok(())
     }
 
@@ -146,10 +144,7 @@ impl NamedPool {
         }
         let token = self.token(name);
         match self.pool.transfer(&mut other.pool, token) {
-            Ok(made) => {
-                take_away(&mut self.records, name.head);
-                Ok(give(&mut other.records, made))
-            }
+            Ok(made) => Ok(give(&mut other.stamps, made)),
             Err(rejected) => Err(refused(rejected)),
         }
     }

@@ -9,10 +9,10 @@ ghost use Rattle.strm_queue.specs.QueueCalls.{IsBurstPlace};
 ghost use Rattle.strm_scheduler.specs.Laws.{AreKeptAwake, hold};
 
 use super::NamedPool;
-use crate::fault::{Fault, answered};
+use crate::fault::{Fault, answered, spent};
 use crate::name::Name;
 use crate::naming::Naming;
-use crate::records::{answer, answer_any, give, spend};
+use crate::stamps::{answer, answer_any, give};
 use strm_pool::{BurstPlace, Flush, Refusal};
 use strm_scheduler::{Service, hold, serve};
 
@@ -32,7 +32,7 @@ impl NamedPool {
         }
         let token = self.token(name);
         let put = self.pool.putq(queue, token);
-        spend(&mut self.records, name.head, put)
+        spent(put)
     }
 
     /// Puts the next message of a burst on a queue as `putq` does, by the place of the last one, and spends its name. Refused as
@@ -54,7 +54,7 @@ impl NamedPool {
         }
         let token = self.token(name);
         let put = self.pool.putq_in_burst(queue, place, token);
-        spend(&mut self.records, name.head, put)
+        spent(put)
     }
 
     /// Puts a message on a queue, before the first message whose rank is at most its own, and spends its name. Refused as
@@ -69,7 +69,7 @@ impl NamedPool {
         }
         let token = self.token(name);
         let put = self.pool.putbq(queue, token);
-        spend(&mut self.records, name.head, put)
+        spent(put)
     }
 
     /// Puts a message on a queue at `place`, counted from 0, and spends its name. Refused as `Invalid`, `NoSuchQueue`,
@@ -84,7 +84,7 @@ impl NamedPool {
         }
         let token = self.token(name);
         let put = self.pool.insq(queue, place, token);
-        spend(&mut self.records, name.head, put)
+        spent(put)
     }
 
     /// Puts a message on a queue before the queued one with this head, or last if none is given, and spends its name. Refused
@@ -99,7 +99,7 @@ impl NamedPool {
         }
         let token = self.token(name);
         let put = self.pool.insq_before(queue, before, token);
-        spend(&mut self.records, name.head, put)
+        spent(put)
     }
 
     /// Removes the first message of a queue, if any, and returns its new name. Refused as `NoSuchQueue`. As [`Queues::getq`] of
@@ -111,7 +111,7 @@ impl NamedPool {
             [] self.old self.new result }
     {
         let given = self.pool.getq(queue);
-        answer_any(&mut self.records, given)
+        answer_any(&mut self.stamps, given)
     }
 
     /// Removes the first messages of a queue, each as [`NamedPool::getq`] does, at most as many as `into` has room for from place
@@ -129,7 +129,7 @@ impl NamedPool {
     {
         let most = (into.len() - from).min(MOST_TAKEN) as u32;
         let mut naming = Naming {
-            records: &mut self.records,
+            stamps: &mut self.stamps,
             names: into,
             count: from,
         };
@@ -144,7 +144,7 @@ impl NamedPool {
             (queues.rmvq queue place (queued_blocks_of self.old.pool)))) [] self.old self.new result }
     {
         let given = self.pool.rmvq(queue, place);
-        answer(&mut self.records, given)
+        answer(&mut self.stamps, given)
     }
 
     /// Removes the queued message with this head from its queue, and returns its new name. Refused as `NoSuchPlace`. As
@@ -154,7 +154,7 @@ impl NamedPool {
             (by_head.rmvq_head head (queued_blocks_of self.old.pool)))) [] self.old self.new result }
     {
         let given = self.pool.rmvq_head(head);
-        answer(&mut self.records, given)
+        answer(&mut self.stamps, given)
     }
 
     /// Removes messages from a queue, front to back: those that [`NamedPool::flushq`] would free, as many as `into` has room
@@ -168,7 +168,7 @@ impl NamedPool {
     {
         let most = into.len().min(MOST_TAKEN) as u32;
         let mut naming = Naming {
-            records: &mut self.records,
+            stamps: &mut self.stamps,
             names: into,
             count: 0,
         };
@@ -193,7 +193,7 @@ impl NamedPool {
     {
         let most = into.len().min(MOST_TAKEN) as u32;
         let mut naming = Naming {
-            records: &mut self.records,
+            stamps: &mut self.stamps,
             names: into,
             count: 0,
         };
@@ -210,7 +210,7 @@ impl NamedPool {
         ensures { ServesNamed held self.old self.new result }
     {
         match serve(&mut self.pool, held) {
-            Some((service, token)) => Some((service, give(&mut self.records, token))),
+            Some((service, token)) => Some((service, give(&mut self.stamps, token))),
             None => None,
         }
     }
@@ -228,7 +228,7 @@ impl NamedPool {
         }
         let token = self.token(name);
         let held = hold(&mut self.pool, queue, token);
-        spend(&mut self.records, name.head, held)
+        spent(held)
     }
 }
 

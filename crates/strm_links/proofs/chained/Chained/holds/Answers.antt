@@ -1,4 +1,4 @@
-use Rattle.std.proofs.Common.{◌&&◌, ap, arith, sym, ◌∙◌, is_some}
+use Rattle.std.proofs.Common.{◌&&◌, ◌==◌, ap, arith, sym, ◌∙◌, is_some}
 use Rattle.std.specs.Prelude.{not}
 use Rattle.std.proofs.Math.Bool.{not-not}
 use Rattle.std.proofs.lemmas.Bool.{eq-eqb, ne_eqb}
@@ -8,7 +8,7 @@ use Rattle.strm_links.specs.declared.chained.Link.{Link}
 use Rattle.strm_links.specs.declared.table.Place.{Place}
 use Rattle.strm_links.proofs.linking.Carried.{place_read}
 use Rattle.strm_links.proofs.linking.StoredRows.{holder-owner}
-use Rattle.strm_links.proofs.chains.Whole.{holds_at, room}
+use Rattle.strm_links.proofs.chains.Whole.{held_with, room}
 use Rattle.strm_links.proofs.chains.Written.{link_read}
 use Rattle.strm_links.proofs.chained.Chained.holds.Goals as goal
 
@@ -22,9 +22,9 @@ returns-then-node-len g c =
     let span = ap (λ (l : Link). l.span.len) (link_read _ c.args.head (omega (arith, c.requires.head, low)) c.index-node.ensures) in
     let list = holder-owner c.self.invariant.sound c.args.head ∙ sym (ap (λ (p : Place). p.list) (place_read _ c.args.head node (omega (arith, c.requires.head, low)) c.index-node.ensures)) in
     sym (not-not c.is_none.result) ∙ ap not (sym c.is_none.ensures ∙ ap is_some (c.get.ensures ∙ sym list))
-    ∙ ap (λ b. b && not (is_some (holder c.args.head (rows_in c.self.inside.table)))) (sym (eq-eqb _ _ (sym span ∙ c.if-node-len.true))) ∙ sym (holds_at c.self.invariant c.self.view_is c.args.head c.args.len c.requires.some)
+    ∙ ap (λ b. b && not (is_some (holder c.args.head (rows_in c.self.inside.table)))) (sym (eq-eqb _ _ (sym span ∙ c.if-node-len.true))) ∙ sym (held_with c.self.invariant c.self.view_is c.args.head (λ k. k == c.args.len) (ne_eqb 0 c.args.len (λ none. absurd (omega (arith, none, c.requires.some)))))
 
 pub returns-else-node-len : goal.returns-else-node-len
 returns-else-node-len g c =
     let span = ap (λ (l : Link). l.span.len) (link_read _ c.args.head (omega (arith, c.requires.head, room c.self.invariant c.self.view_is)) c.index-node.ensures) in
-    ne_eqb _ _ c.if-node-len.false ∙ ap (λ b. b && not (is_some (holder c.args.head (rows_in c.self.inside.table)))) (sym (ne_eqb _ _ (λ same. c.if-node-len.false (span ∙ same)))) ∙ sym (holds_at c.self.invariant c.self.view_is c.args.head c.args.len c.requires.some)
+    ne_eqb _ _ c.if-node-len.false ∙ ap (λ b. b && not (is_some (holder c.args.head (rows_in c.self.inside.table)))) (sym (ne_eqb _ _ (λ same. c.if-node-len.false (span ∙ same)))) ∙ sym (held_with c.self.invariant c.self.view_is c.args.head (λ k. k == c.args.len) (ne_eqb 0 c.args.len (λ none. absurd (omega (arith, none, c.requires.some)))))

@@ -4,4 +4,4 @@ use Rattle.strm_named.proofs.Shaped.{flushes_names}
 use Rattle.strm_named.proofs.named_pool.NamedPool.flushq.Goals as goal
 
 pub returns : goal.returns
-returns c = flushes_names c.self.inside.records.items (λ p. on_queues p (queues.flushq c.args.queue c.args.flush (queued_blocks_of p))) c.self.view_is c.flushq.ensures
+returns c = flushes_names c.self.inside.stamps.items (λ p. on_queues p (queues.flushq c.args.queue c.args.flush (queued_blocks_of p))) c.self.view_is c.flushq.ensures

@@ -1,11 +1,11 @@
-use Rattle.std.proofs.Common.{sym, ◌∙◌}
+use Rattle.std.proofs.Common.{refl, sym, ◌∙◌}
 use Rattle.strm_queue.specs.HeadCalls as by_head
 use Rattle.strm_pool.specs.PoolValue.{on_queues, queued_blocks_of}
 use Rattle.strm_named.proofs.Shaped.{here, spends}
 use Rattle.strm_named.proofs.named_pool.NamedPool.insq_before.Goals as goal
 
 pub invariant_of-self : goal.invariant_of-self
-invariant_of-self c = (spends c.self.invariant c.self.view_is (sym c.has.ensures ∙ c.if-not-has.false) (here c.self.view_is c.token-token.ensures) (λ h v. on_queues v.pool (by_head.insq_before c.args.queue c.args.before h (queued_blocks_of v.pool))) c.insq_before-put.ensures c.spend.ensures.records c.spend.ensures.answer).fits
+invariant_of-self c = (spends c.self.invariant c.self.view_is (sym c.has.ensures ∙ c.if-not-has.false) (here c.self.view_is c.token-token.ensures) (λ h v. on_queues v.pool (by_head.insq_before c.args.queue c.args.before h (queued_blocks_of v.pool))) c.insq_before-put.ensures refl c.spent.ensures).fits
 
 pub returns : goal.returns
-returns c = (spends c.self.invariant c.self.view_is (sym c.has.ensures ∙ c.if-not-has.false) (here c.self.view_is c.token-token.ensures) (λ h v. on_queues v.pool (by_head.insq_before c.args.queue c.args.before h (queued_blocks_of v.pool))) c.insq_before-put.ensures c.spend.ensures.records c.spend.ensures.answer).does
+returns c = (spends c.self.invariant c.self.view_is (sym c.has.ensures ∙ c.if-not-has.false) (here c.self.view_is c.token-token.ensures) (λ h v. on_queues v.pool (by_head.insq_before c.args.queue c.args.before h (queued_blocks_of v.pool))) c.insq_before-put.ensures refl c.spent.ensures).does

@@ -7,8 +7,8 @@ use Rattle.strm_pool.proofs.Tokens.{same_ok}
 use Rattle.strm_named.specs.declared.fault.Fault.TheVariants.{Invalid}
 use Rattle.strm_named.specs.NamedCalls.{as_named_result}
 use Rattle.strm_named.specs.NamedValue.{NamedValue, is_valid}
-use Rattle.strm_named.specs.Records.{IsTokenOf}
-use Rattle.strm_named.proofs.Fitted.{is_told}
+use Rattle.strm_named.specs.Stamps.{IsTokenOf}
+use Rattle.strm_named.proofs.Held.{is_told}
 use Rattle.strm_named.proofs.named_pool.NamedPool.message.Goals as goal
 
 pub returns : goal.returns

@@ -1,21 +1,19 @@
-use Rattle.std.proofs.Common.{Ok, refl, sym, ap, subst}
+use Rattle.std.proofs.Common.{Ok, length, refl, sym, ap, ◌∙◌, subst}
 use Rattle.strm_mblk.specs.Arena.{held_at, with_least_reset}
 use Rattle.strm_mblk.specs.Given.{given_nothing}
 use Rattle.strm_pool.specs.PoolValue.{PoolValue, on_arena}
-use Rattle.strm_named.specs.NamedLayout.{Fits, pool_with}
+use Rattle.strm_named.specs.NamedLayout.{pool_with}
 use Rattle.strm_named.specs.NamedCalls.{LeavesNames}
 use Rattle.strm_named.proofs.Shaped.{leaves_names}
 use Rattle.strm_named.proofs.named_pool.NamedPool.reset_least.Goals as goal
 
 pub invariant_of-self : goal.invariant_of-self
-invariant_of-self c =
-    let fits = c.self.invariant in
-    subst (λ (p : PoolValue). Fits p.arena c.self.inside.records.items) (sym c.reset_least.ensures) (record { id = fits.id; size = fits.size; few = fits.few; keys = fits.keys })
+invariant_of-self c = c.self.invariant ∙ ap (λ (p : PoolValue). length p.arena.held) (sym c.reset_least.ensures)
 
 pub returns : goal.returns
 returns c =
     let p = c.self.inside.pool in
-    let ps = c.self.inside.records.items in
+    let ps = c.self.inside.stamps.items in
     let r = c.reset_least.new.self in
     subst (λ w. LeavesNames (on_arena w.pool (given_nothing (with_least_reset w.pool.arena))) w (pool_with r ps) (Ok tt)) c.self.view_is
     (leaves_names (on_arena p (given_nothing (with_least_reset p.arena))) (pool_with p ps) (pool_with r ps) (Ok tt)

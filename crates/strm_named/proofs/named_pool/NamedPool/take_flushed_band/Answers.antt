@@ -4,18 +4,18 @@ use Rattle.strm_pool.specs.PoolValue.{on_queues, queued_blocks_of}
 use Rattle.strm_named.specs.NamedLayout.{pool_with}
 use Rattle.strm_named.specs.NamedCalls.{take_flushed_band, most_taken, names_of, outcome_of, some_messages, with_names}
 use Rattle.strm_named.proofs.Shaped.{Called, seen}
-use Rattle.strm_named.proofs.Taken.{few_taken, keeps_records, stores_some, takes_some}
+use Rattle.strm_named.proofs.Taken.{few_taken, keeps_stamps, stores_some, takes_some}
 use Rattle.strm_named.proofs.named_pool.NamedPool.take_flushed_band.Goals.{After-drop-naming}
 use Rattle.strm_named.proofs.named_pool.NamedPool.take_flushed_band.Goals as goal
 
 pub shape_of-self-inside : goal.shape_of-self-inside
-shape_of-self-inside c = sym (keeps_records _ _ _ c.take_flushed_band-taken.ensures.tokens.handed)
+shape_of-self-inside c = sym (keeps_stamps _ _ _ c.take_flushed_band-taken.ensures.tokens.handed)
 
-called : (c : After-drop-naming) → Called some_messages (outcome_of (on_queues c.self.inside.pool (taking.take_flushed_band c.args.queue c.args.band c.args.flush (most_taken (length c.args.into.now)) (queued_blocks_of c.self.inside.pool)))) [] (pool_with c.self.inside.pool c.self.inside.records.items) c.take_flushed_band-taken.new.self c.drop-naming.new.self.0.items c.answered.result
+called : (c : After-drop-naming) → Called some_messages (outcome_of (on_queues c.self.inside.pool (taking.take_flushed_band c.args.queue c.args.band c.args.flush (most_taken (length c.args.into.now)) (queued_blocks_of c.self.inside.pool)))) [] (pool_with c.self.inside.pool c.self.inside.stamps.items) c.take_flushed_band-taken.new.self c.drop-naming.new.self.0.items c.answered.result
 called c =
     let p = c.self.inside.pool in
-    subst (λ k. Called some_messages (outcome_of (on_queues p (taking.take_flushed_band c.args.queue c.args.band c.args.flush k (queued_blocks_of p)))) [] (pool_with p c.self.inside.records.items) c.take_flushed_band-taken.new.self c.drop-naming.new.self.0.items c.answered.result) c.min-most.ensures
-    (takes_some c.self.invariant refl c.drop-naming.ensures.records c.take_flushed_band-taken.ensures c.answered.ensures)
+    subst (λ k. Called some_messages (outcome_of (on_queues p (taking.take_flushed_band c.args.queue c.args.band c.args.flush k (queued_blocks_of p)))) [] (pool_with p c.self.inside.stamps.items) c.take_flushed_band-taken.new.self c.drop-naming.new.self.0.items c.answered.result) c.min-most.ensures
+    (takes_some c.self.invariant refl c.drop-naming.ensures.stamps c.take_flushed_band-taken.ensures c.answered.ensures)
 
 pub invariant_of-self : goal.invariant_of-self
 invariant_of-self c = (called (goal.at.invariant_of-self c).After-drop-naming).fits
@@ -28,7 +28,7 @@ returns-clause-names c =
     let p = c.self.inside.pool in
     let v = pool_with c.take_flushed_band-taken.new.self c.drop-naming.new.self.0.items in
     let into = c.args.into.now in
-    stores_some c.self.invariant refl c.drop-naming.ensures.records c.take_flushed_band-taken.ensures refl
+    stores_some c.self.invariant refl c.drop-naming.ensures.stamps c.take_flushed_band-taken.ensures refl
     (λ hs u is. omega (arith, few_taken p c.min-most.result hs u c.args.queue (Some c.args.band) c.args.flush is, c.min-most.ensures)) (search rules)
     ∙ ap (λ k. with_names (names_of some_messages v (outcome_of (on_queues p (taking.take_flushed_band c.args.queue c.args.band c.args.flush k (queued_blocks_of p))))) into) c.min-most.ensures
     ∙ ap (λ w. with_names (names_of some_messages v (take_flushed_band c.args.queue c.args.band c.args.flush (length into) w)) into) c.self.view_is
