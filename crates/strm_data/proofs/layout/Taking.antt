@@ -30,6 +30,10 @@ module _ (classes : List Class) (c : ℕ) (k : Class) (class_is : k ≡ get_or c
   pub least_noted : map (λ (x : Class). x.least) (set classes c (record k { least = n })) ≡ set (map (λ (x : Class). x.least) classes) c n
   least_noted = map-set (λ (x : Class). x.least) classes c (record k { least = n })
 
+-- the data blocks in memory
+abbrev pub loads_in : Inside → List DataBlock
+loads_in a = a.blocks.loads
+
 -- a class from which a size takes has a free data block
 pub free_there : (a : Inside) (v : CountedStore) (size c : ℕ) → store_of a ≡ v → IsTakenFrom size v.store c → 0 < length (list_at c a.blocks.rows)
 free_there a v size c view found = subst (λ (s : CountedStore). 0 < length (free_of s.store c)) (sym view) found.some

@@ -1,5 +1,6 @@
 use Rattle.std.proofs.Common.{Some, [], get_or, length, sym, ap, ◌∙◌, arith}
 use Rattle.std.proofs.lemmas.Bool.{ltb-true, ltb-false}
+use Rattle.strm_data.specs.DataLayout.{store_of}
 use Rattle.strm_data.proofs.layout.Seen.{info_there, info_past, free_there}
 use Rattle.strm_data.proofs.data.Data.class_info.Goals as goal
 
@@ -12,7 +13,7 @@ pub returns-clause-answer : goal.returns-clause-answer
 returns-clause-answer c =
     let k = c.in_ok-spec.field-0.now in
     let within = ltb-true _ _ (sym c.in_ok-spec.ensures.lookup.0) in
-    ap (λ n. Some (record { size = k.spec.size; free = n; total = k.spec.count })) (c.len.ensures ∙ ap (λ n. length (get_or c.self.inside.blocks.rows.lists n [])) c.from-2.ensures)
+    ap (λ n. Some (record { size = k.spec.size; free = n; total = k.spec.count })) (c.len.ensures ∙ ap (λ n. length (get_or (store_of c.self.inside).store.free n [])) c.from-2.ensures)
     ∙ info_there c.self.inside c.args.self.now c.self.view_is c.self.invariant.kept c.args.class k (omega (arith, within, c.from.ensures, ap length c.deref.ensures.value)) (c.in_ok-spec.ensures.lookup.1 ∙ (λ j. get_or (c.deref.ensures.value j) (c.from.ensures j) k))
 
 pub returns-clause-within : goal.returns-clause-within
@@ -20,4 +21,4 @@ returns-clause-within c =
     let k = c.in_ok-spec.field-0.now in
     let within = ltb-true _ _ (sym c.in_ok-spec.ensures.lookup.0) in
     let free = free_there c.self.inside c.args.self.now c.self.view_is c.self.invariant.kept c.args.class k (omega (arith, within, c.from.ensures, ap length c.deref.ensures.value)) (c.in_ok-spec.ensures.lookup.1 ∙ (λ j. get_or (c.deref.ensures.value j) (c.from.ensures j) k)) in
-    omega (arith, free, c.len.ensures, ap (λ n. length (get_or c.self.inside.blocks.rows.lists n [])) c.from-2.ensures)
+    omega (arith, free, c.len.ensures, ap (λ n. length (get_or (store_of c.self.inside).store.free n [])) c.from-2.ensures)

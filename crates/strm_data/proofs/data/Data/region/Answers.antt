@@ -45,6 +45,6 @@ returns c =
     omega (arith, within at, length-map c.self.inside.classes.items (λ (x : Class). x.spec), ap (λ (s : CountedStore). length s.store.classes) c.self.view_is) in
     ap Some (c.part_of.ensures ∙ ap (λ bs. take (k.spec.size * k.spec.count) (drop k.start bs)) c.deref-2.ensures.value
     ∙ (λ j. take ((sym (room_is at) j).spec.size * (sym (room_is at) j).spec.count) (drop (sym (room_is at) j).start c.self.inside.bytes.items))
-    ∙ sym (class_bytes_are (rooms at) c.self.inside.bytes.items c.self.inside.blocks.loads c.self.invariant.placed c.args.class (in_rooms at))
+    ∙ sym (class_bytes_are (rooms at) c.self.inside.bytes.items _ c.self.invariant.placed c.args.class (in_rooms at))
     ∙ ap (λ (s : CountedStore). class_bytes c.args.class s.store) c.self.view_is)
     ∙ sym (cond-true _ (Some (class_bytes c.args.class c.args.self.now.store)) None (lt-ltb c.args.class (length c.args.self.now.store.classes) there))

@@ -3,8 +3,9 @@ use Rattle.std.specs.Prelude.{slice_get}
 use Rattle.strm_links.specs.Rows.{Rows}
 use Rattle.strm_data.specs.declared.msg_type.MsgType.TheVariants.{MData}
 use Rattle.strm_data.specs.CountedStore.{CountedStore, IsKept}
+use Rattle.strm_data.specs.DataLayout.{store_of}
 use Rattle.strm_data.specs.DataStore.{IsClassFor, IsLeast, IsTakenFrom, free_of}
-use Rattle.strm_data.proofs.layout.Taking.{class_taken, free_there, front_is, left_taken, unused, room, taken, placed_taken}
+use Rattle.strm_data.proofs.layout.Taking.{class_taken, free_there, front_is, left_taken, loads_in, unused, room, taken, placed_taken}
 use Rattle.strm_data.proofs.store.Kept.{IsKept-take, IsLeast-take}
 use Rattle.strm_data.proofs.store.Lawful.{IsTakenFrom-class}
 use Rattle.strm_data.proofs.data.Data.take_from.Goals.{After-len-left, After-set_load}
@@ -39,13 +40,13 @@ returns-clause-room c =
 
 -- the data block, and the data blocks then
 module _ (c : After-set_load) where
-  read : slice_get c.self.inside.blocks.loads c.take_front-number.result ≡ Some c.load-block.result.now
+  read : slice_get (loads_in c.self.inside) c.take_front-number.result ≡ Some c.load-block.result.now
   read = ap (λ ls. slice_get ls c.take_front-number.result) (sym c.take_front-number.ensures.loads) ∙ c.load-block.ensures
 
-  loads : c.set_load.new.self.loads ≡ set c.self.inside.blocks.loads c.take_front-number.result (record c.load-block.result.now { kind = MData; references = 1 })
+  loads : c.set_load.new.self.loads ≡ set (loads_in c.self.inside) c.take_front-number.result (record c.load-block.result.now { kind = MData; references = 1 })
   loads = c.set_load.ensures.loads ∙ ap (λ ls. set ls c.take_front-number.result (record c.load-block.result.now { kind = MData; references = 1 })) c.take_front-number.ensures.loads
 
-  popped : c.set_load.new.self.rows.lists ≡ set c.self.inside.blocks.rows.lists c.args.class (drop 1 (get_or c.self.inside.blocks.rows.lists c.args.class []))
+  popped : c.set_load.new.self.rows.lists ≡ set (store_of c.self.inside).store.free c.args.class (drop 1 (get_or (store_of c.self.inside).store.free c.args.class []))
   popped = ap (λ (r : Rows). r.lists) (c.set_load.ensures.rows ∙ c.take_front-number.ensures.lists)
 
 pub returns-clause-after : goal.returns-clause-after
@@ -92,6 +93,6 @@ invariant_of-self c =
             ap (λ (r : Rows). r.nodes) (c.set_load.ensures.rows ∙ c.take_front-number.ensures.lists),
             c.self.invariant.nodes,
             ap length (loads later),
-            length-set c.self.inside.blocks.loads c.take_front-number.result (record c.load-block.result.now { kind = MData; references = 1 }),
+            length-set (loads_in c.self.inside) c.take_front-number.result (record c.load-block.result.now { kind = MData; references = 1 }),
           );
     }
