@@ -8,7 +8,7 @@ use Rattle.strm_mblk.specs.declared.token.TokenValue.{TokenValue}
 use Rattle.strm_mblk.specs.Arena.{Arena, has, held_at, message_at, token_of}
 use Rattle.strm_mblk.specs.Block.{Block, Message}
 use Rattle.strm_mblk.specs.BlockCalls.{own_block, with_block}
-use Rattle.strm_mblk.specs.Calls.{Alters, Gives, Lends, Puts, Takes, itself}
+use Rattle.strm_mblk.specs.Calls.{Alters, Flushes, Gives, LeavesBlocks, Lends, Puts, Takes, TakesAny, itself}
 use Rattle.strm_mblk.specs.Given.{Given, answer_of, value_after}
 use Rattle.strm_mblk.specs.Messages.{blocks_of}
 use Rattle.strm_mblk.proofs.arena.Frame.{Leaves, Making, leaves_given, leaves_fields, leaves_same, leaves_with_block, leaves_with_store}
@@ -90,3 +90,12 @@ module _ {V : Type 0} (arena : V → Arena) (v : V) where
 
   pub takes_none : (call : Given V ℕ) (why : Refusal) → call ≡ Err why → Takes arena call v v (Err why)
   takes_none call why is = grind (arith, common_steps, leaves_same)
+
+  pub takes_any_none : (call : Given V (Option ℕ)) (why : Refusal) → call ≡ Err why → TakesAny arena call v v (Err why)
+  takes_any_none call why is = grind (arith, common_steps, leaves_same)
+
+  pub flushes_none : (call : Given V (Unit {0})) (why : Refusal) → call ≡ Err why → Flushes arena call v v (Err why)
+  flushes_none call why is = record { after = sym (ap (value_after v) is); answer = sym (ap answer_of is); others = (leaves_same (arena v) []).others }
+
+  pub leaves_blocks : {X : Type 0} (call : Given V X) (w : V) (result : Result X Refusal) → w ≡ value_after v call → result ≡ answer_of call → arena w ≡ arena v → LeavesBlocks arena call v w result
+  leaves_blocks call w result after answer same = record { after = after; answer = answer; arena_stays = same }
