@@ -1,5 +1,5 @@
 //! The call that says how much memory a pool takes.
-ghost use Rattle.std.specs.Prelude.{◌≡◌, ◌≤◌, IsTrue, None, sum_by};
+ghost use Rattle.std.specs.Prelude.{◌≡◌, ◌^◌, ◌<◌, ◌≤◌, IsTrue, None, sum_by};
 ghost use Rattle.strm_data.specs.Classes.{are_lawful};
 ghost use Rattle.strm_pool.specs.Config.{fault_of};
 ghost use Rattle.strm_c.specs.Codes.{number_returned, value_written};
