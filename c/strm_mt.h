@@ -20,10 +20,10 @@
  * while another thread has it, whatever its deadline.
  *
  * A `deadline` is a time of CLOCK_MONOTONIC. With null a call waits for ever; with zeros it never
- * waits. With another time that has passed it returns at once, but it is a cancellation point, as
- * if it had waited. If a call would have to wait longer, it returns STRM_MT_TIMED_OUT. A tv_nsec
- * below 0 or above 999,999,999 is STRM_BAD_ARGUMENT, even if the call need not wait, but not for a
- * `length` of 0.
+ * waits. With another time that has passed, a call that would have to wait returns at once, but is
+ * a cancellation point, as if it had waited. If a call would have to wait longer, it returns
+ * STRM_MT_TIMED_OUT. A tv_nsec below 0 or above 999,999,999 is STRM_BAD_ARGUMENT, even if the call
+ * need not wait, but not for a `length` of 0.
  *
  * Each unlock serves the calls that wait: it puts, takes or allocates for each that can go on, and
  * then wakes its thread. So at no time while the lock is free does a call wait that could go on.

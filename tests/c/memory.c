@@ -277,18 +277,20 @@ static void find_lines(struct arena *arena)
 	struct strm_msg msg;
 	const uint8_t *bytes;
 	struct setting setting;
-	size_t length, i;
+	size_t classes, length, i;
 
-	fill(&setting, STRM_MOST_CLASSES, 1, 40);
-	setting.config.first_id = 1;
-	ANSWERS(strm_open_with(&pool, &setting.config, &allocator), STRM_OK);
-	for (i = 0; i < STRM_MOST_CLASSES; i += 2)
-		do {
-			ANSWERS(strm_allocb(&pool, setting.classes[i].size, &msg), STRM_OK);
-			ANSWERS(strm_bytes(&pool, msg, 0, &bytes, &length), STRM_OK);
-			CHECK((size_t)bytes % 64 == 0);
-		} while (--setting.classes[i].count > 0);
-	ANSWERS(strm_close(&pool), STRM_OK);
+	for (classes = 1; classes <= STRM_MOST_CLASSES; classes++) {
+		fill(&setting, classes, 1, 40);
+		setting.config.first_id = 1;
+		ANSWERS(strm_open_with(&pool, &setting.config, &allocator), STRM_OK);
+		for (i = 0; i < classes; i += 2)
+			do {
+				ANSWERS(strm_allocb(&pool, setting.classes[i].size, &msg), STRM_OK);
+				ANSWERS(strm_bytes(&pool, msg, 0, &bytes, &length), STRM_OK);
+				CHECK((size_t)bytes % 64 == 0);
+			} while (--setting.classes[i].count > 0);
+		ANSWERS(strm_close(&pool), STRM_OK);
+	}
 }
 
 /* strm_open_with calls the allocator, and strm_close calls it. No other call does, also with names of what is not there. */

@@ -10,7 +10,7 @@ use std::marker::Model;
 use strm_shared::SpentDesks;
 
 /// A reader or a writer. It records whether a call failed, whether a read found the end, and whether a call came after either.
-/// A writer also keeps the spent desks of the workers whose text it got last, and none before. Only its own calls and
+/// A writer also keeps the spent desks of the last run that began to write to it, and none before. Only its own calls and
 /// [`run`](crate::run) change this record.
 #[derive(Drop)]
 pub struct Watched<T> {
