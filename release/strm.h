@@ -93,8 +93,8 @@
  * and _n calls is 0.
  *
  * A call whose name ends in _n makes `length` single calls, or fewer, up to the first that does not
- * return STRM_OK. It returns the code of the first one, or STRM_OK if `length` is 0, whatever the
- * other arguments name. *count is the number of single calls that returned STRM_OK: 0 if the call
+ * return STRM_OK. It returns the code of the first one, or STRM_OK if `length` is 0, whatever queue
+ * and messages it names. *count is the number of single calls that returned STRM_OK: 0 if the call
  * returns another code, even STRM_NOT_OPEN. If *count is below `length` with STRM_OK, the next
  * single call returns the code that ended the series.
  *
@@ -114,7 +114,7 @@
  * returns a name that was given before. So a caller that frees twice, links twice, or uses a
  * message that is on a queue gets STRM_INVALID. Any bits may be passed as a name. Names may be
  * copied, kept, and compared by strm_same_msg. STRM_NO_MSG, all zeros, is the name of no message,
- * and not valid. Its initialiser is STRM_NO_MSG_INIT.
+ * and not valid before stamps begin again. Its initialiser is STRM_NO_MSG_INIT.
  *
  * Two pools opened with the same id, together or one after the other, can't tell their names apart:
  * give different ids to pools whose names can meet.
@@ -179,14 +179,15 @@
  * In a new pool these queues are awake. While they are, no wake-up is lost. strm_serve and
  * strm_hold keep them awake; this is proved. It is tested of strm_putq, strm_putq_n, strm_bcanput,
  * strm_strqset, strm_qenable and strm_enableok, of all calls on a queue without a next queue, and
- * of calls on held messages and on wishes. Other calls can put a queue to sleep. A message there
+ * of calls on held messages and on wishes. These calls can put a queue to sleep. A message there
  * may go on, and strm_serve does not give it:
  *
  *   - strm_next_service takes the queue off the run list.
  *   - strm_getq, strm_getq_n, strm_rmvq, strm_rmvq_msg, strm_takeq, strm_takeq_band, strm_flushq
  *     and strm_flushband take off the message that waits, and leave another one or no mark.
  *   - strm_putbq, strm_insq and strm_insq_at put a message before the one that waits.
- *   - strm_noenable: a message that is put does not enable the queue.
+ *   - strm_noenable: of messages that are put, only one of high priority that strm_putq or
+ *     strm_putbq puts enables the queue.
  *
  * Afterwards call strm_qenable on the queue; while enabling is off, after each message that is put
  * there. That this wakes the queue is tested.
@@ -233,8 +234,8 @@ extern "C" {
 #endif
 
 /* The version of this header, as a text and as a number. */
-#define STRM_VERSION "0.11.0"
-#define STRM_VERSION_NUMBER 11000
+#define STRM_VERSION "0.12.0"
+#define STRM_VERSION_NUMBER 12000
 
 enum {
 	STRM_OK = 0,			/* done */
@@ -297,7 +298,8 @@ enum {
  * Types of data blocks, named as in STREAMS. A message has the type of its first block. For urgent
  * data of your own, take STRM_M_PCPROTO. The pool looks at types for these things only: what high
  * priority does (its place and band on a queue, enabling, strm_serve), what STRM_FLUSHDATA frees,
- * what strm_msgdsize counts, and where strm_adjmsg and strm_pullupmsg stop.
+ * what strm_msgdsize counts, and where strm_adjmsg and strm_pullupmsg stop. And strm_shape_all is
+ * refused if it would change the type of a data block that others use.
  */
 enum {
 	/* ordinary */
@@ -508,7 +510,7 @@ int strm_iov_(const struct strm_pool *pool, struct strm_msg msg, uint32_t from, 
 /*
  * Opens a pool, with all blocks free and all queues empty. It allocates all memory, 68 MB for the
  * largest pool, and copies the configuration. The bytes of each size class begin at a multiple of
- * 64. It uses 11 KB of stack, far more than other calls. The fields `classes` and `queues` may be
+ * 64. It uses at most 11 KB of stack, far more than other calls. The fields `classes` and `queues` may be
  * null if their count is 0. A count of 0 is refused as STRM_BAD_CLASSES or STRM_BAD_QUEUES, a count
  * above its limit as STRM_BAD_ARGUMENT.
  * Refused as STRM_NOT_OPEN for a null handle, STRM_IS_OPEN, STRM_BAD_ARGUMENT, the first fault from
@@ -732,8 +734,8 @@ int strm_place(const struct strm_pool *pool, struct strm_msg msg, uint32_t place
  * rising numbers: number d of strm_place begins at *base + (d - first) * *stride, where `first` is
  * the sum of `count` over smaller classes. They stay there while the pool is open, so register them
  * once, with a device or io_uring. The addresses of strm_bytes, strm_iov, strm_room, strm_edit and
- * strm_window are among them; this is tested, not proved. Returns STRM_NONE if there is no such
- * class. Since 0.4.0.
+ * strm_window are among them, or just after the last one if the length is 0; this is tested, not
+ * proved. Returns STRM_NONE if there is no such class. Since 0.4.0.
  * Not in STREAMS.
  */
 int strm_region(const struct strm_pool *pool, uint32_t place, const uint8_t **base, size_t *size, size_t *stride);
@@ -799,7 +801,9 @@ int strm_prepend(struct strm_pool *pool, struct strm_msg msg, const void *bytes,
  * there already: what was last written there, by this message or a freed one, or zeros. No call
  * clears bytes. So before you free or trim a message with secrets, write zeros over them by
  * strm_overwrite. strm_pullupmsg and strm_transfer leave bytes in the data blocks that they free:
- * duplicate the message before, and afterwards overwrite and free the duplicate.
+ * duplicate the message before, and afterwards overwrite and free the duplicate. After
+ * strm_pullupmsg, overwrite those blocks of the duplicate that share no data block any more. A block
+ * that gave only some of its bytes keeps these.
  * Refused as STRM_NO_SUCH_BLOCK, STRM_SHARED, STRM_NO_ROOM; the first two also for a count of 0.
  * STREAMS: adding to b_wptr.
  */
@@ -1080,7 +1084,8 @@ int strm_putq_n(struct strm_pool *pool, uint32_t queue, const struct strm_msg *m
  * Takes messages off a queue as strm_getq does, and stores their names in the array `msgs` of
  * `length` names. The rest of the array is unchanged. If the queue has fewer than `length`
  * messages, this sets the want-to-read mark, as strm_getq does on an empty queue. If it has exactly
- * `length`, the mark stays off: a service procedure calls again, until *count is below `length`.
+ * `length`, and `length` is not 0, the mark is off afterwards: a service procedure calls again,
+ * until *count is below `length`.
  * With the mark on, a message that strm_putbq puts back enables the queue at once: a service
  * procedure that may put back asks for at most as many as strm_qsize counts.
  * Not in STREAMS.
