@@ -186,8 +186,8 @@
  *   - strm_getq, strm_getq_n, strm_rmvq, strm_rmvq_msg, strm_takeq, strm_takeq_band, strm_flushq
  *     and strm_flushband take off the message that waits, and leave another one or no mark.
  *   - strm_putbq, strm_insq and strm_insq_at put a message before the one that waits.
- *   - strm_noenable: of messages that are put, only one of high priority that strm_putq or
- *     strm_putbq puts enables the queue.
+ *   - strm_noenable: of messages that are put, only one of high priority that strm_putq,
+ *     strm_putq_n or strm_putbq puts, or any that strm_hold puts, enables the queue.
  *
  * Afterwards call strm_qenable on the queue; while enabling is off, after each message that is put
  * there. That this wakes the queue is tested.

@@ -20,8 +20,8 @@
  * while another thread has it, whatever its deadline.
  *
  * A `deadline` is a time of CLOCK_MONOTONIC. With null a call waits for ever; with zeros it never
- * waits. With another time that has passed, a call that would have to wait returns at once, but is
- * a cancellation point, as if it had waited. If a call would have to wait longer, it returns
+ * waits. With another time that has passed, a call that would have to wait returns at once, but may
+ * be a cancellation point, as if it had waited. If a call would have to wait longer, it returns
  * STRM_MT_TIMED_OUT. A tv_nsec below 0 or above 999,999,999 is STRM_BAD_ARGUMENT, even if the call
  * need not wait, but not for a `length` of 0.
  *
@@ -54,9 +54,9 @@
  *   - A thread that holds the lock makes no call of this header but those that unlock.
  *   - A message that a waiting call sends is not put, freed or joined to another by others, and
  *     keeps its type and band. Otherwise its call may wait until those before it went on.
- *   - Threads are cancelled only where that is deferred. Only a call that waits is a cancellation
- *     point. If its thread is cancelled, it holds no lock, no place and no message that it got. A
- *     message that it has not sent stays held: strm_has says so.
+ *   - Threads are cancelled only where that is deferred. Only a call that waits, or finds its
+ *     deadline passed, is a cancellation point. If its thread is cancelled, it holds no lock, no
+ *     place and no message that it got. A message that it has not sent stays held: strm_has says so.
  *   - A signal handler may interrupt a call that waits, which then waits on.
  */
 #ifndef STRM_MT_H
