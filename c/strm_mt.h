@@ -42,7 +42,7 @@
  *
  * A full band has room once it is below its high water mark; the low one plays no part. Each unlock
  * costs some calls of strm.h: for each queue and band at which a call waits, for each call that
- * waits for blocks, unless the call before it wants the same size, and for each descriptor of
+ * waits for blocks, unless the call before it waits for the same size, and for each descriptor of
  * strm_mt_fd. Without these it costs nothing, and a call that need not wait makes no system call,
  * if no other thread has the lock.
  *

@@ -169,8 +169,8 @@ static size_t pieces_bytes(void)
 }
 
 /*
- * Opens, uses and closes a pool whose pieces are watched. Beside them its memory has what the region takes for itself and for so many pieces, and
- * nothing.
+ * Opens, uses and closes a pool whose pieces are watched. Beside the pieces, its memory holds only what the region takes for itself and for that
+ * number of pieces.
  */
 static void open_watched(const struct strm_config *config, struct arena *arena)
 {
